@@ -1,10 +1,10 @@
 -- Small lemmas on tests, numbers and lists, for the proofs of all crates.
-use Rattle.std.proofs.Common.{ℕ, suc, ◌≡◌, ◌+◌, Bool, true, false, not, ◌&&◌, ◌||◌, ◌∙◌, List, [], ◌∷◌, ◌++◌, Option, Some, None, refl, sym, ap, arith, ◌<◌, length, get_or, set, ◌≢◌, ◌-◌, rules, add-one, drop-cons, drop, ◌*◌}
-use Rattle.std.proofs.lemmas.Bool.{eqb-true, eqb-false}
+use Rattle.std.proofs.Common.{ℕ, suc, ◌≡◌, ◌+◌, Bool, true, false, not, ◌&&◌, ◌||◌, ◌∙◌, List, [], ◌∷◌, ◌++◌, Option, Some, None, refl, sym, ap, arith, ◌<◌, length, get_or, set, ◌≢◌, ◌-◌, rules, add-one, drop-cons, drop, ◌*◌, reverse, subst}
+use Rattle.std.proofs.lemmas.Bool.{eqb-true, eqb-false, or_left, or_right}
 use Rattle.std.proofs.lemmas.Bool.Decides.{nat_tests}
-use Rattle.std.proofs.lemmas.List.{get_or-set_same, get_or-set_other, length-append}
+use Rattle.std.proofs.lemmas.List.{get_or-set_same, get_or-set_other, length-append, reverse-append}
 use Rattle.std.specs.List.{AllByRecursion}
-use Rattle.std.specs.Prelude.{if◌then◌else◌, ◌==◌, is_none, nat_lt}
+use Rattle.std.specs.Prelude.{if◌then◌else◌, ◌==◌, is_none, nat_lt, nat_le, ◌||◌}
 
 pub wrong : {A : Type 0} → true ≡ false → A
 wrong e = absurd cc
@@ -65,6 +65,13 @@ pub all_append : {A : Type 0} (P : A → Type 0) (xs ys : List A) → AllByRecur
 all_append P [] ys a b = b
 all_append P (x ∷ xs) ys a b = (a.0, all_append P xs ys a.1 b)
 
+pub all_reverse : {A : Type 0} (P : A → Type 0) (xs : List A) → AllByRecursion P xs → AllByRecursion P (reverse xs)
+all_reverse P [] h = tt
+all_reverse P (x ∷ xs) h = subst (AllByRecursion P) (sym (reverse-append (x ∷ []) xs)) (all_append P (reverse xs) (x ∷ []) (all_reverse P xs h.1) (h.0, tt))
+
+pub all_with : {A : Type 0} (P : A → Type 0) (xs : List A) (x : A) → AllByRecursion P xs → P x → AllByRecursion P (xs ++ x ∷ [])
+all_with P xs x h k = all_append P xs (x ∷ []) h (k, tt)
+
 pub nil_of : (xs : List ℕ) → length xs ≡ 0 → xs ≡ []
 nil_of [] e = refl
 nil_of (x ∷ xs) e = absurd omega (arith, e)
@@ -107,6 +114,9 @@ suc_some n = grind (arith, nat_tests)
 
 pub dropped : {A : Type 0} (i : ℕ) (xs : List A) (d : A) → i < length xs → drop i xs ≡ get_or xs i d ∷ drop (i + 1) xs
 dropped i xs d below = rw (add-one, drop-cons xs i d) refl
+
+pub item_next : {A : Type 0} (i : ℕ) (xs : List A) (x : A) → i < length xs → x ≡ get_or xs i x → drop i xs ≡ x ∷ drop (i + 1) xs
+item_next i xs x below is = dropped i xs x below ∙ ap (λ y. y ∷ drop (i + 1) xs) (sym is)
 
 pub put_at : (had : List Bool) (k t : ℕ) (x : Bool) → t < length had → get_or (set had k x) t false ≡ (if k == t then x else get_or had t false)
 put_at had k t x l = go (k == t) refl
@@ -157,3 +167,45 @@ pub and_more : (x y : Bool) → (x && y) ≡ true → (x && y && true) ≡ true
 and_more true true q = refl
 and_more true false q = q
 and_more false y q = q
+
+pub or_later : (a b c : Bool) → (a || (b || c)) ≡ ((a || b) || c)
+or_later true b c = refl
+or_later false b c = refl
+
+pub either_stays : (a b c d : Bool) → (a ≡ true → c ≡ true) → (b ≡ true → d ≡ true) → (a || b) ≡ true → (c || d) ≡ true
+either_stays true b c d f g e = or_left c d (f refl)
+either_stays false b c d f g e = or_right c d (g e)
+
+pub none_between : (a b : Bool) → (a && false && b) ≡ false
+none_between true b = refl
+none_between false b = refl
+
+pub true_by_test : (r t : Bool) → t ≡ true → (if r then true else t) ≡ true
+true_by_test true t e = refl
+true_by_test false t e = e
+
+pub not_later : (time : ℕ) → nat_le time time ≡ true
+not_later time = grind (arith, nat_tests)
+
+pub middle : (a b c : Bool) → (a && b && c) ≡ true → b ≡ true
+middle true true true h = refl
+middle true true false h = cc
+middle true false c h = cc
+middle false b c h = cc
+
+pub second_false : (a x y b : Bool) → x ≡ false → (a && x && y && b) ≡ false
+second_false true true y b e = wrong e
+second_false true false y b e = refl
+second_false false x y b e = refl
+
+pub not_first : (a b : Bool) → (not a && b) ≡ true → a ≡ false
+not_first true b e = wrong' e
+not_first false b e = refl
+
+pub or_none_first : (x y : Bool) → (x || y) ≡ false → x ≡ false
+or_none_first true y h = h
+or_none_first false y h = refl
+
+pub or_none_second : (x y : Bool) → (x || y) ≡ false → y ≡ false
+or_none_second true y h = cc
+or_none_second false y h = h

@@ -1,37 +1,31 @@
 -- What a device calls for is an item of the scenario, after any rows.
-use Rattle.std.proofs.Common.{ℕ, zero, suc, ◌≡◌, ◌+◌, Bool, true, false, not, ◌&&◌, ◌∙◌, List, [], ◌∷◌, ◌++◌, Option, Some, None, refl, sym, ap, subst, arith}
+use Rattle.std.proofs.Common.{ℕ, zero, suc, ◌≡◌, ◌+◌, Bool, true, false, not, ◌&&◌, ◌∙◌, List, [], ◌∷◌, Option, Some, None, refl, sym, ap, subst, arith}
 use Rattle.std.specs.Prelude.{if◌then◌else◌, ◌==◌, nat_le, slice_set, is_some, is_none}
-use Rattle.std.specs.List.{list_any}
-use Rattle.bus_base.specs.declared.ProcId.{ProcId}
-use Rattle.bus_base.specs.declared.Event.{Event}
-use Rattle.bus_base.specs.declared.Event.TheVariants as events
 use Rattle.bus_trace.specs.declared.Row.{Row}
 use Rattle.bus_trace.specs.declared.Kind.{Kind}
 use Rattle.bus_trace.specs.declared.Kind.TheVariants.{Drives, Fault}
 use Rattle.bus_trace.specs.declared.connection.Connection.{Connection}
-use Rattle.bus_trace.specs.declared.selection.Call.{Call}
-use Rattle.bus_trace.specs.declared.selection.Calling.{Calling}
 use Rattle.bus_trace.specs.Changes.{falls}
 use Rattle.msg_grammar.specs.declared.message.MsgOut.{MsgOut}
 use Rattle.msg_grammar.specs.declared.message.MsgIn.{MsgIn}
-use Rattle.cdb_codec.specs.declared.status.TheConstants.{CHECK_CONDITION}
 use Rattle.scenario.specs.declared.value.CmdDef.{CmdDef}
 use Rattle.scenario.specs.declared.value.AbortDef.{AbortDef}
 use Rattle.scenario.specs.Value.{ScenarioValue}
 use Rattle.disk_array.specs.Processes.{process_if, process_by, command_at}
+use Rattle.disk_array.specs.Seats.{is_initiator}
 use Rattle.bus_story.specs.BusState.{RowReading, row_reading}
 use Rattle.bus_story.specs.CarriedBytes.{CarriedBytes}
-use Rattle.bus_story.specs.Items.{Item, process, abort, command_item, sense_item, Sent, is_done, is_open, abort_from, is_of_host, sense_from, may_send, open_from, command_from, or_else, item_at}
-use Rattle.bus_story.specs.Links.{Link, link_of, link_after_name}
+use Rattle.bus_story.specs.Items.{Item, abort, command_item, sense_item, Sent, is_done, abort_from, is_of_host, sense_from, may_send, open_from, command_from, or_else, item_at}
+use Rattle.bus_story.specs.Links.{Link, link_after_name}
 use Rattle.bus_story.specs.HistoryEvents.{abort_line_at, carried_if, row_events_by}
-use Rattle.bus_story.specs.Story.{Story, empty_story, Ending, by_abort, by_reset, is_aborted, is_sense_stopped, story_with_ends, story_with_end, story_with_over, story_after_event, story_after_events, with_check}
-use Rattle.bus_story.specs.TraceHistory.{is_host, aim_of, is_arbitration_entry, story_with_aim, story_without_answer, story_with_try, story_after_calling_by, story_after_calling, story_on_free_bus, story_with_restored, story_with_sent, story_after_connection, story_with_carried, story_after_out, story_after_in, story_after_byte, story_after_fault, story_in_connection, story_on_bus, story_by_change, is_parity_error, carried_after_byte_if, carried_after_fault_if}
+use Rattle.bus_story.specs.Story.{Story, empty_story}
+use Rattle.bus_story.specs.TraceHistory.{aim_of, is_arbitration_entry, story_with_aim, story_after_calling, story_on_free_bus, story_with_restored, story_after_connection, story_with_carried, story_after_out, story_after_in, story_after_byte, story_after_fault, story_in_connection, story_on_bus, story_by_change, is_parity_error, carried_after_byte_if, carried_after_fault_if}
 use Rattle.bus_due.specs.RunState.{RunState}
 use Rattle.bus_due.specs.RunSteps.{run_state, run_state_after}
 use Rattle.bus_books.specs.Items.{IsItem, is_process, is_abort, AimsAreItems}
 use Rattle.std.proofs.lemmas.Bool.{eqb-true}
 use Rattle.bus_base.proofs.Tests.{and_first}
-use Rattle.bus_story.proofs.StorySteps.{restored_aims, sent_aims}
+use Rattle.bus_story.proofs.StorySteps.{restored_aims, events_aims, calling_aims, begun_aims}
 
 -- ---- what an initiator sends next is of the scenario
 
@@ -116,41 +110,6 @@ sent_next_is s b dev time =
 
 -- ---- aims change as a device enters arbitration, and else never
 
-pub ends_aims : (drops stops : CmdDef → Bool) (e : Ending) (n : ℕ) (commands : List CmdDef) (b : Story) → (story_with_ends drops stops e n commands b).aims ≡ b.aims
-ends_aims drops stops e n [] b = refl
-ends_aims drops stops e n (c ∷ commands) b =
-    ends_aims drops stops e (n + 1) commands
-    (if is_open b.sent n && drops c then story_with_end b (record { command = n; sense = false }) e
-    else if stops c && list_any (λ k. k == n) b.sent.checks then story_with_over b (sense_item n)
-    else b)
-    ∙ go (is_open b.sent n && drops c) (stops c && list_any (λ k. k == n) b.sent.checks)
-  where
-    go : (q r : Bool) → (if q then story_with_end b (record { command = n; sense = false }) e else if r then story_with_over b (sense_item n) else b).aims ≡ b.aims
-    go true r = refl
-    go false true = refl
-    go false false = refl
-
-pub check_aims : (b : Story) (id : ProcId) (status : ℕ) → (with_check b id status).aims ≡ b.aims
-check_aims b id status = go (not id.sense && status == CHECK_CONDITION)
-  where
-    go : (q : Bool) → (if q then record b { sent = record b.sent { checks = b.sent.checks ++ id.command ∷ [] } } else b).aims ≡ b.aims
-    go true = refl
-    go false = refl
-
-pub event_aims : (s : ScenarioValue) (b : Story) (event : Event) → (story_after_event s b event).aims ≡ b.aims
-event_aims s b (events.Accept id) = refl
-event_aims s b (events.Refuse id) = refl
-event_aims s b (events.Run id) = refl
-event_aims s b (events.Fail id code) = refl
-event_aims s b (events.End id status) = check_aims (story_with_end b id _) id status
-event_aims s b (events.Lost id) = refl
-event_aims s b (events.Aborted host target unit what) = ends_aims (is_aborted host target unit what) (is_sense_stopped host target unit what) by_abort 1 s.commands b
-event_aims s b (events.Reset dev) = ends_aims (λ c. true) (λ c. true) by_reset 1 s.commands b
-
-pub events_aims : (s : ScenarioValue) (b : Story) (shown : List Event) → (story_after_events s b shown).aims ≡ b.aims
-events_aims s b [] = refl
-events_aims s b (event ∷ shown) = event_aims s (story_after_events s b shown) event ∙ events_aims s b shown
-
 abbrev AreItems : ScenarioValue → List (Option Item) → Type 0
 AreItems s aims = (dev : ℕ) (item : Item) → aim_of aims dev ≡ Some item → IsItem s dev item
 
@@ -172,7 +131,7 @@ with_item s from (a ∷ all) (suc at) x g h (suc dev) item e =
 
 aimed : (s : ScenarioValue) (b : Story) (row : Row) → AreItems s b.aims → AreItems s (story_with_aim s b row).aims
 aimed s b row h = λ dev item e. subst (λ (n : ℕ). IsItem s n item) (none_more dev)
-    (with_item s 0 b.aims row.dev (if is_host s.hosts row.dev then item_at s b.sent row.dev row.time else None) (subst (λ (n : ℕ). IsItemIf s n (if is_host s.hosts row.dev then item_at s b.sent row.dev row.time else None)) (sym (none_more row.dev)) (own (is_host s.hosts row.dev))) (λ d i f. subst (λ (n : ℕ). IsItem s n i) (sym (none_more d)) (h d i f)) dev item e)
+    (with_item s 0 b.aims row.dev (if is_initiator s.hosts row.dev then item_at s b.sent row.dev row.time else None) (subst (λ (n : ℕ). IsItemIf s n (if is_initiator s.hosts row.dev then item_at s b.sent row.dev row.time else None)) (sym (none_more row.dev)) (own (is_initiator s.hosts row.dev))) (λ d i f. subst (λ (n : ℕ). IsItem s n i) (sym (none_more d)) (h d i f)) dev item e)
   where
     none_more : (m : ℕ) → 0 + m ≡ m
     none_more m = omega arith
@@ -181,27 +140,6 @@ aimed s b row h = λ dev item e. subst (λ (n : ℕ). IsItem s n item) (none_mor
     own true = sent_next_is s b.sent row.dev row.time
     own false = tt
 
-pub try_aims : (s : ScenarioValue) (b : Story) (dev : ℕ) (item : Option Item) → (story_with_try s b dev item).aims ≡ b.aims
-try_aims s b dev None = refl
-try_aims s b dev (Some item) = go _ item
-  where
-    go : (q : Bool) (i : Item) → (if q then story_without_answer (record b { sent = record b.sent { tries = item ∷ b.sent.tries } }) i else record b { sent = record b.sent { tries = item ∷ b.sent.tries } }).aims ≡ b.aims
-    go true (process id) = refl
-    go true (abort k) = refl
-    go false i = refl
-
-pub calling_aims : (s : ScenarioValue) (b : Story) (call : Option Call) → (story_after_calling s b call).aims ≡ b.aims
-calling_aims s b None = refl
-calling_aims s b (Some k) = by k.calling
-  where
-    by : (g : Option Calling) → (story_after_calling_by s b k.caller g).aims ≡ b.aims
-    by None = refl
-    by (Some g) = go (is_none g.answered && not g.reselects)
-      where
-        go : (q : Bool) → (if q then story_with_try s b k.caller (aim_of b.aims k.caller) else b).aims ≡ b.aims
-        go true = try_aims s b k.caller (aim_of b.aims k.caller)
-        go false = refl
-
 free_aims : (s : ScenarioValue) (b : Story) (d : RowReading) (row : Row) → AreItems s b.aims → AreItems s (story_on_free_bus s b d row).aims
 free_aims s b d row h = go (is_arbitration_entry b d) (falls d.change.before.sel d.change.after.sel)
   where
@@ -209,13 +147,6 @@ free_aims s b d row h = go (is_arbitration_entry b d) (falls d.change.before.sel
     go true r = aimed s b row h
     go false true = items_as s (story_after_calling s b b.bus_state.call).aims b.aims (calling_aims s b b.bus_state.call) h
     go false false = h
-
-pub begun_aims : (b : Story) (n : Connection) → (story_after_connection b n).aims ≡ b.aims
-begun_aims b n = go n.reselected (aim_of b.aims n.initiator)
-  where
-    go : (q : Bool) (item : Option Item) → (if q then record b { link = Some (link_of n None) } else story_with_restored (story_with_sent (record b { link = Some (link_of n item) }) item) item).aims ≡ b.aims
-    go true item = refl
-    go false item = restored_aims _ item ∙ sent_aims _ item
 
 pub carried_aims : (b : Story) (c : Option CarriedBytes) → (story_with_carried b c).aims ≡ b.aims
 carried_aims b None = refl

@@ -5,10 +5,10 @@ use Rattle.scenario.specs.Value.{ScenarioValue}
 use Rattle.disk_array.specs.Processes.{Process, process_of}
 use Rattle.bus_story.specs.Items.{Item, process, abort}
 use Rattle.bus_story.specs.Right.{same_bytes}
+use Rattle.bus_story.proofs.CarriedLists.{carried_id}
 use Rattle.bus_due.specs.Faithful.{is_block_of_process}
 use Rattle.bus_due.specs.RunState.{RunState, process_item, process_served, carried_here}
 use Rattle.bus_books.specs.Carrying.{AllCarryOwn, CarriesOwn}
-use Rattle.bus_books.proofs.Lookups.{carried_id}
 use Rattle.bus_books.proofs.Blocks.{follows_block, block_is_all, same_self}
 use Rattle.bus_books.proofs.CarriedRows.{process_id, process_none}
 

@@ -9,10 +9,10 @@ use Rattle.bus_story.specs.BusState.{RowReading, row_reading}
 use Rattle.bus_story.specs.CarriedBytes.{carried_of}
 use Rattle.bus_story.specs.Items.{process}
 use Rattle.bus_story.specs.Links.{Link}
+use Rattle.bus_story.proofs.CarriedLists.{carried_id}
 use Rattle.bus_due.specs.RunState.{RunState, item_of, process_item, process_here}
 use Rattle.bus_due.specs.RunSteps.{run_state, run_state_after}
 use Rattle.bus_books.specs.Carrying.{IsOwn, AllCarryOwn, SendsNext, SendsOwn, AllSendOwn}
-use Rattle.bus_books.proofs.Lookups.{carried_id}
 use Rattle.bus_books.proofs.Carried.{restored_own, refused_own, shown_own, fault_own, message_own, IsNext, byte_own, nothing_own}
 use Rattle.bus_books.proofs.CarriedSteps.{IsKept, no_link, row_carried}
 pub use Rattle.disk_array.proofs.SoundArrays.{id_is as process_id}

@@ -28,8 +28,8 @@ use Rattle.bus_story.specs.Story.{Story, by_abort, by_reset, is_aborted, is_sens
 use Rattle.bus_story.specs.TraceHistory.{aim_of, is_arbitration_entry, story_with_aim, story_without_answer, story_with_try, story_after_calling_by, story_after_calling, story_on_free_bus, story_with_restored, story_with_sent, story_after_connection, story_with_carried, is_parity_error, story_after_out, carried_after_message_if, story_after_message, story_after_in, carried_after_byte_if, story_after_byte, carried_after_fault_if, story_after_fault, story_in_connection, story_on_bus, story_by_change}
 use Rattle.bus_due.specs.RunState.{RunState}
 use Rattle.bus_due.specs.RunSteps.{run_state_after}
-use Rattle.bus_books.proofs.Lookups.{put_there}
 use Rattle.bus_story.proofs.StorySteps.{ends_keep, check_keeps}
+use Rattle.bus_story.proofs.CarriedLists.{carried_with}
 
 -- Pointers, messages, marks and faults keep it.
 pub record IsKept (q : CarriedBytes → Type 0) : Type 0 where
@@ -51,7 +51,7 @@ pub record IsCarried (q : CarriedBytes → Type 0) (b : Story) : Type 0 where
 
 with_each : (q : CarriedBytes → Type 0) (all : List CarriedBytes) (c : CarriedBytes) → ((id : ProcId) → q (carried_of all id)) → q c → (id : ProcId)
     → q (carried_of (with_carried all c) id)
-with_each q all c h own id = subst q (sym (put_there all c id)) (go (same_id c.id id))
+with_each q all c h own id = subst q (sym (carried_with all c id)) (go (same_id c.id id))
   where
     go : (r : Bool) → q (if r then c else carried_of all id)
     go true = own

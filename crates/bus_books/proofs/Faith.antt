@@ -20,6 +20,7 @@ use Rattle.bus_due.specs.Faithful.{same_process, is_known_process, is_true_leavi
 use Rattle.bus_due.specs.RunState.{RunState, bus_of, item_of, process_item, process_here, process_served, carried_here}
 use Rattle.bus_due.specs.Tasks.{task_of}
 use Rattle.scsi_device.specs.Lines.{AreUnits}
+use Rattle.scsi_device.specs.Writes.{is_data_out}
 use Rattle.bus_books.specs.Carrying.{AllCarryOwn, SendsOwn}
 use Rattle.bus_books.specs.Hearing.{is_in_phase, is_out_phase, HasPhase, LeavesWhole, MovesRuns}
 use Rattle.bus_books.specs.Knowing.{Knows}
@@ -42,10 +43,6 @@ out_lines b e h = go b.msg b.cd b.io (ap is_out_phase e) h
     go false true false z g = z
     go false false true z g = z
     go false false false z g = z
-
-abbrev pub is_data_out : Phase → Bool
-is_data_out phases.DataOut = true
-is_data_out _ = false
 
 data_lines : (b : LineSet) → phase_of b ≡ phases.DataOut → is_data b ≡ true
 data_lines b e = go b.msg b.cd b.io (ap is_data_out e)

@@ -26,6 +26,7 @@ use Rattle.bus_due.specs.RunState.{RunState, bus_of}
 use Rattle.bus_due.specs.RunSteps.{run_state_after, first_exchange, exchange_after, messages_if, may_negotiate, leaving_of}
 use Rattle.bus_due.specs.Sights.{hearing_of, leaving}
 use Rattle.bus_due.specs.Wants.{ready_of}
+use Rattle.bus_due.proofs.Stills.{still_talk}
 use Rattle.scsi_device.specs.Lines.{AreUnits}
 use Rattle.bus_books.specs.FirstBytes.{IsUnopened, before_all, in_opening, in_names, OpensBy, Opens}
 use Rattle.bus_books.specs.Hearing.{LeavesWhole}
@@ -34,9 +35,10 @@ use Rattle.bus_books.specs.Rows.{RowKind, still, strikes, crosses, turns, readin
 use Rattle.bus_books.specs.Traces.{Begins, GoesOn}
 use Rattle.bus_books.proofs.FirstWords.{opening_is}
 use Rattle.bus_books.proofs.Given.{first_requests}
-use Rattle.bus_books.proofs.Gives.{requests_stay, struck_same, in_io, in_same}
-use Rattle.bus_books.proofs.InConnection.{exchange_by, dialogue_by, InConnection, in_connection, SamePhase, same_phase_is}
-use Rattle.bus_books.proofs.Reactions.{in_phase, out_phase}
+use Rattle.bus_books.proofs.Gives.{requests_stay, in_io, in_same}
+use Rattle.bus_lines.proofs.Early.{struck_same}
+use Rattle.bus_books.proofs.InConnection.{dialogue_by, InConnection, in_connection, SamePhase, same_phase_is}
+use Rattle.scsi_device.proofs.PhaseLines.{in_phase, out_phase}
 use Rattle.bus_books.proofs.Speaks.{out_same}
 
 -- ---- what is kept is known otherwise
@@ -103,7 +105,7 @@ opens_struck n x d h b false g z = go (g z)
 
 -- A phase is left after a byte at least; the first one is that of the opening.
 opens_turn : (s : ScenarioValue) (k : RunState) (n : Connection) (c : Change) (w : Hearing) (l : Leaving) (h' : Handshakes) → w.begun ≡ k.exchange.begun → w.change ≡ c → LeavesWhole s k n → (k.exchange.begun ≡ false → is_message_out c.after ≡ true) → Opens k n
-    → OpensBy n (exchange_by true false false (host_of s n.initiator) w l k.exchange) (phase_begins k.story.bus_state.dialogue) h' c.after
+    → OpensBy n (still_talk true false false (host_of s n.initiator) w l k.exchange) (phase_begins k.story.bus_state.dialogue) h' c.after
 opens_turn s k n c w l h' ew ec leaves first g z = go (g z)
   where
     by : (q r : Bool) → r ≡ false → (if q && r then speech_of k.exchange.speech (words_after (host_of s n.initiator) w k.exchange.speech.asked) else record k.exchange.speech { place = 0 }) ≡ record k.exchange.speech { place = 0 }
@@ -111,12 +113,12 @@ opens_turn s k n c w l h' ew ec leaves first g z = go (g z)
     by true false e = refl
     by false r e = refl
 
-    still_spoken : k.exchange.begun ≡ false → (exchange_by true false false (host_of s n.initiator) w l k.exchange).speech ≡ record k.exchange.speech { place = 0 }
+    still_spoken : k.exchange.begun ≡ false → (still_talk true false false (host_of s n.initiator) w l k.exchange).speech ≡ record k.exchange.speech { place = 0 }
     still_spoken b = by (is_message_out w.change.after) w.begun (ew ∙ b)
 
-    go : IsUnopened n k.exchange k.story.bus_state.dialogue k.handshakes (bus_of k) → IsUnopened n (exchange_by true false false (host_of s n.initiator) w l k.exchange) (phase_begins k.story.bus_state.dialogue) h' c.after
+    go : IsUnopened n k.exchange k.story.bus_state.dialogue k.handshakes (bus_of k) → IsUnopened n (still_talk true false false (host_of s n.initiator) w l k.exchange) (phase_begins k.story.bus_state.dialogue) h' c.after
     go (before_all r b o) =
-        let spoken : (exchange_by true false false (host_of s n.initiator) w l k.exchange).speech ≡ record k.exchange.speech { place = 0 } = still_spoken b in
+        let spoken : (still_talk true false false (host_of s n.initiator) w l k.exchange).speech ≡ record k.exchange.speech { place = 0 } = still_spoken b in
         in_opening r refl (first b) (ap (λ (v : Speech). v.place) spoken) refl (record { first = o.first; rest = o.rest; words_are = ap (λ (v : Speech). v.words) spoken ∙ o.words_are; opens = o.opens })
     go (in_opening r b p q last o) = absurd (true≢false (sym (leaves.out (out_phase (bus_of k) p)) ∙ last))
     go (in_names r b p q lun m lt) = absurd (true≢false (sym (ap (λ (v : ℕ). v == 0) q) ∙ leaves.some (in_phase (bus_of k) p)))
@@ -128,10 +130,10 @@ opens_on s k row n c g h = go g.row_is.kind
     was = subst (λ (z : LineSet). OpensBy n k.exchange k.story.bus_state.dialogue k.handshakes z) g.row_is.bus_is h
 
     to : (phase now fault : Bool) → InConnection s k row n c phase now fault
-        → OpensBy n (exchange_by phase now fault (host_of s n.initiator) (hearing_of k row (reading_in k.story.bus_state n c now)) (leaving s k n.target) k.exchange) (dialogue_by phase now c k.story.bus_state.dialogue) (run_state_after s k row).handshakes c.after
+        → OpensBy n (still_talk phase now fault (host_of s n.initiator) (hearing_of k row (reading_in k.story.bus_state n c now)) (leaving s k n.target) k.exchange) (dialogue_by phase now c k.story.bus_state.dialogue) (run_state_after s k row).handshakes c.after
         → Opens (run_state_after s k row) n
     to phase now fault i =
-        opens_as n (run_state_after s k row).exchange (exchange_by phase now fault (host_of s n.initiator) (hearing_of k row (reading_in k.story.bus_state n c now)) (leaving s k n.target) k.exchange)
+        opens_as n (run_state_after s k row).exchange (still_talk phase now fault (host_of s n.initiator) (hearing_of k row (reading_in k.story.bus_state n c now)) (leaving s k n.target) k.exchange)
         (run_state_after s k row).story.bus_state.dialogue (dialogue_by phase now c k.story.bus_state.dialogue) (run_state_after s k row).handshakes (bus_of (run_state_after s k row)) c.after i.exchange_is i.dialogue_is i.bus_is
 
     none_crosses : receiver_in n c ≡ None → is_some (receiver_in n c) ≡ false

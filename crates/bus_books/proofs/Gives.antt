@@ -10,7 +10,7 @@ use Rattle.bus_trace.specs.declared.connection.Connection.{Connection}
 use Rattle.bus_trace.specs.Changes.{rises}
 use Rattle.bus_trace.specs.Terms.{receiver_in}
 use Rattle.bus_trace.specs.Phases.{changes_phase, is_message_out, is_message_in}
-use Rattle.bus_lines.specs.Handshakes.{Handshakes, no_handshakes, handshakes_on, handshakes_after, asked_if, answered_if, strikes_if}
+use Rattle.bus_lines.specs.Handshakes.{Handshakes, no_handshakes, handshakes_on, handshakes_after, asked_if, answered_if}
 use Rattle.bus_phases.specs.declared.dialogue.Dialogue.{Dialogue}
 use Rattle.bus_phases.specs.Dialogue.{byte_out, byte_in, byte_else, byte_crosses, phase_begins}
 use Rattle.bus_phases.specs.Half.{left_of}
@@ -30,14 +30,16 @@ use Rattle.bus_due.specs.RunState.{RunState, bus_of}
 use Rattle.bus_due.specs.Defs.{host_of}
 use Rattle.bus_due.specs.Sights.{hearing_of, leaving, serving_of}
 use Rattle.bus_due.specs.RunSteps.{run_state_after}
+use Rattle.bus_due.proofs.Stills.{still_talk}
 use Rattle.bus_books.specs.Listening.{half_after}
 use Rattle.bus_books.specs.Giving.{AreGiven, OnMessages, GivesBy, Gives, GivesNext}
 use Rattle.bus_books.specs.Rows.{RowKind, still, strikes, crosses, turns, IsRowIn, reading_in}
 use Rattle.bus_books.proofs.Lists.{word_at}
 use Rattle.bus_books.proofs.Areas.{split_at}
-use Rattle.bus_books.proofs.InConnection.{exchange_by, dialogue_by, InConnection, in_connection, SamePhase, same_phase_is}
+use Rattle.bus_books.proofs.InConnection.{dialogue_by, InConnection, in_connection, SamePhase, same_phase_is}
 use Rattle.bus_books.proofs.Leavings.{IsOfOthers, left_messages}
 use Rattle.bus_base.proofs.Tests.{and_second, rises_none, rises_some, wrong}
+use Rattle.bus_lines.proofs.Early.{struck_same}
 
 -- ---- bytes
 
@@ -99,10 +101,6 @@ pub requests_rise : (n : Connection) (c : Change) (t dev : ℕ) (h : Handshakes)
 requests_rise n c t dev h ep io er =
     (λ i. (if ep i then no_handshakes else answered_if (rises c.before.ack c.after.ack) t (asked_if (rises_some c.before.io (rises c.before.req c.after.req) n.initiator dev (if rises c.before.ack c.after.ack then Some n.target else None) io er i) t h)).requests)
     ∙ answered_same (rises c.before.ack c.after.ack) t (asked_if true t h)
-
-pub struck_same : (q : Bool) (h : Handshakes) → (strikes_if q h).requests ≡ h.requests
-struck_same true h = refl
-struck_same false h = refl
 
 -- ---- what is kept is known otherwise
 
@@ -180,7 +178,7 @@ from_fit m n h = go (nat_lt n (length (message_bytes m.first)))
 others_fit : IsOfOthers FitsIn
 others_fit = record { complete = tt; save = tt; restore = tt; disconnect = tt; sdtr = λ a. tt; reject = tt }
 
-gives_turn : (x : Exchange) (w : Hearing) (l : Leaving) (h : Option HostDef) (now fault : Bool) (d : Dialogue) (y : Handshakes) → OnMessages FitsIn x.plan.messages → OnMessages FitsIn l.messages → y.requests ≡ 0 → GivesBy (exchange_by true now fault h w l x) (phase_begins d) y w.change.after
+gives_turn : (x : Exchange) (w : Hearing) (l : Leaving) (h : Option HostDef) (now fault : Bool) (d : Dialogue) (y : Handshakes) → OnMessages FitsIn x.plan.messages → OnMessages FitsIn l.messages → y.requests ≡ 0 → GivesBy (still_talk true now fault h w l x) (phase_begins d) y w.change.after
 gives_turn x w l h now fault d y was next zero = record {
   fit = go (is_message_out w.change.after) w.begun;
   in_message_in = λ f i. record { before = []; rest = bytes_of_messages (plan_in_phase w l x.plan).messages; bytes_are = refl; count_is = zero; half_is = refl };
@@ -202,10 +200,10 @@ gives_on s k row n c r next g = go r.kind
     was = subst (λ (z : LineSet). GivesBy k.exchange k.story.bus_state.dialogue k.handshakes z) r.bus_is g
 
     to : (phase now fault : Bool) → InConnection s k row n c phase now fault
-        → GivesBy (exchange_by phase now fault (host_of s n.initiator) (hearing_of k row (reading_in k.story.bus_state n c now)) (leaving s k n.target) k.exchange) (dialogue_by phase now c k.story.bus_state.dialogue) (run_state_after s k row).handshakes c.after
+        → GivesBy (still_talk phase now fault (host_of s n.initiator) (hearing_of k row (reading_in k.story.bus_state n c now)) (leaving s k n.target) k.exchange) (dialogue_by phase now c k.story.bus_state.dialogue) (run_state_after s k row).handshakes c.after
         → Gives (run_state_after s k row)
     to phase now fault i =
-        gives_as (run_state_after s k row).exchange (exchange_by phase now fault (host_of s n.initiator) (hearing_of k row (reading_in k.story.bus_state n c now)) (leaving s k n.target) k.exchange)
+        gives_as (run_state_after s k row).exchange (still_talk phase now fault (host_of s n.initiator) (hearing_of k row (reading_in k.story.bus_state n c now)) (leaving s k n.target) k.exchange)
         (run_state_after s k row).story.bus_state.dialogue (dialogue_by phase now c k.story.bus_state.dialogue) (run_state_after s k row).handshakes (bus_of (run_state_after s k row)) c.after i.exchange_is i.dialogue_is i.bus_is
 
     none_crosses : receiver_in n c ≡ None → is_some (receiver_in n c) ≡ false
@@ -226,9 +224,9 @@ gives_on s k row n c r next g = go r.kind
     go (crosses dev ef ep er) =
         let i = in_connection s k row n c false true false r ep (ap (λ (z : Option ℕ). is_some z) er) ef in
         to false true false i
-        (subst (λ (z : Handshakes). GivesBy (exchange_by false true false (host_of s n.initiator) (hearing_of k row (reading_in k.story.bus_state n c true)) (leaving s k n.target) k.exchange) (byte_crosses k.story.bus_state.dialogue c) z c.after)
+        (subst (λ (z : Handshakes). GivesBy (still_talk false true false (host_of s n.initiator) (hearing_of k row (reading_in k.story.bus_state n c true)) (leaving s k n.target) k.exchange) (byte_crosses k.story.bus_state.dialogue c) z c.after)
         (sym (i.handshakes_is ∙ ap (λ (q : Bool). handshakes_after q (Some n) c row.time k.handshakes) ef))
-        (gives_byte k n c dev (exchange_by false true false (host_of s n.initiator) (hearing_of k row (reading_in k.story.bus_state n c true)) (leaving s k n.target) k.exchange) row.time refl
+        (gives_byte k n c dev (still_talk false true false (host_of s n.initiator) (hearing_of k row (reading_in k.story.bus_state n c true)) (leaving s k n.target) k.exchange) row.time refl
         (byte_messages (is_message_out c.before) k.story.bus_state.dialogue.is_last (hearing_of k row (reading_in k.story.bus_state n c true)).out k.exchange.plan) ep er next was))
     go (turns ef ep er) =
         let i = in_connection s k row n c true false false r ep (none_crosses er) ef in

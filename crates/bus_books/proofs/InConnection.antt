@@ -1,5 +1,5 @@
 -- A row in a connection that stands before and after it: what it makes of what is kept.
-use Rattle.std.proofs.Common.{◌≡◌, Bool, true, false, not, ◌&&◌, ◌||◌, ◌∙◌, Option, Some, None, refl, sym, ap, true≢false}
+use Rattle.std.proofs.Common.{◌≡◌, Bool, true, false, not, ◌&&◌, ◌∙◌, Some, None, refl, sym, ap, true≢false}
 use Rattle.std.specs.Prelude.{if◌then◌else◌, is_some}
 use Rattle.bus_trace.specs.LineSet.{LineSet, same}
 use Rattle.bus_trace.specs.declared.Row.{Row}
@@ -10,20 +10,15 @@ use Rattle.bus_trace.specs.Terms.{is_fault, connection_after, receiver_in, recei
 use Rattle.bus_trace.specs.Phases.{changes_phase}
 use Rattle.bus_phases.specs.declared.dialogue.Dialogue.{Dialogue}
 use Rattle.bus_phases.specs.Dialogue.{dialogue_after, byte_crosses, phase_begins}
-use Rattle.scenario.specs.declared.value.HostDef.{HostDef}
 use Rattle.scenario.specs.Value.{ScenarioValue}
 use Rattle.bus_story.specs.PairAgreements.{agreement_in}
 use Rattle.bus_story.specs.BusState.{row_reading, message_out, message_in}
-use Rattle.bus_dialogue.specs.declared.exchange.Hearing.{Hearing}
-use Rattle.bus_dialogue.specs.declared.exchange.Leaving.{Leaving}
-use Rattle.bus_dialogue.specs.Exchange.{Exchange, struck_plan}
-use Rattle.bus_dialogue.specs.Speaking.{speech_in_phase, speech_with_byte}
-use Rattle.bus_dialogue.specs.Planning.{plan_in_phase, plan_with_byte}
 use Rattle.bus_lines.specs.Handshakes.{handshakes_after}
 use Rattle.bus_due.specs.RunState.{RunState}
 use Rattle.bus_due.specs.Defs.{host_of}
 use Rattle.bus_due.specs.Sights.{hearing_of, leaving}
 use Rattle.bus_due.specs.RunSteps.{run_state_after, exchange_after, served_after, leaving_of}
+use Rattle.bus_due.proofs.Stills.{still_talk}
 use Rattle.bus_books.specs.Rows.{IsRowIn, reading_in}
 use Rattle.std.proofs.lemmas.Bool.{not-false, and_parts}
 
@@ -34,19 +29,11 @@ reading_is k row n c q h e =
     let now : (row_reading w row).crosses ≡ q = (λ i. is_some (receiver_of (h.connection_is i) (h.change_is i))) ∙ e in
     λ i. record { change = h.change_is i; next = next i; crosses = now i; out = message_out w.dialogue (h.change_is i) (now i); into = message_in w.dialogue (h.change_is i) (now i) }
 
--- Of the two ends: what was said, heard and served.
-abbrev pub exchange_by : Bool → Bool → Bool → Option HostDef → Hearing → Leaving → Exchange → Exchange
-exchange_by phase now fault h w l x = record {
-  begun = phase || x.begun;
-  speech = if phase then speech_in_phase h w x.speech else if now then speech_with_byte w x.speech else x.speech;
-  plan = if phase then plan_in_phase w l x.plan else if now then plan_with_byte w x.plan else if fault && not w.change.before.io then struck_plan x.plan else x.plan;
-}
-
 abbrev pub dialogue_by : Bool → Bool → Change → Dialogue → Dialogue
 dialogue_by phase now c d = if now then byte_crosses d c else if phase then phase_begins d else d
 
 pub record InConnection (s : ScenarioValue) (k : RunState) (row : Row) (n : Connection) (c : Change) (phase now fault : Bool) : Type 0 where
-  pub exchange_is : (run_state_after s k row).exchange ≡ exchange_by phase now fault (host_of s n.initiator) (hearing_of k row (reading_in k.story.bus_state n c now)) (leaving s k n.target) k.exchange
+  pub exchange_is : (run_state_after s k row).exchange ≡ still_talk phase now fault (host_of s n.initiator) (hearing_of k row (reading_in k.story.bus_state n c now)) (leaving s k n.target) k.exchange
   pub dialogue_is : (run_state_after s k row).story.bus_state.dialogue ≡ dialogue_by phase now c k.story.bus_state.dialogue
   pub served_is : (run_state_after s k row).served ≡ k.served
   pub bus_is : (run_state_after s k row).story.bus_state.bus ≡ c.after
@@ -60,7 +47,7 @@ in_connection s k row n c phase now fault h ep en ef =
     record {
       exchange_is =
           (λ i. exchange_after s k row (d i) (h.connection_is i) (d i).next (leaving_of s k (h.connection_is i)))
-          ∙ (λ i. exchange_by (ep i) now (ef i) (host_of s n.initiator) (hearing_of k row (reading_in w n c now)) (leaving s k n.target) k.exchange);
+          ∙ (λ i. still_talk (ep i) now (ef i) (host_of s n.initiator) (hearing_of k row (reading_in w n c now)) (leaving s k n.target) k.exchange);
       dialogue_is =
           (λ i. dialogue_after w.dialogue (h.connection_is i) (d i).next (λ j u. agreement_in w.agreed j u) (d i).change)
           ∙ (λ i. dialogue_by (ep i) (en i) c w.dialogue);

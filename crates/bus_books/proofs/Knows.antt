@@ -2,8 +2,6 @@
 use Rattle.std.proofs.Common.{ℕ, ◌≡◌, ◌⊎◌, inl, inr, Bool, true, false, not, ◌&&◌, ◌∙◌, List, [], ◌∷◌, ◌++◌, Option, Some, None, refl, sym, ap, subst, true≢false}
 use Rattle.std.specs.Prelude.{if◌then◌else◌, is_some, is_none, ◌%◌, nat_lt, ◌-◌, length}
 use Rattle.bus_trace.specs.declared.Row.{Row}
-use Rattle.bus_trace.specs.declared.Kind.{Kind}
-use Rattle.bus_trace.specs.declared.Kind.TheVariants.{Drives, Fault}
 use Rattle.bus_trace.specs.declared.changes.Change.{Change}
 use Rattle.bus_trace.specs.declared.connection.Connection.{Connection}
 use Rattle.bus_trace.specs.Terms.{receiver_in}
@@ -19,7 +17,7 @@ use Rattle.bus_story.specs.Items.{Item, Sent}
 use Rattle.bus_story.specs.Links.{Link, last_out, last_in, link_after_name}
 use Rattle.bus_story.specs.HistoryEvents.{carried_if, row_events_by}
 use Rattle.bus_story.specs.Story.{Story}
-use Rattle.bus_story.specs.TraceHistory.{story_with_restored, is_parity_error, story_after_out, carried_after_message_if, story_after_in, story_after_byte, carried_after_fault_if, story_after_fault, story_in_connection, story_on_bus, story_by_change}
+use Rattle.bus_story.specs.TraceHistory.{story_with_restored, is_parity_error, story_after_out, carried_after_message_if, story_after_in, story_after_byte, story_after_fault, story_in_connection, story_on_bus, story_by_change}
 use Rattle.bus_dialogue.specs.declared.exchange.Messages.{Messages}
 use Rattle.bus_dialogue.specs.declared.exchange.Leaving.{Leaving}
 use Rattle.bus_dialogue.specs.declared.exchange.Hearing.{Hearing}
@@ -29,14 +27,15 @@ use Rattle.bus_dialogue.specs.Words.{is_name}
 use Rattle.bus_due.specs.RunState.{RunState, bus_of}
 use Rattle.bus_due.specs.Sights.{hearing_of, leaving, serving_of}
 use Rattle.bus_due.specs.RunSteps.{run_state_after}
+use Rattle.bus_due.proofs.Stills.{still_talk}
 use Rattle.bus_books.specs.Giving.{OnMessage, OnMessages, Gives, GivesNext}
 use Rattle.bus_books.specs.Knowing.{IsNoName, Knows, NamesServed}
 use Rattle.bus_books.specs.Rows.{RowKind, still, strikes, crosses, turns, IsRowIn, reading_in}
 use Rattle.bus_books.proofs.Gives.{byte_messages}
 use Rattle.bus_books.proofs.Hearable.{heard_next}
-use Rattle.bus_books.proofs.InConnection.{reading_is, exchange_by, InConnection, in_connection}
+use Rattle.bus_books.proofs.InConnection.{reading_is, InConnection, in_connection}
 use Rattle.bus_books.proofs.Leavings.{IsOfOthers, left_messages}
-use Rattle.bus_story.proofs.StorySteps.{byte_link, carried_link, events_link}
+use Rattle.bus_story.proofs.StorySteps.{byte_link, carried_link, events_link, fault_link}
 
 -- ---- events leave the link
 
@@ -84,10 +83,6 @@ item_after s b l d = if d.crosses then (if is_some d.out then l.item else by_mes
     by_message None = l.item
     by_message (Some m) = (link_after_name b.sent s.commands l m).item
 
-pub fault_link : (b : Story) (l : Link) (kind : Kind) → (story_after_fault b l kind).link ≡ b.link
-fault_link b l (Drives lines) = refl
-fault_link b l (Fault bit) = carried_link b (carried_after_fault_if (carried_if b l.item) b.bus_state.crossed)
-
 pub record LinkTo (s : ScenarioValue) (b after : Story) (l : Link) (item : Option Item) : Type 0 where
   pub link : Link
   pub link_is : after.link ≡ Some link
@@ -133,7 +128,7 @@ from_nameless m n h = go (nat_lt n (length (message_bytes m.first)))
     go true = h
     go false = (h.1, tt)
 
-nameless_turn : (x : Exchange) (w : Hearing) (l : Leaving) → OnMessages IsNoName x.plan.messages → OnMessages IsNoName l.messages → OnMessages IsNoName (exchange_by true false false None w l x).plan.messages
+nameless_turn : (x : Exchange) (w : Hearing) (l : Leaving) → OnMessages IsNoName x.plan.messages → OnMessages IsNoName l.messages → OnMessages IsNoName (still_talk true false false None w l x).plan.messages
 nameless_turn x w l was next = go (is_message_out w.change.after) w.begun
   where
     refused : (q : Bool) → OnMessages IsNoName (if q then from_byte x.plan.messages (w.offered - 1) else x.plan.messages)
@@ -145,7 +140,7 @@ nameless_turn x w l was next = go (is_message_out w.change.after) w.begun
     go true true = refused (is_message_in w.change.before)
     go true false = was
 
-nameless_by : (phase now fault : Bool) (x : Exchange) (w : Hearing) (l : Leaving) → OnMessages IsNoName x.plan.messages → OnMessages IsNoName l.messages → OnMessages IsNoName (exchange_by phase now fault None w l x).plan.messages
+nameless_by : (phase now fault : Bool) (x : Exchange) (w : Hearing) (l : Leaving) → OnMessages IsNoName x.plan.messages → OnMessages IsNoName l.messages → OnMessages IsNoName (still_talk phase now fault None w l x).plan.messages
 nameless_by true now fault x w l was next = nameless_turn x w l was next
 nameless_by false true fault x w l was next = subst (λ (m : Messages). OnMessages IsNoName m) (sym (byte_messages (is_message_out w.change.before) w.is_last w.out x.plan)) was
 nameless_by false false fault x w l was next = go (fault && not w.change.before.io)

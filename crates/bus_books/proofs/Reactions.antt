@@ -26,10 +26,12 @@ use Rattle.msg_grammar.specs.Messages.{in_bytes}
 use Rattle.bus_dialogue.specs.declared.exchange.Messages.{Messages}
 use Rattle.bus_books.specs.Hearing.{is_in_phase, is_out_phase, HasPhase, LeavesWhole}
 use Rattle.bus_books.specs.Giving.{GivesNext, Gives}
-use Rattle.bus_books.specs.Reactions.{IsAnswered, IsOffered, IsOver, HasMessage, is_command_phase}
+use Rattle.bus_books.specs.Reactions.{IsAnswered, IsOffered, IsOver, HasMessage}
 use Rattle.bus_books.specs.Speaking.{SaysNext}
 use Rattle.std.proofs.lemmas.Bool.{ltb-true, or_parts}
 use Rattle.bus_base.proofs.Tests.{and_second, zero_of}
+use Rattle.scsi_device.specs.Heard.{is_command_phase}
+use Rattle.scsi_device.proofs.PhaseLines.{in_phase, out_phase}
 
 -- ---- the initiator
 
@@ -69,24 +71,6 @@ answers_own s k n c p eb h ep er ei =
     of_data false false i e = refl
 
 -- ---- the target
-
-pub in_phase : (b : LineSet) → is_message_in b ≡ true → phase_of b ≡ phases.MessageIn
-in_phase b e = go b.msg b.cd b.io e
-  where
-    go : (m d i : Bool) → (m && d && i) ≡ true → (if m then (if i then phases.MessageIn else phases.MessageOut) else if d then (if i then phases.Status else phases.Command) else if i then phases.DataIn else phases.DataOut) ≡ phases.MessageIn
-    go true true true e = refl
-    go true true false e = absurd (true≢false (sym e))
-    go true false i e = absurd (true≢false (sym e))
-    go false d i e = absurd (true≢false (sym e))
-
-pub out_phase : (b : LineSet) → is_message_out b ≡ true → phase_of b ≡ phases.MessageOut
-out_phase b e = go b.msg b.cd b.io e
-  where
-    go : (m d i : Bool) → (m && d && not i) ≡ true → (if m then (if i then phases.MessageIn else phases.MessageOut) else if d then (if i then phases.Status else phases.Command) else if i then phases.DataIn else phases.DataOut) ≡ phases.MessageOut
-    go true true true e = absurd (true≢false (sym e))
-    go true true false e = refl
-    go true false i e = absurd (true≢false (sym e))
-    go false d i e = absurd (true≢false (sym e))
 
 pub out_lines : (b : LineSet) → phase_of b ≡ phases.MessageOut → (b.msg ≡ true) × (b.io ≡ false)
 out_lines b e = go b.msg b.cd b.io (ap is_out_phase e)

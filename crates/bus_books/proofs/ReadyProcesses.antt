@@ -5,11 +5,12 @@ use Rattle.scenario.specs.Value.{ScenarioValue}
 use Rattle.disk_array.specs.Processes.{Process, process_of}
 use Rattle.disk_array.specs.SoundArray.{IsOwnRunning, IsOwnUnit, AllOwnUnits, IsSound}
 use Rattle.disk_array.specs.Units.{RunningProcess, UnitState, Array, unit_state_at, is_held}
+use Rattle.disk_array.specs.Seats.{current_of, is_initiator}
 use Rattle.bus_dialogue.specs.Wants.{Ready, ready_in, is_ready_before, first_ready}
 use Rattle.bus_story.specs.Items.{Item, process, abort}
-use Rattle.bus_story.specs.TraceHistory.{is_host, aim_of}
+use Rattle.bus_story.specs.TraceHistory.{aim_of}
 use Rattle.bus_due.specs.RunState.{RunState, array_of, process_item}
-use Rattle.bus_due.specs.Wants.{current_of, since_of, seek_of, ready_at, ready_among, ready_of, target_if, target_of, initiator_if, callee}
+use Rattle.bus_due.specs.Wants.{since_of, seek_of, ready_at, ready_among, ready_of, target_if, target_of, initiator_if, callee}
 use Rattle.scsi_device.specs.Lines.{AreUnits}
 use Rattle.bus_books.specs.Traces.{IsReadyFor, IsAimedAt}
 use Rattle.bus_trace.specs.declared.connection.Connection.{Connection}
@@ -114,7 +115,7 @@ ready_for s k n r u h e i =
 -- ---- by whom a device calls
 
 -- Of the array only that its units hold processes of their own is needed.
-pub reselects_by : (s : ScenarioValue) (k : RunState) (n : Connection) → AreUnits s → AllOwnUnits s (array_of s k).units → is_host s.hosts n.target ≡ false → callee s k n.target (aim_of k.story.aims n.target) ≡ Some n.initiator → IsReadyFor s k n
+pub reselects_by : (s : ScenarioValue) (k : RunState) (n : Connection) → AreUnits s → AllOwnUnits s (array_of s k).units → is_initiator s.hosts n.target ≡ false → callee s k n.target (aim_of k.story.aims n.target) ≡ Some n.initiator → IsReadyFor s k n
 reselects_by s k n u h host e = go (ready_of s k n.target) refl
   where
     called : initiator_if (ready_of s k n.target) ≡ Some n.initiator
@@ -124,10 +125,10 @@ reselects_by s k n u h host e = go (ready_of s k n.target) refl
     go None f = absurd (none_number n.initiator (sym (ap initiator_if f) ∙ called))
     go (Some r) f = ready_for s k n r u h f (same_Some _ n.initiator (sym (ap initiator_if f) ∙ called))
 
-pub reselects_for : (s : ScenarioValue) (k : RunState) (n : Connection) → AreUnits s → IsSound s (array_of s k) → is_host s.hosts n.target ≡ false → callee s k n.target (aim_of k.story.aims n.target) ≡ Some n.initiator → IsReadyFor s k n
+pub reselects_for : (s : ScenarioValue) (k : RunState) (n : Connection) → AreUnits s → IsSound s (array_of s k) → is_initiator s.hosts n.target ≡ false → callee s k n.target (aim_of k.story.aims n.target) ≡ Some n.initiator → IsReadyFor s k n
 reselects_for s k n u h host e = reselects_by s k n u h.units host e
 
-pub selects_for : (s : ScenarioValue) (k : RunState) (n : Connection) → is_host s.hosts n.initiator ≡ true → callee s k n.initiator (aim_of k.story.aims n.initiator) ≡ Some n.target → IsAimedAt s k n
+pub selects_for : (s : ScenarioValue) (k : RunState) (n : Connection) → is_initiator s.hosts n.initiator ≡ true → callee s k n.initiator (aim_of k.story.aims n.initiator) ≡ Some n.target → IsAimedAt s k n
 selects_for s k n host e = go (aim_of k.story.aims n.initiator) refl
   where
     called : target_of s (aim_of k.story.aims n.initiator) ≡ Some n.target

@@ -12,6 +12,7 @@ use Rattle.cdb_codec.specs.Cdb.{has_group_len}
 use Rattle.msg_grammar.specs.declared.message.MsgIn.{MsgIn}
 use Rattle.scenario.specs.Value.{ScenarioValue}
 use Rattle.disk_array.specs.Processes.{Process, process_of, same_bool}
+use Rattle.disk_array.proofs.SeatLookups.{same_bool_is}
 use Rattle.bus_story.specs.BusState.{row_reading, message_in}
 use Rattle.bus_story.specs.Items.{Item, process, abort}
 use Rattle.bus_story.specs.Links.{link_after_name}
@@ -33,7 +34,7 @@ use Rattle.bus_books.specs.Hearing.{is_in_phase, is_out_phase, HasPhase, LeavesW
 use Rattle.bus_books.specs.Rows.{RowKind, still, strikes, crosses, turns}
 use Rattle.bus_books.specs.RowTests.{is_of_target, is_aimed_at, is_between, is_ready_for, is_made_for, is_first_row, is_block_whole, is_phase_whole, leaves_whole, has_phase, says_next, gives_next, sends_next, is_at_run, same_item_if, names_served, crosses_well, is_of_kind, is_row_in, is_last_row, is_row_by, is_row_of}
 use Rattle.bus_books.specs.Traces.{IsReadyFor, IsAimedAt, Begins, GoesOn, Ends, RowOf, apart, begins, goes_on, ends, under_reset}
-use Rattle.bus_books.proofs.Lookups.{is_bool, id_is}
+use Rattle.bus_books.proofs.Lookups.{id_is}
 use Rattle.std.proofs.lemmas.Bool.{not-true, eqb-true, ltb-true}
 use Rattle.bus_base.proofs.Tests.{and_first, and_second, or_second, implied}
 
@@ -228,7 +229,7 @@ row_in s k row n e r t =
       says = λ o z.
           let b = implied (is_message_out c.before) (c.after.data_bits % 256 == next_word k.exchange.speech && same_bool c.after.atn (attends_with k.exchange.speech)) (and_first (says_next k c) (gives_next k c) (w2 (now ∙ z))) o in (
             eqb-true (c.after.data_bits % 256) (next_word k.exchange.speech) (and_first (c.after.data_bits % 256 == next_word k.exchange.speech) (same_bool c.after.atn (attends_with k.exchange.speech)) b),
-            is_bool c.after.atn (attends_with k.exchange.speech) (and_second (c.after.data_bits % 256 == next_word k.exchange.speech) (same_bool c.after.atn (attends_with k.exchange.speech)) b),
+            same_bool_is c.after.atn (attends_with k.exchange.speech) (and_second (c.after.data_bits % 256 == next_word k.exchange.speech) (same_bool c.after.atn (attends_with k.exchange.speech)) b),
           );
       gives = λ o z.
           let count : ℕ = k.handshakes.requests in

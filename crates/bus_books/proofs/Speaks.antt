@@ -30,12 +30,13 @@ use Rattle.bus_due.specs.Defs.{host_of, opening}
 use Rattle.bus_due.specs.Sights.{hearing_of, leaving}
 use Rattle.bus_due.specs.RunState.{RunState, bus_of}
 use Rattle.bus_due.specs.RunSteps.{run_state_after}
+use Rattle.bus_due.proofs.Stills.{still_talk}
 use Rattle.bus_books.specs.Listening.{nothing_understood, form_messages}
 use Rattle.bus_books.specs.Rows.{RowKind, still, strikes, crosses, turns, IsRowIn, reading_in}
 use Rattle.bus_books.specs.Speaking.{AreWordsHeard, AreWordsFor, opens, refuses, answers, rejects_data, rejects_status, IsAboutToSpeak, IsSpeaking, SpeaksBy, Speaks, SaysNext}
 use Rattle.bus_books.proofs.Saying.{says_on}
 use Rattle.bus_books.proofs.Reading.{reads_on, errors_read, answer_reads}
-use Rattle.bus_books.proofs.InConnection.{exchange_by, dialogue_by, InConnection, in_connection, SamePhase, same_phase_is}
+use Rattle.bus_books.proofs.InConnection.{dialogue_by, InConnection, in_connection, SamePhase, same_phase_is}
 
 -- ---- what is kept is known otherwise
 
@@ -191,13 +192,13 @@ asks_on s n v x d messages false true struck = speaks_anew s n v x d detected_er
 asks_on s n v x d messages false false struck = speaks_anew s n v x d detected_error causes.InData messages _ _ refl errors_read.1 (rejects_data refl)
 
 turn_on : (s : ScenarioValue) (n : Connection) (v : Option Item) (x : Exchange) (d : Dialogue) (a : LineSet) (w : Hearing) (l : Leaving) (now fault : Bool) → w.begun ≡ x.begun → SpeaksBy s n v x d a
-    → SpeaksBy s n v (exchange_by true now fault (host_of s n.initiator) w l x) (phase_begins d) w.change.after
+    → SpeaksBy s n v (still_talk true now fault (host_of s n.initiator) w l x) (phase_begins d) w.change.after
 turn_on s n v x d a w l now fault eb h = record {
   before_all = λ e. absurd (true≢false e);
   in_message_out = λ e f. go x.begun refl f;
 }
   where
-    go : (g : Bool) → x.begun ≡ g → is_message_out w.change.after ≡ true → IsSpeaking s n v (exchange_by true now fault (host_of s n.initiator) w l x) (phase_begins d)
+    go : (g : Bool) → x.begun ≡ g → is_message_out w.change.after ≡ true → IsSpeaking s n v (still_talk true now fault (host_of s n.initiator) w l x) (phase_begins d)
     go false e f =
         subst (λ (z : Exchange). IsSpeaking s n v z (phase_begins d))
         (sym (λ i. record {
@@ -218,7 +219,7 @@ turn_on s n v x d a w l now fault eb h = record {
 -- ---- any row of a connection
 
 cross_on : (s : ScenarioValue) (k : RunState) (row : Row) (n : Connection) (c : Change) (dev : ℕ) (fault : Bool) → k.story.bus_state.bus ≡ c.before → SaysNext k n c → changes_phase c ≡ false → receiver_in n c ≡ Some dev → Speaks s k n
-    → SpeaksBy s n k.served (exchange_by false true fault (host_of s n.initiator) (hearing_of k row (reading_in k.story.bus_state n c true)) (leaving s k n.target) k.exchange) (byte_crosses k.story.bus_state.dialogue c) c.after
+    → SpeaksBy s n k.served (still_talk false true fault (host_of s n.initiator) (hearing_of k row (reading_in k.story.bus_state n c true)) (leaving s k n.target) k.exchange) (byte_crosses k.story.bus_state.dialogue c) c.after
 cross_on s k row n c dev fault eb says ep er h = go (is_message_out c.before) refl
   where
     x : Exchange
@@ -231,11 +232,11 @@ cross_on s k row n c dev fault eb says ep er h = go (is_message_out c.before) re
     byte = c.after.data_bits % 256
 
     go : (q : Bool) → is_message_out c.before ≡ q
-        → SpeaksBy s n k.served (exchange_by false true fault (host_of s n.initiator) (hearing_of k row (reading_in k.story.bus_state n c true)) (leaving s k n.target) k.exchange) (byte_crosses k.story.bus_state.dialogue c) c.after
+        → SpeaksBy s n k.served (still_talk false true fault (host_of s n.initiator) (hearing_of k row (reading_in k.story.bus_state n c true)) (leaving s k n.target) k.exchange) (byte_crosses k.story.bus_state.dialogue c) c.after
     go true e =
         let next = says e (ap (λ (z : Option ℕ). is_some z) er) in
         speaks_as s n k.served k.served
-        (exchange_by false true fault (host_of s n.initiator) (hearing_of k row (reading_in k.story.bus_state n c true)) (leaving s k n.target) k.exchange)
+        (still_talk false true fault (host_of s n.initiator) (hearing_of k row (reading_in k.story.bus_state n c true)) (leaving s k n.target) k.exchange)
         (heard_byte k.exchange k.story.bus_state.dialogue.is_last (whole_out (got_out (fresh_bytes k.story.bus_state.dialogue ++ c.after.data_bits % 256 ∷ []))))
         (byte_crosses k.story.bus_state.dialogue c) (byte_out k.story.bus_state.dialogue (c.after.data_bits % 256) (not (attends_with k.exchange.speech))) c.after c.after refl
         (λ i. record {
@@ -250,7 +251,7 @@ cross_on s k row n c dev fault eb says ep er h = go (is_message_out c.before) re
         (subst (λ (z : LineSet). SpeaksBy s n k.served k.exchange k.story.bus_state.dialogue z) eb h))
     go false e =
         speaks_as s n k.served k.served
-        (exchange_by false true fault (host_of s n.initiator) (hearing_of k row (reading_in k.story.bus_state n c true)) (leaving s k n.target) k.exchange)
+        (still_talk false true fault (host_of s n.initiator) (hearing_of k row (reading_in k.story.bus_state n c true)) (leaving s k n.target) k.exchange)
         (other_byte k.exchange (request_after k.exchange.speech.asked (message_in k.story.bus_state.dialogue c true)))
         (byte_crosses k.story.bus_state.dialogue c) (byte_crosses k.story.bus_state.dialogue c) c.after c.after refl
         (λ i. record {
@@ -277,10 +278,10 @@ speaks_on s k row n c r says h = go r.kind
     was = subst (λ (z : LineSet). SpeaksBy s n k.served k.exchange k.story.bus_state.dialogue z) r.bus_is h
 
     to : (phase now fault : Bool) → InConnection s k row n c phase now fault
-        → SpeaksBy s n k.served (exchange_by phase now fault (host_of s n.initiator) (hearing_of k row (reading_in k.story.bus_state n c now)) (leaving s k n.target) k.exchange) (dialogue_by phase now c k.story.bus_state.dialogue) c.after
+        → SpeaksBy s n k.served (still_talk phase now fault (host_of s n.initiator) (hearing_of k row (reading_in k.story.bus_state n c now)) (leaving s k n.target) k.exchange) (dialogue_by phase now c k.story.bus_state.dialogue) c.after
         → Speaks s (run_state_after s k row) n
     to phase now fault i =
-        speaks_as s n (run_state_after s k row).served k.served (run_state_after s k row).exchange (exchange_by phase now fault (host_of s n.initiator) (hearing_of k row (reading_in k.story.bus_state n c now)) (leaving s k n.target) k.exchange)
+        speaks_as s n (run_state_after s k row).served k.served (run_state_after s k row).exchange (still_talk phase now fault (host_of s n.initiator) (hearing_of k row (reading_in k.story.bus_state n c now)) (leaving s k n.target) k.exchange)
         (run_state_after s k row).story.bus_state.dialogue (dialogue_by phase now c k.story.bus_state.dialogue) (bus_of (run_state_after s k row)) c.after i.served_is i.exchange_is i.dialogue_is i.bus_is
 
     none_crosses : receiver_in n c ≡ None → is_some (receiver_in n c) ≡ false

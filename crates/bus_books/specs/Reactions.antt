@@ -1,12 +1,11 @@
 -- What the two ends of a connection are due to drive and to do, as facts of a row: by these reactions the bytes that cross are the
 -- next ones, and a phase is left whole.
-use Rattle.std.specs.Prelude.{◌%◌, ◌≡◌, true, false, not, is_some, Bool}
+use Rattle.std.specs.Prelude.{◌%◌, ◌≡◌, true, false, not, is_some}
 use Rattle.bus_trace.specs.declared.changes.Change.{Change}
 use Rattle.bus_trace.specs.declared.connection.Connection.{Connection}
 use Rattle.bus_trace.specs.Terms.{receiver_in}
 use Rattle.bus_trace.specs.Phases.{is_message_out, is_message_in}
 use Rattle.scenario.specs.Value.{ScenarioValue}
-use Rattle.bus_dialogue.specs.declared.exchange.Phase.{Phase}
 use Rattle.bus_dialogue.specs.declared.exchange.Phase.TheVariants as phases
 use Rattle.bus_dialogue.specs.NextPhase.{phase_of}
 use Rattle.bus_due.specs.RunState.{RunState, bus_of}
@@ -32,7 +31,3 @@ pub record IsOver (s : ScenarioValue) (k : RunState) (n : Connection) : Type 0 w
 -- In MESSAGE IN there is a message.
 abbrev pub HasMessage : RunState → Type 0
 HasMessage k = phase_of (bus_of k) ≡ phases.MessageIn → is_some k.exchange.plan.messages.first ≡ true
-
-abbrev pub is_command_phase : Phase → Bool
-is_command_phase phases.Command = true
-is_command_phase _ = false

@@ -16,8 +16,9 @@ use Rattle.disk_array.specs.Execution.{Reply}
 use Rattle.disk_array.specs.Units.{RunningProcess, UnitState}
 use Rattle.disk_array.specs.Steps.{has_ended}
 use Rattle.disk_array.specs.ArrayHistory.{reply_in}
+use Rattle.disk_array.specs.Order.{same_number, tag_number}
 use Rattle.bus_story.specs.Right.{same_bytes, has_run, moved_bytes}
-use Rattle.bus_story.specs.Items.{Item, process, abort, Sent, has_item, is_open, is_clash, tag_number_if}
+use Rattle.bus_story.specs.Items.{Item, process, abort, Sent, has_item, is_open, is_clash}
 use Rattle.bus_story.specs.Links.{Link, named_item_from}
 use Rattle.bus_story.specs.HistoryEvents.{abort_line_at}
 use Rattle.bus_story.specs.CarriedBytes.{Area, CarriedBytes}
@@ -40,12 +41,6 @@ use Rattle.bus_books.specs.Listening.{Understanding, nothing_understood, underst
 use Rattle.bus_books.specs.Accounts.{is_open_in, is_served_by, is_in_array, Account, account_of, policy_for, task_in, next_start, content_of}
 
 -- ---- equal values
-
-abbrev pub same_number : Option ℕ → Option ℕ → Bool
-same_number None None = true
-same_number (Some a) (Some b) = a == b
-same_number None (Some b) = false
-same_number (Some a) None = false
 
 abbrev pub same_agreement : Option Agreement → Option Agreement → Bool
 same_agreement None None = true
@@ -222,7 +217,7 @@ has_carried k a p reply =
 
 abbrev pub is_found : ScenarioValue → Sent → Process → Bool
 is_found s b p =
-    same_process (Some (process p.id)) (named_item_from b p.initiator p.target p.unit (tag_number_if p.tag) 1 s.commands)
+    same_process (Some (process p.id)) (named_item_from b p.initiator p.target p.unit (tag_number p.tag) 1 s.commands)
 
 abbrev pub stands_by_reply : ScenarioValue → RunState → Account → Process → Option Reply → Bool
 stands_by_reply s k a p (Some reply) = is_served_by a.served p.id && is_in_array a.array p.id && a.carried.status.saved == 0 && has_carried k a p reply

@@ -14,7 +14,8 @@ ghost use Rattle.scenario.specs.Value.{ScenarioValue};
 ghost use Rattle.disk_array.specs.Processes.{Process, process_of};
 ghost use Rattle.bus_story.specs.Items.{Item};
 ghost use Rattle.disk_array.specs.SoundArray.{IsSound};
-ghost use Rattle.bus_story.specs.TraceHistory.{aim_of, is_host};
+ghost use Rattle.disk_array.specs.Seats.{is_initiator};
+ghost use Rattle.bus_story.specs.TraceHistory.{aim_of};
 ghost use Rattle.bus_dialogue.specs.Exchange.{bytes_of_messages};
 ghost use Rattle.bus_dialogue.specs.NextPhase.{phase_of};
 ghost use Rattle.bus_dialogue.specs.Wants.{Ready};
@@ -212,9 +213,9 @@ pub fn message_phases_are_whole()
 /// call (`selects`); and for the process that its target has ready, which is of the scenario and of both ends
 /// (`reselects`).
 pub fn callees_are_the_other_end()
-    ensures selects { (s : ScenarioValue) (k : RunState) (n : Connection) → is_host s.hosts n.initiator ≡ true
+    ensures selects { (s : ScenarioValue) (k : RunState) (n : Connection) → is_initiator s.hosts n.initiator ≡ true
         → callee s k n.initiator (aim_of k.story.aims n.initiator) ≡ Some n.target → IsAimedAt s k n }
     ensures reselects { (s : ScenarioValue) (k : RunState) (n : Connection) → AreUnits s → IsSound s (array_of s k)
-        → is_host s.hosts n.target ≡ false → callee s k n.target (aim_of k.story.aims n.target) ≡ Some n.initiator
+        → is_initiator s.hosts n.target ≡ false → callee s k n.target (aim_of k.story.aims n.target) ≡ Some n.initiator
         → IsReadyFor s k n }
 {}

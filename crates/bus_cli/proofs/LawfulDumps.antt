@@ -25,8 +25,7 @@ use Rattle.vcd_text.proofs.ReadBack.{dump_back}
 use Rattle.bus_cli.specs.Judging.{verdict_of}
 use Rattle.bus_cli.specs.Vcd.{IsLawful, IsOfLines}
 use Rattle.std.proofs.lemmas.Bool.{not-true, leb-true}
-use Rattle.bus_base.proofs.Tests.{all_append}
-use Rattle.bus_engine.proofs.Items.{all_reverse}
+use Rattle.bus_base.proofs.Tests.{all_append, all_reverse}
 
 -- rule 2 of a row of lines
 differs : (rows : List Row) (row : Row) (lines : LineSet) → row.kind ≡ Drives lines → is_news_of (seen rows row) row row.kind ≡ true → same_set (drives rows row.dev) lines ≡ false

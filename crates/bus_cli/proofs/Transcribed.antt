@@ -1,19 +1,16 @@
 -- What the word `transcript` says of the bytes that were read.
-use Rattle.std.proofs.Common.{ℕ, ◌≡◌, List, [], ◌∷◌, Option, Some, None, Result, Ok, Err, reverse, refl, sym, ap, subst, ◌∙◌}
+use Rattle.std.proofs.Common.{ℕ, ◌≡◌, List, [], Option, Some, None, Result, Ok, Err, reverse, refl, sym, ap, subst, ◌∙◌}
 use Rattle.std.specs.Prelude.{IfSome, Vec}
-use Rattle.std.specs.List.{AllByRecursion}
 use Rattle.std.specs.declared.alloc.Global.{Global}
 use Rattle.trace_text.specs.declared.limit.TheConstants.{LIMIT as TRACE_LIMIT}
 use Rattle.bus_base.specs.Whole.{ReadsAll}
 use Rattle.bus_base.specs.declared.reading.ReadEnd.{ReadEnd}
 use Rattle.bus_base.specs.declared.reading.ReadEnd.TheVariants.{TooLong}
 use Rattle.bus_trace.specs.declared.rows.Row.{Row}
-use Rattle.bus_trace.specs.OfTrace.{IsRow}
 use Rattle.bus_rules.specs.declared.verdict.Verdict.{Verdict}
 use Rattle.bus_rules.specs.declared.verdict.Verdict.TheVariants.{Lawful}
 use Rattle.bus_rules.specs.Rules.{judged_whole}
 use Rattle.trace_text.specs.Whole.{trace_of}
-use Rattle.bus_transcript.specs.Rows.{IsOfDevice}
 use Rattle.bus_cli.specs.Lines.{Writing, writing, SaysLine, trace_line}
 use Rattle.bus_cli.specs.Judging.{verdict_of}
 use Rattle.bus_cli.specs.Vcd.{VcdTells}
@@ -24,11 +21,6 @@ use Rattle.bus_cli.specs.declared.status.Status.TheVariants.{Done, Words, Refuse
 use Rattle.bus_cli.proofs.TooLong.{map_some, IsLong, is_long}
 use Rattle.bus_cli.proofs.Judged.{too_long}
 use Rattle.bus_cli.proofs.Dumped.{verdict_is, told_of, all_of}
-
--- The rows of a trace are of the eight devices.
-pub of_devices : (rows : List Row) → AllByRecursion IsRow rows → AllByRecursion IsOfDevice rows
-of_devices [] h = tt
-of_devices (row ∷ rows) h = (h.0.device, of_devices rows h.1)
 
 -- ---- a lawful trace
 

@@ -26,7 +26,6 @@ mod running;
 mod saying;
 mod status;
 mod top;
-mod trace_output;
 mod transcribing;
 mod undumping;
 mod words;

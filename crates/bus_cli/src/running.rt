@@ -7,11 +7,11 @@ ghost use Rattle.bus_cli.specs.Words.{limit_of};
 ghost use Rattle.bus_cli.specs.Lines.{IfTold};
 ghost use Rattle.bus_cli.specs.Texts.{SaysText, TellsText};
 ghost use Rattle.scenario.specs.Reading.{scenario_of};
-ghost use Rattle.trace_text.specs.RowText.{IsOfEight};
 ghost use Rattle.bus_cli.specs.Transcripts.{text_of_rows};
 ghost use Rattle.bus_cli.specs.Running.{run_text, RunSays, RunTells, StepsBy};
 ghost use Rattle.bus_cli.specs.Ends.{Reads};
 ghost use Rattle.bus_cli.specs.declared.words.Word.TheVariants as words;
+ghost use Rattle.bus_trace.specs.OfTrace.{IsOfDevice};
 
 use crate::answers::refusal_line;
 use crate::saying::{say, status_written};
@@ -27,7 +27,7 @@ use trace_text::{report, short_report};
 
 // Writes the transcript of a run of this scenario.
 fn write_transcript<K: Sink>(alloc: Global, scenario: &Scenario, run: &Run, out: &mut K) -> Status
-    requires { AllByRecursion IsOfEight run.now.rows }
+    requires { AllByRecursion IsOfDevice run.now.rows }
     ensures write { result ≡ Status.Write → HasRisen (K.faults out.old) (K.faults out.new) }
     ensures form { TellsText result }
     ensures said { IfTold K.written K.faults out.old out.new (SaysText result (text_of_rows run.now.rows)) }
@@ -50,7 +50,7 @@ fn write_run<K: Sink>(
 ) -> Status
     requires replies { length run.now.replies ≡ length scenario.now.commands }
     requires disks { length run.now.disks ≡ length scenario.now.units }
-    requires rows { AllByRecursion IsOfEight run.now.rows }
+    requires rows { AllByRecursion IsOfDevice run.now.rows }
     ensures write { result ≡ Status.Write → HasRisen (K.faults out.old) (K.faults out.new) }
     ensures form { TellsText result }
     ensures said { IfTold K.written K.faults out.old out.new

@@ -13,9 +13,9 @@ ghost use Rattle.bus_cli.specs.declared.words.Word.TheVariants as words;
 use crate::answers::dump_line;
 use crate::saying::say;
 use crate::status::Status;
-use crate::trace_output::write_trace;
 use bus_base::{BUFFER, ReadEnd, Sink, Source, read_piece};
 use std::alloc::Global;
+use trace_text::write_trace;
 use vcd_text::{LIMIT, VcdBad, VcdReader};
 
 // Takes all bytes of the input, at most the limit, through a buffer. It reads on after a token that breaks the form.

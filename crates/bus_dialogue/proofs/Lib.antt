@@ -2,3 +2,4 @@ mod Cases
 mod WantCases
 mod Observing
 mod HearingCases
+pub mod Leavings

@@ -54,6 +54,14 @@ abbrev pub has_replied : Option Task → Bool
 has_replied None = true
 has_replied (Some t) = t.replied
 
+abbrev pub event_if : Option Event → List Event
+event_if None = []
+event_if (Some e) = e ∷ []
+
+abbrev pub is_empty : List Event → Bool
+is_empty [] = true
+is_empty (e ∷ shown) = false
+
 -- The newest first.
 abbrev pub newest_with : List Event → List Event → List Event
 newest_with [] before = before

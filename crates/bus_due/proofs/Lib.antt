@@ -13,3 +13,4 @@ pub mod Stills
 mod Traces
 pub mod NegotiatedPairs
 pub mod SameEvents
+pub mod Lookups

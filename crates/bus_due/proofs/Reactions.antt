@@ -20,13 +20,14 @@ use Rattle.bus_dialogue.specs.Hearing.{begun}
 use Rattle.bus_due.specs.Own.{Own, own_of}
 use Rattle.bus_due.specs.RunState.{bus_of}
 use Rattle.bus_due.specs.Sights.{want_of, pace_of, offering_of, answering_of, flip_of}
-use Rattle.bus_due.specs.Connected.{is_receiving, is_receiver, connected_due}
+use Rattle.bus_due.specs.Connected.{is_receiver, connected_due}
 use Rattle.bus_due.specs.Due.{self_of, due_if, device_due, reset_from, stage_due, link_due_of}
 use Rattle.bus_due.specs.RunSteps.{run_state}
 use Rattle.bus_due.specs.Next.{due}
 use Rattle.bus_due.specs.Plain.{crossed, crossed_if}
 use Rattle.bus_due.specs.PlainDue.{IsThere, IsLinked, myself, sampled_first, under_reset, link_reaction, target_reaction, initiator_reaction}
 use Rattle.bus_due.proofs.Plains.{run_state_plain}
+use Rattle.bus_rules.specs.Order.{is_of_device}
 
 -- What is due of a device that is there, by the rows that it has made itself.
 there : (s : ScenarioValue) (rows : List Row) (dev latency : ℕ) → IsThere s rows dev latency → due s rows dev ≡ device_due s (run_state s rows) (self_of (run_state s rows) dev latency) (own_of rows dev)
@@ -55,19 +56,19 @@ linking_is_due s rows dev latency h c =
 -- ---- in a connection
 
 -- The receiver of the byte that crossed in the last row, of the connection that stands after it.
-by_receiver : (n : Connection) (before : Option Connection) (c : Change) (dev : ℕ) → (call : Option Call) (row : Row) → connection_after before call c row ≡ Some n → is_receiver n (crossed_if (is_some (receiver_of before c)) c) dev ≡ is_receiving (receiver_of before c) dev
+by_receiver : (n : Connection) (before : Option Connection) (c : Change) (dev : ℕ) → (call : Option Call) (row : Row) → connection_after before call c row ≡ Some n → is_receiver n (crossed_if (is_some (receiver_of before c)) c) dev ≡ is_of_device (receiver_of before c) dev
 by_receiver n None c dev call row e = refl
 by_receiver n (Some m) c dev call row e = go c.after.bsy e
   where
-    none_or : (x : Option ℕ) → receiver_in m c ≡ x → is_receiver m (crossed_if (is_some x) c) dev ≡ is_receiving x dev
+    none_or : (x : Option ℕ) → receiver_in m c ≡ x → is_receiver m (crossed_if (is_some x) c) dev ≡ is_of_device x dev
     none_or None e = refl
-    none_or (Some d) e = ap (λ (x : Option ℕ). is_receiving x dev) e
+    none_or (Some d) e = ap (λ (x : Option ℕ). is_of_device x dev) e
 
-    go : (q : Bool) → (if q then Some m else None) ≡ Some n → is_receiver n (crossed_if (is_some (receiver_in m c)) c) dev ≡ is_receiving (receiver_in m c) dev
+    go : (q : Bool) → (if q then Some m else None) ≡ Some n → is_receiver n (crossed_if (is_some (receiver_in m c)) c) dev ≡ is_of_device (receiver_in m c) dev
     go true z = ap (λ (x : Connection). is_receiver x (crossed_if (is_some (receiver_in m c)) c) dev) (sym (same_Some m n z)) ∙ none_or (receiver_in m c) refl
     go false z = cc
 
-receiver_is : (rows : List Row) (n : Connection) (dev : ℕ) → connection rows ≡ Some n → is_receiver n (crossed rows) dev ≡ is_receiving (receiver rows) dev
+receiver_is : (rows : List Row) (n : Connection) (dev : ℕ) → connection rows ≡ Some n → is_receiver n (crossed rows) dev ≡ is_of_device (receiver rows) dev
 receiver_is [] n dev e = refl
 receiver_is (row ∷ rows) n dev e = by_receiver n (connection rows) (change_of rows row) dev (call rows) row e
 
@@ -90,7 +91,7 @@ end_is_due s rows dev latency n h g is_initiator is_target i t =
     let me = self_of k dev latency in
     let o = own_of rows dev in
     let p = run_state_plain s rows h.rows_are in
-    let q : is_receiver n k.story.bus_state.crossed dev ≡ is_receiving (receiver rows) dev = (λ j. is_receiver n (p.crossed j) dev) ∙ receiver_is rows n dev g.stands in
+    let q : is_receiver n k.story.bus_state.crossed dev ≡ is_of_device (receiver rows) dev = (λ j. is_receiver n (p.crossed j) dev) ∙ receiver_is rows n dev g.stands in
     linked s rows dev latency n h g
     ∙ (λ j. with_reset me o.rst (reset_from dev o.released s.resets) (hand.sample_due (q j) (p.last j) (flip_of k.faults (p.last j)) (if i j then hand.initiator_due (p.begun j) (p.sight j) (p.handshakes j) me (pace_of s k dev) (answering_of s k dev) else if t j then hand.target_due (p.begun j) (p.sight j) (p.handshakes j) me (pace_of s k dev) (offering_of s k dev) else None)))
 

@@ -8,12 +8,8 @@ use Rattle.bus_base.specs.declared.AbortKind.TheVariants as aborts
 use Rattle.bus_base.specs.declared.Event.{Event}
 use Rattle.bus_base.specs.declared.Event.TheVariants as events
 use Rattle.disk_array.specs.Processes.{same_id}
-use Rattle.disk_array.proofs.SeatLookups.{same_bool_self, same_id_is}
-use Rattle.bus_base.proofs.Tests.{eq_self}
+use Rattle.disk_array.proofs.SeatLookups.{same_id_is}
 use Rattle.bus_due.specs.Telling.{same_kind, same_event, same_events}
-
-pub id_self : (a : ProcId) → same_id a a ≡ true
-id_self a = λ i. eq_self a.command i && same_bool_self a.sense i
 
 pub kinds_are : (a b : AbortKind) → same_kind a b ≡ true → a ≡ b
 kinds_are aborts.All aborts.All e = refl

@@ -93,7 +93,7 @@ story_on f s k row d h e =
 
 -- ---- the books
 
-abbrev still_talk : Bool → Bool → Bool → Option HostDef → Hearing → Leaving → Exchange → Exchange
+abbrev pub still_talk : Bool → Bool → Bool → Option HostDef → Hearing → Leaving → Exchange → Exchange
 still_talk phase crosses fault h w l t = record {
   begun = phase || t.begun;
   speech = if phase then speech_in_phase h w t.speech else if crosses then speech_with_byte w t.speech else t.speech;

@@ -9,16 +9,13 @@ use Rattle.bus_reactions.specs.declared.due.Myself.{Myself}
 use Rattle.bus_reactions.specs.Ends as hand
 use Rattle.bus_due.specs.RunState.{RunState}
 use Rattle.bus_due.specs.Sights.{sight_of, pace_of, offering_of, answering_of, flip_of}
+use Rattle.bus_rules.specs.Order.{is_of_device}
 
 -- ---- faults: the receiver of the byte that crossed in the last row samples it at once
 
-abbrev pub is_receiving : Option ℕ → ℕ → Bool
-is_receiving None dev = false
-is_receiving (Some d) dev = d == dev
-
 abbrev pub is_receiver : Connection → Option Change → ℕ → Bool
 is_receiver n None dev = false
-is_receiver n (Some c) dev = is_receiving (receiver_in n c) dev
+is_receiver n (Some c) dev = is_of_device (receiver_in n c) dev
 
 abbrev pub target_end_due : ScenarioValue → RunState → Myself → Option Due
 target_end_due s k me =

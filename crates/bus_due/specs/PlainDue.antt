@@ -17,9 +17,9 @@ use Rattle.bus_dialogue.specs.Hearing.{begun}
 use Rattle.bus_due.specs.Own.{own_of}
 use Rattle.bus_due.specs.RunSteps.{run_state}
 use Rattle.bus_due.specs.Sights.{want_of, pace_of, offering_of, answering_of, flip_of}
-use Rattle.bus_due.specs.Connected.{is_receiving}
 use Rattle.bus_due.specs.Due.{self_of, reset_from}
 use Rattle.bus_due.specs.Plain.{AreOfDevices}
+use Rattle.bus_rules.specs.Order.{is_of_device}
 
 -- The rows are of the eight devices, of which this is one that the scenario has, with this latency.
 pub record IsThere (s : ScenarioValue) (rows : List Row) (dev latency : ℕ) : Type 0 where
@@ -49,7 +49,7 @@ link_reaction s rows dev latency =
 -- In a connection: its receiver samples a byte that crossed in the last row first.
 abbrev pub sampled_first : ScenarioValue → List Row → ℕ → Option Due → Option Due
 sampled_first s rows dev reaction =
-    sample_due (is_receiving (receiver rows) dev) (last_time rows) (flip_of (run_state s rows).faults (last_time rows)) reaction
+    sample_due (is_of_device (receiver rows) dev) (last_time rows) (flip_of (run_state s rows).faults (last_time rows)) reaction
 
 abbrev pub target_reaction : ScenarioValue → List Row → ℕ → ℕ → Option Due
 target_reaction s rows dev latency =

@@ -182,3 +182,7 @@ run_state_after s k row = run_state_by s k row (row_reading k.story.bus_state ro
 abbrev pub run_state : ScenarioValue → List Row → RunState
 run_state s [] = first_run_state s
 run_state s (row ∷ rows) = run_state_after s (run_state s rows) row
+
+-- The events that a row shows after these rows, the newest first.
+abbrev pub events_of_row : ScenarioValue → List Row → Row → List Event
+events_of_row s rows row = row_events_by s (run_state s rows).story (row_reading (run_state s rows).story.bus_state row) row

@@ -5,8 +5,9 @@ use Rattle.bus_trace.specs.Terms.{is_fault}
 use Rattle.scenario.specs.declared.value.FaultDef.{FaultDef}
 use Rattle.scenario.specs.Value.{ScenarioValue}
 use Rattle.disk_array.specs.Processes.{Process}
+use Rattle.disk_array.specs.Seats.{is_initiator}
 use Rattle.bus_story.specs.BusState.{RowReading}
-use Rattle.bus_story.specs.TraceHistory.{is_host, aim_of}
+use Rattle.bus_story.specs.TraceHistory.{aim_of}
 use Rattle.bus_lines.specs.declared.stage.Stage.{Stage}
 use Rattle.bus_reactions.specs.declared.sight.Sight.{Sight}
 use Rattle.bus_reactions.specs.declared.due.Want.{Want}
@@ -53,7 +54,7 @@ abbrev pub want_of : ScenarioValue → RunState → ℕ → Want
 want_of s k dev = record {
   since = want_time s k dev;
   callee = callee s k dev (aim_of k.story.aims dev);
-  reselects = not (is_host s.hosts dev);
+  reselects = not (is_initiator s.hosts dev);
   first = identify_byte (ready_of s k dev);
 }
 

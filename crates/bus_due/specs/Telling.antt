@@ -28,6 +28,11 @@ id_of None = None
 id_of (Some (process id)) = Some id
 id_of (Some (abort n)) = None
 
+-- Of no process the command is 0.
+abbrev pub id_or_none : Option ProcId → ProcId
+id_or_none None = record { command = 0; sense = false }
+id_or_none (Some id) = id
+
 abbrev pub target_events : ScenarioValue → RunState → Connection → Bool → List Event
 target_events s k n stands =
     leaving_events (serving_of s k n.target) n k.exchange.begun stands (bus_of k).atn (phase_of (bus_of k)) (id_of k.served)

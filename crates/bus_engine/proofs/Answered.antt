@@ -17,6 +17,7 @@ use Rattle.bus_story.specs.Outcomes.{Outcome, ending_of, has_end, outcome_if, ou
 use Rattle.bus_story.specs.Story.{Ending, Story, by_abort, by_loss, by_reset, by_status, unanswered}
 use Rattle.bus_story.specs.Right.{all_carried}
 use Rattle.bus_story.specs.TraceHistory.{story, trace_history}
+use Rattle.bus_story.specs.Items.{sense_id, command_id}
 use Rattle.bus_due.specs.Next.{IsEnded, IsPrompt}
 use Rattle.bus_due.specs.Plain.{IsPlain}
 use Rattle.bus_due.specs.RunState.{RunState, array_of, or_start}
@@ -28,8 +29,6 @@ use Rattle.progress_laws.proofs.Ended.{Joined, free_when_ended, unwanted_when_en
 use Rattle.progress_laws.proofs.QueuedTraces.{all_queued}
 use Rattle.right_laws.proofs.Right.{all_joined}
 use Rattle.initiator.specs.Causes.{has_status}
-use Rattle.initiator.specs.Endings.{sense_of}
-use Rattle.initiator.specs.Outcomes.{command_of}
 use Rattle.initiator.specs.Received.{undoes_no_byte}
 use Rattle.bus_members.specs.Answers.{are_answered, are_answered_from, are_replied_from, is_answered, is_replied, is_settled, sense_is_over}
 use Rattle.bus_engine.proofs.Checks.{checks_stand}
@@ -45,28 +44,28 @@ use Rattle.trace_laws.proofs.Tests.{plus_one}
 
 -- Its status is known; and where it ended with CHECK CONDITION its automatic REQUEST SENSE is over.
 pub record Endings (s : ScenarioValue) (k : RunState) : Type 0 where
-  pub known : (n status : ℕ) → has_status k.story.history (command_of n) status ≡ true → is_known status ≡ true
-  pub senses : (n : ℕ) (c : CmdDef) → command_at s.commands n ≡ Some c → has_status k.story.history (command_of n) CHECK_CONDITION ≡ true → sense_is_over s k.story n c ≡ true
+  pub known : (n status : ℕ) → has_status k.story.history (command_id n) status ≡ true → is_known status ≡ true
+  pub senses : (n : ℕ) (c : CmdDef) → command_at s.commands n ≡ Some c → has_status k.story.history (command_id n) CHECK_CONDITION ≡ true → sense_is_over s k.story n c ≡ true
 
-known_status : (s : ScenarioValue) (k : RunState) → HaveReplies s k → (n status : ℕ) → has_status k.story.history (command_of n) status ≡ true → is_known status ≡ true
+known_status : (s : ScenarioValue) (k : RunState) → HaveReplies s k → (n status : ℕ) → has_status k.story.history (command_id n) status ≡ true → is_known status ≡ true
 known_status s k h n status e =
-    let r = h.ends (command_of n) status e in
-    ap is_known r.status_is ∙ (h.given (command_of n) r.reply r.reply_is).known
+    let r = h.ends (command_id n) status e in
+    ap is_known r.status_is ∙ (h.given (command_id n) r.reply r.reply_is).known
 
 -- ---- a command
 
-settled : (s : ScenarioValue) (k : RunState) (n : ℕ) (c : CmdDef) → Endings s k → ((status : ℕ) → ending_of k.story.ended n ≡ Some (by_status status) → has_status k.story.history (command_of n) status ≡ true)
-    → command_at s.commands n ≡ Some c → is_some (ending_of k.story.ended n) ≡ true → is_settled (ending_of k.story.ended n) (has_end k.story.history (sense_of n)) (sense_is_over s k.story n c) ≡ true
+settled : (s : ScenarioValue) (k : RunState) (n : ℕ) (c : CmdDef) → Endings s k → ((status : ℕ) → ending_of k.story.ended n ≡ Some (by_status status) → has_status k.story.history (command_id n) status ≡ true)
+    → command_at s.commands n ≡ Some c → is_some (ending_of k.story.ended n) ≡ true → is_settled (ending_of k.story.ended n) (has_end k.story.history (sense_id n)) (sense_is_over s k.story n c) ≡ true
 settled s k n c h told at some = go (ending_of k.story.ended n) refl some
   where
-    check : (status : ℕ) → has_status k.story.history (command_of n) status ≡ true → (status == CHECK_CONDITION) ≡ true → has_status k.story.history (command_of n) CHECK_CONDITION ≡ true
-    check status e z = subst (λ (x : ℕ). has_status k.story.history (command_of n) x ≡ true) (eqb-true status CHECK_CONDITION z) e
+    check : (status : ℕ) → has_status k.story.history (command_id n) status ≡ true → (status == CHECK_CONDITION) ≡ true → has_status k.story.history (command_id n) CHECK_CONDITION ≡ true
+    check status e z = subst (λ (x : ℕ). has_status k.story.history (command_id n) x ≡ true) (eqb-true status CHECK_CONDITION z) e
 
-    go : (o : Option Ending) → ending_of k.story.ended n ≡ o → is_some o ≡ true → is_settled o (has_end k.story.history (sense_of n)) (sense_is_over s k.story n c) ≡ true
+    go : (o : Option Ending) → ending_of k.story.ended n ≡ o → is_some o ≡ true → is_settled o (has_end k.story.history (sense_id n)) (sense_is_over s k.story n c) ≡ true
     go None e z = wrong' z
     go (Some (by_status status)) e z =
         let has = told status e in
-        settled_status status (has_end k.story.history (sense_of n)) (sense_is_over s k.story n c) (h.known n status has) (λ w. h.senses n c at (check status has w))
+        settled_status status (has_end k.story.history (sense_id n)) (sense_is_over s k.story n c) (h.known n status has) (λ w. h.senses n c at (check status has w))
     go (Some by_loss) e z = refl
     go (Some by_reset) e z = refl
     go (Some by_abort) e z = refl
@@ -82,23 +81,23 @@ some_ended s b n e = go (ending_of b.ended n) e
     go (Some x) z = refl
 
 answered_from : (s : ScenarioValue) (b : Story) (n : ℕ) (commands : List CmdDef) → list_all (λ (o : Option Outcome). is_some o) (outcomes_from s b n commands) ≡ true → are_replied_from s b n commands ≡ true
-    → ((m : ℕ) (c : CmdDef) → command_at commands (suc m) ≡ Some c → is_some (ending_of b.ended (n + m)) ≡ true → is_settled (ending_of b.ended (n + m)) (has_end b.history (sense_of (n + m))) (sense_is_over s b (n + m) c) ≡ true)
+    → ((m : ℕ) (c : CmdDef) → command_at commands (suc m) ≡ Some c → is_some (ending_of b.ended (n + m)) ≡ true → is_settled (ending_of b.ended (n + m)) (has_end b.history (sense_id (n + m))) (sense_is_over s b (n + m) c) ≡ true)
     → are_answered_from s b n commands ≡ true
 answered_from s b n [] some replied h = refl
 answered_from s b n (c ∷ commands) some replied h =
     let all = and_parts (is_some (outcome_of s b n)) (list_all (λ (o : Option Outcome). is_some o) (outcomes_from s b (n + 1) commands)) some in
     let came = and_parts (is_replied s b n c) (are_replied_from s b (n + 1) commands) replied in
-    let here : is_settled (ending_of b.ended n) (has_end b.history (sense_of n)) (sense_is_over s b n c) ≡ true =
-    subst (λ (x : ℕ). is_some (ending_of b.ended x) ≡ true → is_settled (ending_of b.ended x) (has_end b.history (sense_of x)) (sense_is_over s b x c) ≡ true) (plus_none n) (h 0 c refl) (some_ended s b n all.0) in
+    let here : is_settled (ending_of b.ended n) (has_end b.history (sense_id n)) (sense_is_over s b n c) ≡ true =
+    subst (λ (x : ℕ). is_some (ending_of b.ended x) ≡ true → is_settled (ending_of b.ended x) (has_end b.history (sense_id x)) (sense_is_over s b x c) ≡ true) (plus_none n) (h 0 c refl) (some_ended s b n all.0) in
     and_from (is_answered s b n c) (are_answered_from s b (n + 1) commands)
-    (and_from (is_settled (ending_of b.ended n) (has_end b.history (sense_of n)) (sense_is_over s b n c)) (is_replied s b n c) here came.0)
+    (and_from (is_settled (ending_of b.ended n) (has_end b.history (sense_id n)) (sense_is_over s b n c)) (is_replied s b n c) here came.0)
     (answered_from s b (n + 1) commands all.1 came.1
-    (λ m d at. subst (λ (x : ℕ). is_some (ending_of b.ended x) ≡ true → is_settled (ending_of b.ended x) (has_end b.history (sense_of x)) (sense_is_over s b x d) ≡ true) (plus_one n m) (h (suc m) d at)))
+    (λ m d at. subst (λ (x : ℕ). is_some (ending_of b.ended x) ≡ true → is_settled (ending_of b.ended x) (has_end b.history (sense_id x)) (sense_is_over s b x d) ≡ true) (plus_one n m) (h (suc m) d at)))
 
 -- ---- the trace
 
 pub all_answered : (s : ScenarioValue) (p : List Row) → Obeys s → IsPrompt s p → Joined s p → IsEnded s p
-    → ((n status : ℕ) → ending_of (run_state s p).story.ended n ≡ Some (by_status status) → has_status (run_state s p).story.history (command_of n) status ≡ true)
+    → ((n status : ℕ) → ending_of (run_state s p).story.ended n ≡ Some (by_status status) → has_status (run_state s p).story.history (command_id n) status ≡ true)
     → all_carried s (story s p) (trace_history s p) ≡ true → are_answered s p ≡ true
 all_answered s p o prompt j end told carried =
     and_from (undoes_no_byte s p) (are_answered_from s k.story 1 s.commands) (no_byte_undone s p o prompt)
@@ -120,7 +119,7 @@ all_answered s p o prompt j end told carried =
     haves = record {
       plays = plays;
       given = all_given s k.story.history (array_of s k) o plays;
-      there = λ n c at ran. ran_there s p o prompt (command_of n) (process_by s (command_of n) c) (ap (process_if s (command_of n)) at) ran;
+      there = λ n c at ran. ran_there s p o prompt (command_id n) (process_by s (command_id n) c) (ap (process_if s (command_id n)) at) ran;
       ends = λ id status e. end_reply s k id status (h.whole.statuses.areas.areas id) (end_found s k k.story.history id status (all_ended s p o prompt (all_joined s p o prompt)) e);
       senses = h.books.fetched;
       told = told;
@@ -143,5 +142,5 @@ all_answered s p o prompt j end told carried =
     }
 
     each : (m : ℕ) (c : CmdDef) → command_at s.commands (suc m) ≡ Some c → is_some (ending_of k.story.ended (1 + m)) ≡ true
-        → is_settled (ending_of k.story.ended (1 + m)) (has_end k.story.history (sense_of (1 + m))) (sense_is_over s k.story (1 + m) c) ≡ true
+        → is_settled (ending_of k.story.ended (1 + m)) (has_end k.story.history (sense_id (1 + m))) (sense_is_over s k.story (1 + m) c) ≡ true
     each m c at some = settled s k (1 + m) c endings (told (1 + m)) (ap (λ (x : ℕ). command_at s.commands x) (one-add m) ∙ at) some

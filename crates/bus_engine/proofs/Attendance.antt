@@ -14,27 +14,28 @@ use Rattle.bus_trace.specs.Trace.{bus}
 use Rattle.cdb_codec.specs.declared.status.TheConstants.{GOOD}
 use Rattle.scenario.specs.Value.{ScenarioValue}
 use Rattle.disk_array.specs.Processes.{Process}
+use Rattle.disk_array.specs.ArrayHistory.{shows_run}
 use Rattle.bus_story.specs.BusState.{RowReading, row_reading}
 use Rattle.bus_story.specs.Items.{Item, process}
 use Rattle.bus_due.specs.Next.{IsPrompt}
 use Rattle.bus_due.specs.Plain.{AreOfDevices, IsPlain}
 use Rattle.bus_due.specs.RunState.{RunState, array_of, process_served}
-use Rattle.bus_due.specs.RunSteps.{run_state}
+use Rattle.bus_due.specs.RunSteps.{run_state, events_of_row}
 use Rattle.bus_due.specs.Tasks.{is_writing}
 use Rattle.bus_due.proofs.Plains.{run_state_plain, of_devices}
 use Rattle.scsi_device.specs.Heard.{Instructions, instructions, is_opening}
 use Rattle.scsi_device.specs.Writes.{Writer, is_writer, writer_of, writers}
-use Rattle.target_course.specs.Replies.{is_run as shows_is, shows_run}
-use Rattle.disk_target.specs.Attended.{are_in, are_known_ends, attended, came, ends_good, is_abort_in, is_attended, is_attended_if, is_attended_in, is_calm_turn, is_empty, is_known_end, is_of_item, is_quiet, is_unseen, is_whole_of, is_whole_run}
+use Rattle.disk_target.specs.Attended.{are_in, are_known_ends, attended, came, ends_good, is_abort_in, is_attended, is_attended_if, is_attended_in, is_calm_turn, is_known_end, is_of_item, is_quiet, is_unseen, is_whole_of, is_whole_run}
 use Rattle.bus_books.proofs.Lookups.{self_id}
 use Rattle.bus_laws.proofs.Apart.{change_plain}
 use Rattle.bus_laws.proofs.Prompt.{least_is}
-use Rattle.trace_laws.specs.Attendance.{AreShown, IsShown, ShowsIn, accepts, refuses, runs, fails, ends, loses, aborts, events_of}
-use Rattle.trace_laws.specs.RunsWhole.{IsWhole, RunsWhole, ends_badly, has_run, is_run, sends_all, sends_none}
+use Rattle.trace_laws.specs.Attendance.{AreShown, IsShown, ShowsIn, accepts, refuses, runs, fails, ends, loses, aborts}
+use Rattle.trace_laws.specs.RunsWhole.{IsWhole, RunsWhole, ends_badly, sends_all, sends_none}
 use Rattle.trace_laws.specs.RowAttendance.{IsAttended, IsCalmTurn}
 use Rattle.trace_laws.proofs.WholeRuns.{sent_all}
 use Rattle.std.proofs.lemmas.Bool.{or_right, and_from, lt-ltb, eq-eqb}
 use Rattle.bus_base.proofs.Tests.{wrong, or_true, implication, unless, or_middle}
+use Rattle.bus_dialogue.specs.Events.{is_empty}
 
 -- ---- its events
 
@@ -75,7 +76,7 @@ all_known k n known (e ∷ shown) h = and_from _ _ (event_known k n known e h.0)
 
 -- ---- the opening
 
-quiet : (s : ScenarioValue) (rows : List Row) (row : Row) (n : Connection) → ShowsIn s rows row n → is_quiet s (run_state s rows) n (is_some (row_reading (run_state s rows).story.bus_state row).next) (events_of s rows row) ≡ true
+quiet : (s : ScenarioValue) (rows : List Row) (row : Row) (n : Connection) → ShowsIn s rows row n → is_quiet s (run_state s rows) n (is_some (row_reading (run_state s rows).story.bus_state row).next) (events_of_row s rows row) ≡ true
 quiet s rows row n h = go n.reselected refl (is_opening k) refl next refl
   where
     k : RunState
@@ -84,42 +85,28 @@ quiet s rows row n h = go n.reselected refl (is_opening k) refl next refl
     next : Option Connection
     next = (row_reading k.story.bus_state row).next
 
-    go : (q : Bool) → n.reselected ≡ q → (r : Bool) → is_opening k ≡ r → (o : Option Connection) → next ≡ o → (n.reselected || not (is_opening k) || (if is_some next then is_empty (events_of s rows row) else is_unseen (array_of s k) (process_served s k))) ≡ true
-    go true e r f o g = λ i. e i || not (is_opening k) || (if is_some next then is_empty (events_of s rows row) else is_unseen (array_of s k) (process_served s k))
+    go : (q : Bool) → n.reselected ≡ q → (r : Bool) → is_opening k ≡ r → (o : Option Connection) → next ≡ o → (n.reselected || not (is_opening k) || (if is_some next then is_empty (events_of_row s rows row) else is_unseen (array_of s k) (process_served s k))) ≡ true
+    go true e r f o g = λ i. e i || not (is_opening k) || (if is_some next then is_empty (events_of_row s rows row) else is_unseen (array_of s k) (process_served s k))
     go false e false f o g = or_middle n.reselected (not (is_opening k)) _ (ap not f)
     go false e true f None g =
-        unless (n.reselected || not (is_opening k)) _ (λ z. ap (λ (x : Option Connection). if is_some x then is_empty (events_of s rows row) else is_unseen (array_of s k) (process_served s k)) g ∙ ap (is_unseen (array_of s k)) (h.ends_alone e f g))
+        unless (n.reselected || not (is_opening k)) _ (λ z. ap (λ (x : Option Connection). if is_some x then is_empty (events_of_row s rows row) else is_unseen (array_of s k) (process_served s k)) g ∙ ap (is_unseen (array_of s k)) (h.ends_alone e f g))
     go false e true f (Some m) g =
         let some : is_some next ≡ true = ap (λ (x : Option Connection). is_some x) g in
-        unless (n.reselected || not (is_opening k)) _ (λ z. (λ i. if some i then is_empty (events_of s rows row) else is_unseen (array_of s k) (process_served s k)) ∙ ap is_empty (h.silent e f some))
+        unless (n.reselected || not (is_opening k)) _ (λ z. (λ i. if some i then is_empty (events_of_row s rows row) else is_unseen (array_of s k) (process_served s k)) ∙ ap is_empty (h.silent e f some))
 
 -- ---- a process that runs
-
-shows_same : (shown : List Event) → shows_run shown ≡ has_run shown
-shows_same [] = refl
-shows_same (e ∷ shown) = λ i. same e i || shows_same shown i
-  where
-    same : (x : Event) → shows_is x ≡ is_run x
-    same (events.Run id) = refl
-    same (events.Accept id) = refl
-    same (events.Refuse id) = refl
-    same (events.Fail id code) = refl
-    same (events.End id status) = refl
-    same (events.Lost id) = refl
-    same (events.Aborted host target unit what) = refl
-    same (events.Reset dev) = refl
 
 whole_is : (s : ScenarioValue) (k : RunState) (all : List Writer) (p : Process) → IsWhole s k all p → is_whole_run s k all (Some p) ≡ true
 whole_is s k all p (ends_badly e) = λ i. not (e i) || is_whole_of s k all p
 whole_is s k all p (sends_none e) = or_right (not (ends_good (array_of s k) p)) (is_whole_of s k all p) (λ i. e i == 0 || (is_writing p && (is_writer (writer_of all p.target p.unit) p.id && nat_le (length p.sent) (came s k p))))
 whole_is s k all p (sends_all h) = or_right (not (ends_good (array_of s k) p)) (is_whole_of s k all p) (or_right (length p.sent == 0) _ (sent_all s k all p h))
 
-whole_served : (s : ScenarioValue) (rows : List Row) (row : Row) (n : Connection) → RunsWhole s rows row → connection rows ≡ Some n → (bus rows).rst ≡ false → (bus (row ∷ rows)).rst ≡ false → shows_run (events_of s rows row) ≡ true → is_whole_run s (run_state s rows) (writers s rows) (process_served s (run_state s rows)) ≡ true
+whole_served : (s : ScenarioValue) (rows : List Row) (row : Row) (n : Connection) → RunsWhole s rows row → connection rows ≡ Some n → (bus rows).rst ≡ false → (bus (row ∷ rows)).rst ≡ false → shows_run (events_of_row s rows row) ≡ true → is_whole_run s (run_state s rows) (writers s rows) (process_served s (run_state s rows)) ≡ true
 whole_served s rows row n whole con calm off shows = go (process_served s (run_state s rows)) refl
   where
     go : (o : Option Process) → process_served s (run_state s rows) ≡ o → is_whole_run s (run_state s rows) (writers s rows) o ≡ true
     go None e = refl
-    go (Some p) e = whole_is s (run_state s rows) (writers s rows) p (whole n p con calm off (sym (shows_same (events_of s rows row)) ∙ shows) e)
+    go (Some p) e = whole_is s (run_state s rows) (writers s rows) p (whole n p con calm off shows e)
 
 -- ---- a phase is left
 
@@ -142,7 +129,7 @@ calm_is d h = where_left (not (is_some d.next)) (not (changes_phase d.change)) (
 -- ---- the row
 
 pub row_attended : (s : ScenarioValue) (rows : List Row) (row : Row) → AreOfDevices rows → row.dev < 8 → IsAttended s rows row → is_attended s (run_state s rows) row (row_reading (run_state s rows).story.bus_state row) (instructions s rows) (writers s rows) ≡ true
-row_attended s rows row dv lt h = ap (is_attended_if s k d i all (events_of s rows row)) pl.connection ∙ go (connection rows) refl
+row_attended s rows row dv lt h = ap (is_attended_if s k d i all (events_of_row s rows row)) pl.connection ∙ go (connection rows) refl
   where
     k : RunState
     k = run_state s rows
@@ -168,18 +155,18 @@ row_attended s rows row dv lt h = ap (is_attended_if s k d i all (events_of s ro
     after : (bus (row ∷ rows)).rst ≡ d.change.after.rst
     after = ap (λ (x : Change). x.after.rst) (sym c)
 
-    inside : (n : Connection) → connection rows ≡ Some n → (bus rows).rst ≡ false → (bus (row ∷ rows)).rst ≡ false → is_attended_in s k d i all (events_of s rows row) n ≡ true
+    inside : (n : Connection) → connection rows ≡ Some n → (bus rows).rst ≡ false → (bus (row ∷ rows)).rst ≡ false → is_attended_in s k d i all (events_of_row s rows row) n ≡ true
     inside n con calm off =
         let w = h.shows.inside n con calm off in
-        and_from _ _ (all_in k n i.known (events_of s rows row) w.shown)
-        (and_from _ _ (all_known k n i.known (events_of s rows row) w.shown)
-        (and_from _ _ (quiet s rows row n w) (implication (shows_run (events_of s rows row)) _ (whole_served s rows row n h.whole con calm off))))
+        and_from _ _ (all_in k n i.known (events_of_row s rows row) w.shown)
+        (and_from _ _ (all_known k n i.known (events_of_row s rows row) w.shown)
+        (and_from _ _ (quiet s rows row n w) (implication (shows_run (events_of_row s rows row)) _ (whole_served s rows row n h.whole con calm off))))
 
-    by : (n : Connection) → connection rows ≡ Some n → d.change.after.rst ≡ false → (q : Bool) → d.change.before.rst ≡ q → (if d.change.before.rst then is_empty (events_of s rows row) else is_attended_in s k d i all (events_of s rows row) n) ≡ true
-    by n con off true on = (λ j. if on j then is_empty (events_of s rows row) else is_attended_in s k d i all (events_of s rows row) n) ∙ ap is_empty (h.shows.after_reset n con (before ∙ on) (after ∙ off)).none
-    by n con off false calm = (λ j. if calm j then is_empty (events_of s rows row) else is_attended_in s k d i all (events_of s rows row) n) ∙ inside n con (before ∙ calm) (after ∙ off)
+    by : (n : Connection) → connection rows ≡ Some n → d.change.after.rst ≡ false → (q : Bool) → d.change.before.rst ≡ q → (if d.change.before.rst then is_empty (events_of_row s rows row) else is_attended_in s k d i all (events_of_row s rows row) n) ≡ true
+    by n con off true on = (λ j. if on j then is_empty (events_of_row s rows row) else is_attended_in s k d i all (events_of_row s rows row) n) ∙ ap is_empty (h.shows.after_reset n con (before ∙ on) (after ∙ off)).none
+    by n con off false calm = (λ j. if calm j then is_empty (events_of_row s rows row) else is_attended_in s k d i all (events_of_row s rows row) n) ∙ inside n con (before ∙ calm) (after ∙ off)
 
-    go : (o : Option Connection) → connection rows ≡ o → is_attended_if s k d i all (events_of s rows row) o ≡ true
+    go : (o : Option Connection) → connection rows ≡ o → is_attended_if s k d i all (events_of_row s rows row) o ≡ true
     go None e = refl
     go (Some n) e = and_from _ _ (calm_is d h.turn) (unless d.change.after.rst _ (λ off. by n e off d.change.before.rst refl))
 

@@ -31,12 +31,11 @@ use Rattle.disk_array.specs.Steps as Steps
 use Rattle.disk_array.specs.Units.{Array, RunningProcess, UnitState, guest_at, is_held, nexus_of, unit_state_at}
 use Rattle.disk_array.specs.SoundArray.{IsSound}
 use Rattle.disk_array.proofs.SoundArrays.{history_sound}
-use Rattle.disk_array.proofs.ArrayReplies.{abort_lists, fail_lists, loss_lists, reset_lists, took}
+use Rattle.disk_array.proofs.ArrayReplies.{abort_lists, fail_lists, loss_lists, reset_lists, took, end_lists}
 use Rattle.bus_story.specs.Right.{has_run, is_run_of}
 use Rattle.bus_books.proofs.Lookups.{id_is}
-use Rattle.trace_laws.proofs.ListedReplies.{accepted, end_lists, refused, settles}
+use Rattle.trace_laws.proofs.ListedReplies.{accepted, refused, settles, running_id}
 use Rattle.trace_laws.proofs.OtherProcesses.{executed, reply_at}
-use Rattle.trace_laws.proofs.EachProcess.{running_id}
 use Rattle.trace_laws.proofs.Impossible.{none_some}
 use Rattle.progress_laws.proofs.FetchedSenses.{sense_cdb}
 use Rattle.progress_laws.proofs.OwedEvents.{running_own}

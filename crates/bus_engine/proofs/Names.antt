@@ -20,7 +20,7 @@ use Rattle.disk_array.specs.Processes.{Process, process_of}
 use Rattle.disk_array.specs.Steps.{process_count, with_guest, with_listed_reply, queue_step, accept_step_at, accept_step, refuse_step_at, refuse_step, context_at, with_contents, without_attention, units_with_reply, with_reply, running_process, after_execution, run_step, is_waiting, has_ended, fail_step_of_new, fail_step, units_without, array_without, after_status, end_step_with, end_step, loss_step, kept_units, without_dropped, is_of_unit, has_tag, unit_processes, kept_nexuses, kept_senses, abort_step, reset_step, event_step, settled_array_if, step}
 use Rattle.disk_array.specs.Units.{RunningProcess, UnitState, Nexus, Array, senses_without, nexuses_without, unit_state_at, with_unit, guest_at, nexus_of, is_held, has_no_current, with_current, unit_after_choice, units_after_choice, settled_array, starting_units, starting_array}
 use Rattle.disk_array.specs.ArrayHistory.{array_step, array_after}
-use Rattle.initiator.proofs.NoUnits.{cleared_units, unit_reset_units}
+use Rattle.disk_array.proofs.ArrayUnits.{cleared_units, unit_reset_units}
 
 abbrev pub names : List UnitState → List (ℕ × ℕ)
 names [] = []

@@ -6,7 +6,7 @@ use Rattle.std.proofs.lemmas.Bool.{and_from, eq-eqb, eqb-true, or_left}
 use Rattle.bus_base.specs.declared.Event.{Event}
 use Rattle.bus_base.specs.declared.Event.TheVariants as events
 use Rattle.bus_base.specs.declared.ProcId.{ProcId}
-use Rattle.bus_base.proofs.Tests.{and_first, and_second, implication, implied, nil_of, plus_none, wrong', eq_self}
+use Rattle.bus_base.proofs.Tests.{and_first, and_second, implication, implied, nil_of, plus_none, wrong', eq_self, middle}
 use Rattle.cdb_codec.specs.Cdb as Cdb
 use Rattle.cdb_codec.specs.declared.replies.TheConstants.{SENSE_LEN}
 use Rattle.cdb_codec.specs.declared.status.TheConstants.{GOOD}
@@ -21,18 +21,16 @@ use Rattle.bus_story.specs.CarriedBytes.{CarriedBytes, carried_of}
 use Rattle.bus_story.specs.Outcomes.{ending_of, has_end, is_end_of, reply_bytes_if}
 use Rattle.bus_story.specs.Right.{all_carried, carried_by, has_run, is_carried, moved_bytes, same_bytes}
 use Rattle.bus_story.specs.Story.{Ending, Story, by_abort, by_loss, by_reset, by_status, unanswered}
+use Rattle.bus_story.specs.Items.{sense_id, command_id}
 use Rattle.bus_due.specs.RunState.{RunState, array_of}
 use Rattle.bus_books.proofs.Lookups.{id_is}
-use Rattle.target_course.proofs.CourseAgrees.{bytes_are}
+use Rattle.bus_story.proofs.SameBytes.{bytes_are}
 use Rattle.right_laws.proofs.Carried.{same_is}
 use Rattle.initiator.specs.Causes.{has_status, is_status_of}
-use Rattle.initiator.specs.Endings.{sense_of}
-use Rattle.initiator.specs.Outcomes.{command_of}
 use Rattle.initiator.specs.Received.{room_of}
 use Rattle.bus_members.specs.Answers.{are_replied_from, is_good, is_replied, is_reply}
 use Rattle.bus_engine.proofs.EndStatuses.{HasReply}
 use Rattle.bus_engine.proofs.ListedReplies.{AreGiven}
-use Rattle.ending_causes.proofs.Traces.{middle}
 use Rattle.trace_laws.proofs.Tests.{plus_one}
 
 -- ---- what came, as far as there is room
@@ -104,10 +102,10 @@ came_is s k n q c r status at plays given ran e few =
 pub record HaveReplies (s : ScenarioValue) (k : RunState) : Type 0 where
   pub plays : array_after s k.story.history ≡ Some (array_of s k)
   pub given : AreGiven s k.story.history (array_of s k).replies
-  pub there : (n : ℕ) (c : CmdDef) → command_at s.commands n ≡ Some c → has_run k.story.history (command_of n) ≡ true → has_target s c.target ≡ true
+  pub there : (n : ℕ) (c : CmdDef) → command_at s.commands n ≡ Some c → has_run k.story.history (command_id n) ≡ true → has_target s c.target ≡ true
   pub ends : (id : ProcId) (status : ℕ) → has_status k.story.history id status ≡ true → HasReply s k id status
-  pub senses : (n : ℕ) (r : Reply) → reply_in (array_of s k).replies (sense_of n) ≡ Some r → r.status ≡ GOOD
-  pub told : (n status : ℕ) → ending_of k.story.ended n ≡ Some (by_status status) → has_status k.story.history (command_of n) status ≡ true
+  pub senses : (n : ℕ) (r : Reply) → reply_in (array_of s k).replies (sense_id n) ≡ Some r → r.status ≡ GOOD
+  pub told : (n status : ℕ) → ending_of k.story.ended n ≡ Some (by_status status) → has_status k.story.history (command_id n) status ≡ true
 
 came_good : (s : ScenarioValue) (k : RunState) (n : ℕ) (q : Bool) (c : CmdDef) (status : ℕ) → HaveReplies s k → command_at s.commands n ≡ Some c → all_carried s k.story k.story.history ≡ true
     → has_status k.story.history (record { command = n; sense = q }) status ≡ true → ((r : Reply) → reply_in (array_of s k).replies (record { command = n; sense = q }) ≡ Some r → status ≡ r.status → (r.status == GOOD) ≡ true)
@@ -121,13 +119,13 @@ came_good s k n q c status h at all e good few =
 -- ---- a command
 
 ended_good : (s : ScenarioValue) (k : RunState) (n : ℕ) (c : CmdDef) → HaveReplies s k → command_at s.commands n ≡ Some c → all_carried s k.story k.story.history ≡ true
-    → is_good (ending_of k.story.ended n) ≡ true → is_reply s k.story c (command_of n) ≡ true
+    → is_good (ending_of k.story.ended n) ≡ true → is_reply s k.story c (command_id n) ≡ true
 ended_good s k n c h at all e = go (ending_of k.story.ended n) refl e
   where
-    few : (r : Reply) → reply_in (array_of s k).replies (command_of n) ≡ Some r → has_run k.story.history (command_of n) ≡ true → length r.bytes ≤ room_of s c false
-    few r given ran = (h.given (command_of n) r given).room refl c at (h.there n c at ran)
+    few : (r : Reply) → reply_in (array_of s k).replies (command_id n) ≡ Some r → has_run k.story.history (command_id n) ≡ true → length r.bytes ≤ room_of s c false
+    few r given ran = (h.given (command_id n) r given).room refl c at (h.there n c at ran)
 
-    go : (o : Option Ending) → ending_of k.story.ended n ≡ o → is_good o ≡ true → is_reply s k.story c (command_of n) ≡ true
+    go : (o : Option Ending) → ending_of k.story.ended n ≡ o → is_good o ≡ true → is_reply s k.story c (command_id n) ≡ true
     go None z f = wrong' f
     go (Some (by_status status)) z f = came_good s k n false c status h at all (h.told n status z) (λ r given same. ap (λ (x : ℕ). x == GOOD) (sym same) ∙ f) few
     go (Some by_loss) z f = wrong' f
@@ -165,16 +163,16 @@ end_status (x ∷ history) id e = go (is_end_of id x) refl e (λ z. end_status h
     go false z f rest = later (rest f)
 
 sensed_good : (s : ScenarioValue) (k : RunState) (n : ℕ) (c : CmdDef) → HaveReplies s k → command_at s.commands n ≡ Some c → all_carried s k.story k.story.history ≡ true
-    → has_end k.story.history (sense_of n) ≡ true → is_reply s k.story c (sense_of n) ≡ true
+    → has_end k.story.history (sense_id n) ≡ true → is_reply s k.story c (sense_id n) ≡ true
 sensed_good s k n c h at all e =
-    let w = end_status k.story.history (sense_of n) e in
-    came_good s k n true c w.status h at all w.has (λ r given same. eq-eqb r.status GOOD (h.senses n r given)) (λ r given ran. (h.given (sense_of n) r given).few refl)
+    let w = end_status k.story.history (sense_id n) e in
+    came_good s k n true c w.status h at all w.has (λ r given same. eq-eqb r.status GOOD (h.senses n r given)) (λ r given ran. (h.given (sense_id n) r given).few refl)
 
 replied : (s : ScenarioValue) (k : RunState) (n : ℕ) (c : CmdDef) → HaveReplies s k → command_at s.commands n ≡ Some c → all_carried s k.story k.story.history ≡ true → is_replied s k.story n c ≡ true
 replied s k n c h at all =
-    and_from (not (is_good (ending_of k.story.ended n)) || is_reply s k.story c (command_of n)) (not (has_end k.story.history (sense_of n)) || is_reply s k.story c (sense_of n))
-    (implication (is_good (ending_of k.story.ended n)) (is_reply s k.story c (command_of n)) (ended_good s k n c h at all))
-    (implication (has_end k.story.history (sense_of n)) (is_reply s k.story c (sense_of n)) (sensed_good s k n c h at all))
+    and_from (not (is_good (ending_of k.story.ended n)) || is_reply s k.story c (command_id n)) (not (has_end k.story.history (sense_id n)) || is_reply s k.story c (sense_id n))
+    (implication (is_good (ending_of k.story.ended n)) (is_reply s k.story c (command_id n)) (ended_good s k n c h at all))
+    (implication (has_end k.story.history (sense_id n)) (is_reply s k.story c (sense_id n)) (sensed_good s k n c h at all))
 
 -- ---- all commands
 

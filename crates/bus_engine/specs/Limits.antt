@@ -1,12 +1,7 @@
 -- How many rows a run may have.
-use Rattle.std.specs.Prelude.{ℕ, min, ◌*◌, ◌/◌, ◌-◌, ◌^◌, Option, Some, None}
+use Rattle.std.specs.Prelude.{ℕ, min, ◌*◌, ◌/◌, ◌-◌, ◌^◌}
 use Rattle.scenario.specs.Value.{ScenarioValue}
 use Rattle.bus_story.specs.Budget.{budget}
-
--- How many blocks a command names that reads or writes some.
-abbrev pub blocks_in : Option (ℕ × ℕ) → Option ℕ
-blocks_in None = None
-blocks_in (Some range) = Some range.1
 
 -- Each row asks the eight devices, so a row takes eight steps of the budget. No scenario within the limits of its text has a
 -- budget that is cut here.

@@ -10,11 +10,12 @@ ghost use Rattle.scenario.specs.Writing.{Obeys};
 ghost use Rattle.cdb_codec.specs.Cdb.{command_of};
 ghost use Rattle.disk_array.specs.Execution.{range_of};
 ghost use Rattle.bus_story.specs.Budget.{runs_of, runs_at, data_runs, bytes_of_all, longest_need, runs_of_all, bytes_bound, runs_bound};
-ghost use Rattle.bus_engine.specs.Limits.{blocks_in, row_limit};
+ghost use Rattle.bus_engine.specs.Limits.{row_limit};
+ghost use Rattle.bus_due.specs.Tasks.{blocks_in};
 
 use bus_base::Dev;
 use cdb_codec::{Command, blocks_moved, from_cdb};
-use scenario::{CmdDef, Policy, Scenario, TargetDef, need, needs_are_bounded};
+use scenario::{CmdDef, Policy, Scenario, TargetDef, need, needs_are_bounded, target_line};
 use scsi_device::scenarios_fit_the_bus;
 use target_course::runs_in;
 
@@ -45,18 +46,6 @@ fn runs_of(policy: Policy, cdb: &[u8]) -> u64
         Ok(command) => runs_in(policy, blocks_of(&command)),
         Err(_) => 0,
     }
-}
-
-// The line of a target.
-fn target_line(targets: &[TargetDef], dev: Dev) -> Option<TargetDef>
-    ensures { result ≡ find (λ (t : TargetLine). t.dev == dev) targets.now }
-{
-    for def in targets {
-        if def.dev == dev {
-            return Some(*def);
-        }
-    }
-    None
 }
 
 fn runs_at(target: Option<TargetDef>, command: &CmdDef) -> u64

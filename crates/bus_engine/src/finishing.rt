@@ -7,8 +7,8 @@ ghost use Rattle.scenario.specs.declared.value.CmdDef.{CmdDef as CmdLine};
 ghost use Rattle.scenario.specs.Value.{ScenarioValue};
 ghost use Rattle.disk_array.specs.Contents.{Contents};
 ghost use Rattle.disk_array.specs.Processes.{command_at};
+ghost use Rattle.disk_array.specs.Seats.{is_initiator};
 ghost use Rattle.bus_story.specs.Outcomes.{outcome_of, outcomes};
-ghost use Rattle.bus_story.specs.TraceHistory.{is_host};
 ghost use Rattle.bus_due.specs.RunSteps.{run_state};
 ghost use Rattle.scsi_device.specs.Lines.{FitsBus};
 ghost use Rattle.initiator.specs.declared.outcome.Outcome.{Outcome as OutcomeValue};
@@ -53,7 +53,7 @@ fn known(outcome: Option<Outcome>) -> Outcome
 fn outcome_in(place: &mut Option<Member>, alloc: Global, number: u16) -> Outcome
     ensures told { (s : ScenarioValue) (rows : List TraceRow) (dev : ℕ) (c : CmdLine)
         → IsPlaceOver s rows dev number place.old → command_at s.commands number ≡ Some c → c.host ≡ dev
-        → is_host s.hosts dev ≡ true → undoes_no_byte s rows ≡ true
+        → is_initiator s.hosts dev ≡ true → undoes_no_byte s rows ≡ true
         → is_answered s (run_state s rows).story number c ≡ true
         → told_reply result ≡ outcome_of s (run_state s rows).story number }
     ensures over { (s : ScenarioValue) (rows : List TraceRow) (dev first : ℕ) → first ≤ number + 1
@@ -75,7 +75,7 @@ fn outcome_at(
     requires eight { length places.old ≡ 8 }
     requires host { command.now.host < 8 }
     ensures told { (s : ScenarioValue) (rows : List TraceRow) → AreOver s rows number places.old
-        → command_at s.commands number ≡ Some command.now → is_host s.hosts command.now.host ≡ true
+        → command_at s.commands number ≡ Some command.now → is_initiator s.hosts command.now.host ≡ true
         → undoes_no_byte s rows ≡ true → is_answered s (run_state s rows).story number command.now ≡ true
         → told_reply result ≡ outcome_of s (run_state s rows).story number }
     ensures over { (s : ScenarioValue) (rows : List TraceRow) → AreOver s rows number places.old

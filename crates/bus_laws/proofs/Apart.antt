@@ -1,6 +1,6 @@
 -- What a row of lines does to the wishes of the devices, where no connection stands before it or after it.
-use Rattle.std.proofs.Common.{ℕ, ◌≡◌, ◌<◌, Bool, true, false, not, ◌&&◌, ◌∙◌, List, [], ◌∷◌, Option, Some, None, refl, ap}
-use Rattle.std.specs.Prelude.{if◌then◌else◌, is_none, nat_lt}
+use Rattle.std.proofs.Common.{ℕ, ◌≡◌, ◌<◌, Bool, true, false, not, ◌&&◌, ◌∙◌, List, [], ◌∷◌, Option, None, refl, ap}
+use Rattle.std.specs.Prelude.{if◌then◌else◌, is_none}
 use Rattle.bus_base.specs.declared.Event.{Event}
 use Rattle.bus_base.specs.declared.Event.TheVariants as events
 use Rattle.bus_trace.specs.LineSet.{LineSet}
@@ -9,16 +9,15 @@ use Rattle.bus_trace.specs.Trace.{drives, bus}
 use Rattle.bus_trace.specs.declared.changes.Change.{Change}
 use Rattle.bus_trace.specs.declared.arbitration.Arbitration.{Arbitration}
 use Rattle.bus_trace.specs.declared.selection.Call.{Call}
-use Rattle.bus_trace.specs.declared.selection.Calling.{Calling}
 use Rattle.bus_trace.specs.Changes.{rises, falls, change_of}
 use Rattle.bus_trace.specs.Terms.{connection_after}
 use Rattle.scenario.specs.Value.{ScenarioValue}
 use Rattle.bus_story.specs.BusState.{RowReading, change_by, row_reading}
 use Rattle.bus_story.specs.Links.{Link}
-use Rattle.bus_story.specs.Items.{Item, process, abort, count_item}
 use Rattle.bus_story.specs.Story.{Story}
 use Rattle.bus_story.specs.HistoryEvents.{row_events_by, link_events}
-use Rattle.bus_story.specs.TraceHistory.{is_arbitration_entry, story_with_aim, story_after_calling, story_after_calling_by, story_with_try, story_without_answer, is_counted, retries_of, is_host, aim_of, story_on_free_bus, story_on_bus, story_by_change}
+use Rattle.bus_story.specs.TraceHistory.{is_arbitration_entry, story_with_aim, story_after_calling, story_on_free_bus, story_on_bus, story_by_change}
+use Rattle.bus_story.proofs.StorySteps.{calling_link}
 use Rattle.bus_due.specs.RunState.{RunState, or_start}
 use Rattle.bus_due.specs.Wants.{want_time, ready_of, ready_among, ready_time, seek_of, item_want_time}
 use Rattle.bus_due.specs.RunSteps.{run_state, run_state_with_events}
@@ -27,6 +26,7 @@ use Rattle.bus_due.proofs.Plains.{run_state_plain, bus_state_is, change_same}
 use Rattle.bus_laws.proofs.Rows.{change_is}
 use Rattle.bus_laws.specs.Rows.{Stands, change_to, row_of_lines}
 use Rattle.bus_base.proofs.Tests.{and_more}
+use Rattle.disk_array.specs.Seats.{is_initiator}
 
 -- What a row that shows nothing leaves of what is sent, of aims, of the link, of the array and of its times.
 pub record Leaves (k j : RunState) (b : Story) : Type 0 where
@@ -102,7 +102,7 @@ free_by s b row entering falling call = if entering then story_with_aim s b row 
 -- Wants go by what is sent, and by the array.
 wants_on : (s : ScenarioValue) (k j : RunState) → j.story.sent ≡ k.story.sent → j.array ≡ k.array → j.current_since ≡ k.current_since → (dev : ℕ) → want_time s j dev ≡ want_time s k dev
 wants_on s k j es ea ec dev =
-    λ i. if is_host s.hosts dev then item_want_time s (es i) dev else ready_time (ready_among (or_start s (ea i)) (ec i) (seek_of s.targets dev) dev)
+    λ i. if is_initiator s.hosts dev then item_want_time s (es i) dev else ready_time (ready_among (or_start s (ea i)) (ec i) (seek_of s.targets dev) dev)
 
 ready_on : (s : ScenarioValue) (k j : RunState) → j.array ≡ k.array → j.current_since ≡ k.current_since → (dev : ℕ) → ready_of s j dev ≡ ready_of s k dev
 ready_on s k j ea ec dev = λ i. ready_among (or_start s (ea i)) (ec i) (seek_of s.targets dev) dev
@@ -156,27 +156,6 @@ still_keeps s p row g b a c w ee ef =
     }
 
 -- ---- SEL falls without an answer: the item is tried again, or given up
-
-try_link : (s : ScenarioValue) (b : Story) (dev : ℕ) (item : Option Item) → (story_with_try s b dev item).link ≡ b.link
-try_link s b dev None = refl
-try_link s b dev (Some item) = go (is_counted item && nat_lt (retries_of s.hosts dev) (count_item (item ∷ b.sent.tries) item)) item
-  where
-    go : (q : Bool) (i : Item) → (if q then story_without_answer (record b { sent = record b.sent { tries = item ∷ b.sent.tries } }) i else record b { sent = record b.sent { tries = item ∷ b.sent.tries } }).link ≡ b.link
-    go true (process id) = refl
-    go true (abort n) = refl
-    go false i = refl
-
-pub calling_link : (s : ScenarioValue) (b : Story) (c : Option Call) → (story_after_calling s b c).link ≡ b.link
-calling_link s b None = refl
-calling_link s b (Some k) = by k.calling
-  where
-    by : (g : Option Calling) → (story_after_calling_by s b k.caller g).link ≡ b.link
-    by None = refl
-    by (Some g) = go (is_none g.answered && not g.reselects)
-      where
-        go : (q : Bool) → (if q then story_with_try s b k.caller (aim_of b.aims k.caller) else b).link ≡ b.link
-        go true = try_link s b k.caller (aim_of b.aims k.caller)
-        go false = refl
 
 pub missed_keeps : (s : ScenarioValue) (p : List Row) (row : Row) (g : Change) (b : LineSet) (a : Option Arbitration) (c : Option Call) → GoesApart s p row g b a c → (rises g.own.bsy g.next.bsy && not g.before.sel) ≡ false → (run_state s (row ∷ p)).story.link ≡ None
 missed_keeps s p row g b a c w ee =

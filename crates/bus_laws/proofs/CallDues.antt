@@ -11,7 +11,7 @@ use Rattle.bus_trace.specs.declared.selection.Call.{Call}
 use Rattle.bus_trace.specs.declared.selection.Calling.{Calling}
 use Rattle.scenario.specs.Value.{ScenarioValue}
 use Rattle.bus_story.specs.Samples.{latency_of}
-use Rattle.bus_story.specs.TraceHistory.{aim_of, is_host}
+use Rattle.bus_story.specs.TraceHistory.{aim_of}
 use Rattle.bus_due.specs.Wants.{callee}
 use Rattle.bus_reactions.specs.declared.due.Due.{Due}
 use Rattle.bus_reactions.specs.Reactions.{due_at, fault_or}
@@ -29,6 +29,7 @@ use Rattle.bus_laws.proofs.Dues.{due_in, is_at, where_is}
 use Rattle.bus_laws.specs.Callings.{answer_lines, awaiting_call, begun_call, call_with, both_ids, won_call, withdrawn_call}
 use Rattle.std.proofs.lemmas.Bool.{ne_eqb}
 use Rattle.bus_base.proofs.Tests.{eq_self}
+use Rattle.disk_array.specs.Seats.{is_initiator}
 
 -- What a device wants, and the fault that would strike it where it samples the IDs.
 abbrev pub want_at : ScenarioValue → List Row → ℕ → Want
@@ -60,7 +61,7 @@ loser_due s p e lat c t h lt there alone ne eg eo =
 pub quiet_due : (s : ScenarioValue) (p : List Row) (e lat c t : ℕ) → AreOfDevices p → e < 8 → latency_of s e ≡ Some lat → connection p ≡ None → c ≢ e → stage p ≡ InCalling (won_call c t) → drives p e ≡ none → unreset_due s p e ≡ None
 quiet_due s p e lat c t h lt there alone ne eg eo = as_other s p e lat none (won_call c t) h lt there alone ne eg eo
 
-pub calls_due : (s : ScenarioValue) (p : List Row) (c lat t : ℕ) (own : LineSet) → AreOfDevices p → c < 8 → latency_of s c ≡ Some lat → connection p ≡ None → stage p ≡ InCalling (won_call c t) → drives p c ≡ own → unreset_due s p c ≡ calling_start (not (is_host s.hosts c)) (device_with c lat own (own_time p c)) (callee s (run_state s p) c (aim_of (run_state s p).story.aims c))
+pub calls_due : (s : ScenarioValue) (p : List Row) (c lat t : ℕ) (own : LineSet) → AreOfDevices p → c < 8 → latency_of s c ≡ Some lat → connection p ≡ None → stage p ≡ InCalling (won_call c t) → drives p c ≡ own → unreset_due s p c ≡ calling_start (not (is_initiator s.hosts c)) (device_with c lat own (own_time p c)) (callee s (run_state s p) c (aim_of (run_state s p).story.aims c))
 calls_due s p c lat t own h lt there alone eg eo = as_caller s p c lat own (won_call c t) h lt there alone refl eg eo
 
 -- what the calling is
@@ -70,7 +71,7 @@ pub record IsCalling (s : ScenarioValue) (c lat since : ℕ) (other : Option ℕ
   pub below : k < 8
   pub apart : c ≢ k
   pub time_is : x.time ≡ since + 1200 + lat
-  pub kind_is : x.kind ≡ Drives (both_ids (is_host s.hosts c) c k)
+  pub kind_is : x.kind ≡ Drives (both_ids (is_initiator s.hosts c) c k)
 
 marked_is : (m : Bool) (c k : ℕ) → with_calling_mark (not m) (record (ids_set c k) { bsy = true; sel = true }) ≡ both_ids m c k
 marked_is true c k = refl
@@ -82,10 +83,10 @@ calls_well k c e = (grind (arith, nat_tests), λ (w : c ≡ k). other w)
     other : c ≡ k → ⊥
     other w = let v : (c == k) ≡ true = ap (λ (x : ℕ). c == x) (sym w) ∙ eq_self c in grind (arith, nat_tests)
 
-pub is_calling : (s : ScenarioValue) (c lat : ℕ) (own : LineSet) (since : ℕ) (other : Option ℕ) (x : Due) → calling_start (not (is_host s.hosts c)) (device_with c lat own since) other ≡ Some x → IsCalling s c lat since other x
+pub is_calling : (s : ScenarioValue) (c lat : ℕ) (own : LineSet) (since : ℕ) (other : Option ℕ) (x : Due) → calling_start (not (is_initiator s.hosts c)) (device_with c lat own since) other ≡ Some x → IsCalling s c lat since other x
 is_calling s c lat own since None x e = absurd cc
 is_calling s c lat own since (Some k) x e =
-    let lines : LineSet = with_calling_mark (not (is_host s.hosts c)) (record (ids_set c k) { bsy = true; sel = true }) in
+    let lines : LineSet = with_calling_mark (not (is_initiator s.hosts c)) (record (ids_set c k) { bsy = true; sel = true }) in
     let w = where_is (nat_lt k 8 && not (k == c)) (due_at (since + 1200 + lat) lines) x e in
     let v = is_at (since + 1200 + lat) lines x w.1 in
     let g = calls_well k c w.0 in
@@ -95,7 +96,7 @@ is_calling s c lat own since (Some k) x e =
       below = g.0;
       apart = g.1;
       time_is = v.time_is;
-      kind_is = v.kind_is ∙ ap (λ (y : LineSet). Drives y) (marked_is (is_host s.hosts c) c k);
+      kind_is = v.kind_is ∙ ap (λ (y : LineSet). Drives y) (marked_is (is_initiator s.hosts c) c k);
     }
 
 -- ---- once both IDs stand

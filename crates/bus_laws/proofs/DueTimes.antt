@@ -17,7 +17,7 @@ use Rattle.scenario.specs.declared.value.TargetDef.{TargetDef}
 use Rattle.scenario.specs.Value.{ScenarioValue}
 use Rattle.scenario.specs.Writing.{Obeys}
 use Rattle.disk_array.specs.Units.{Array, RunningProcess, is_held, unit_state_at}
-use Rattle.bus_story.specs.TraceHistory.{is_host}
+use Rattle.disk_array.specs.Seats.{current_of, is_initiator}
 use Rattle.bus_story.specs.Samples.{latency_of}
 use Rattle.bus_reactions.specs.declared.due.Myself.{Myself}
 use Rattle.bus_reactions.specs.Linking.{sample_time}
@@ -26,7 +26,7 @@ use Rattle.bus_dialogue.specs.Ends.{lag_by, seek_by}
 use Rattle.bus_due.specs.Own.{Own, own_at}
 use Rattle.bus_due.specs.RunState.{RunState, bus_of, array_of, agreement_of}
 use Rattle.bus_due.specs.RunSteps.{run_state}
-use Rattle.bus_due.specs.Wants.{item_want_time, current_of, since_of, seek_of, ready_at, ready_among, ready_of, ready_time, want_time}
+use Rattle.bus_due.specs.Wants.{item_want_time, since_of, seek_of, ready_at, ready_among, ready_of, ready_time, want_time}
 use Rattle.bus_due.specs.Sights.{sight_of, stage_of, want_of, flip_of, pace_of, offering_of, answering_of}
 use Rattle.bus_due.specs.Defs.{target_def_of}
 use Rattle.bus_due.specs.Connected.{is_receiver, end_due, connected_due}
@@ -38,11 +38,11 @@ use Rattle.scsi_device.specs.Lines.{IsHostLine, IsTargetLine, FitsBus}
 use Rattle.scsi_device.proofs.FitLines.{obeys_fits}
 use Rattle.scsi_device.proofs.WantTimes.{wants_before, next_reset_before}
 use Rattle.bus_laws.proofs.ReactionTimes.{IsDueBefore, none_before, if_before, IsShortPace, AreAllBefore, longest, target_before, initiator_before, link_before, sample_before, reset_before}
-use Rattle.bus_laws.proofs.RowTimes.{ages_before, handshakes_before, last_before, stage_before, IsOwnBefore, own_before, current_before, since_before, AreNumbersBefore}
+use Rattle.bus_laws.proofs.RowTimes.{ages_before, handshakes_before, stage_before, IsOwnBefore, own_before, current_before, since_before, AreNumbersBefore}
 use Rattle.bus_laws.proofs.Periods.{period_is_byte}
 use Rattle.bus_laws.proofs.Limits.{latency_within}
 use Rattle.bus_laws.proofs.Prompt.{least_is}
-use Rattle.bus_lines.proofs.Times.{ComeBefore}
+use Rattle.bus_lines.proofs.Times.{ComeBefore, last_before}
 
 -- ---- ready units
 
@@ -95,7 +95,7 @@ ready_want limit None h = tt
 ready_want limit (Some r) h = h
 
 want_before : (end : ℕ) (s : ScenarioValue) (rows : List Row) (dev : ℕ) → 1000000000000 < end → FitsBus s → ComeBefore end rows → IsBefore (end + 1000000000) (want_time s (run_state s rows) dev)
-want_before end s rows dev l w h = go (is_host s.hosts dev)
+want_before end s rows dev l w h = go (is_initiator s.hosts dev)
   where
     k : RunState
     k = run_state s rows

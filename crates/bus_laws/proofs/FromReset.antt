@@ -1,7 +1,6 @@
 -- A row under RST, and one that raises it.
-use Rattle.std.proofs.Common.{inl, inr, ℕ, ◌≡◌, ◌<◌, ◌≤◌, ◌+◌, Bool, true, false, ◌&&◌, ◌∙◌, List, [], ◌∷◌, Option, Some, None, refl, sym, ap, arith}
-use Rattle.std.specs.Prelude.{if◌then◌else◌, ◌==◌}
-use Rattle.std.specs.List.{list_any}
+use Rattle.std.proofs.Common.{inl, inr, ℕ, ◌≡◌, ◌<◌, ◌≤◌, Bool, true, false, ◌∙◌, List, [], ◌∷◌, Option, Some, None, refl, sym, ap, arith}
+use Rattle.std.specs.Prelude.{if◌then◌else◌}
 use Rattle.std.proofs.lemmas.Bool.{cases_eq}
 use Rattle.bus_base.specs.declared.Event.TheVariants as events
 use Rattle.bus_trace.specs.LineSet.{LineSet}
@@ -14,14 +13,13 @@ use Rattle.bus_trace.specs.declared.connection.Connection.{Connection}
 use Rattle.bus_trace.specs.declared.changes.Change.{Change}
 use Rattle.bus_trace.specs.Changes.{change_of, rises, falls}
 use Rattle.bus_trace.specs.Terms.{when, connection, connection_after}
-use Rattle.scenario.specs.declared.value.CmdDef.{CmdDef}
 use Rattle.scenario.specs.Value.{ScenarioValue}
-use Rattle.bus_story.specs.BusState.{RowReading, row_reading}
-use Rattle.bus_story.specs.Items.{is_open, sense_item}
-use Rattle.bus_story.specs.Story.{Story, Ending, by_reset, story_with_end, story_with_over, story_with_ends, story_after_events}
+use Rattle.bus_story.specs.BusState.{row_reading}
+use Rattle.bus_story.specs.Story.{by_reset, story_after_events}
 use Rattle.bus_story.specs.HistoryEvents.{link_events}
-use Rattle.bus_story.specs.TraceHistory.{is_arbitration_entry, story_with_aim, story_after_calling, story_on_free_bus, story_on_bus}
+use Rattle.bus_story.specs.TraceHistory.{story_on_bus}
 use Rattle.bus_story.specs.Samples.{latency_of}
+use Rattle.bus_story.proofs.StorySteps.{free_link, ends_link}
 use Rattle.bus_reactions.specs.declared.due.Due.{Due}
 use Rattle.bus_due.specs.Own.{Own, own_of}
 use Rattle.bus_due.specs.RunSteps.{run_state}
@@ -32,7 +30,7 @@ use Rattle.bus_due.specs.Plain.{AreOfDevices}
 use Rattle.bus_due.proofs.Plains.{run_state_plain}
 use Rattle.bus_laws.specs.Reactions.{unreset_due, reset_due, reset_due_if}
 use Rattle.bus_laws.proofs.Rows.{drives_own}
-use Rattle.bus_laws.proofs.Apart.{change_plain, calling_link}
+use Rattle.bus_laws.proofs.Apart.{change_plain}
 use Rattle.bus_reactions.specs.Reset.{rst_assertion}
 use Rattle.bus_trace.proofs.OneRow.{drives-other, drives-fault}
 use Rattle.bus_laws.proofs.Resets.{comes_by_first, due_calm, own_reset_is, reset_after, own_other, released_own, own_fault}
@@ -49,17 +47,6 @@ off_at p e d lt = go (drives p d).rst refl
 
 -- ---- the link
 
-pub ends_link : (f g : CmdDef → Bool) (e : Ending) (n : ℕ) (commands : List CmdDef) (b : Story) → (story_with_ends f g e n commands b).link ≡ b.link
-ends_link f g e n [] b = refl
-ends_link f g e n (c ∷ commands) b =
-    ends_link f g e (n + 1) commands (if is_open b.sent n && f c then story_with_end b (record { command = n; sense = false }) e else if g c && list_any (λ k. k == n) b.sent.checks then story_with_over b (sense_item n) else b)
-    ∙ go (is_open b.sent n && f c) (g c && list_any (λ k. k == n) b.sent.checks)
-  where
-    go : (q r : Bool) → (if q then story_with_end b (record { command = n; sense = false }) e else if r then story_with_over b (sense_item n) else b).link ≡ b.link
-    go true r = refl
-    go false true = refl
-    go false false = refl
-
 -- after a row after which RST is true
 pub link_in_reset : (s : ScenarioValue) (p : List Row) (row : Row) (g : Change) → AreOfDevices p → row.dev < 8 → change_of p row ≡ g → g.after.rst ≡ true → (run_state s (row ∷ p)).story.link ≡ None
 link_in_reset s p row g h lt e rst =
@@ -73,14 +60,6 @@ link_in_reset s p row g h lt e rst =
     go : (q : Bool) → (story_after_events s (record (run_state s p).story { link = None }) (if q then events.Reset row.dev ∷ [] else [])).link ≡ None
     go true = ends_link (λ c. true) (λ c. true) by_reset 1 s.commands (record (run_state s p).story { link = None })
     go false = refl
-
-free_link : (s : ScenarioValue) (b : Story) (d : RowReading) (row : Row) → (story_on_free_bus s b d row).link ≡ b.link
-free_link s b d row = go (is_arbitration_entry b d) (falls d.change.before.sel d.change.after.sel)
-  where
-    go : (q r : Bool) → (if q then story_with_aim s b row else if r then story_after_calling s b b.bus_state.call else b).link ≡ b.link
-    go true r = refl
-    go false true = calling_link s b b.bus_state.call
-    go false false = refl
 
 -- and after a row after which neither RST is true nor a connection stands
 pub link_apart : (s : ScenarioValue) (p : List Row) (row : Row) (g : Change) → AreOfDevices p → row.dev < 8 → change_of p row ≡ g → g.after.rst ≡ false → connection (row ∷ p) ≡ None → (run_state s p).story.link ≡ None → (run_state s (row ∷ p)).story.link ≡ None

@@ -10,7 +10,7 @@ use Rattle.bus_trace.proofs.Buses.{bus_one}
 use Rattle.bus_trace.specs.Terms.{call, drives_two_ids, new_calling}
 use Rattle.bus_rules.specs.Seen.{others_in_call, others_drive}
 use Rattle.scenario.specs.Value.{ScenarioValue}
-use Rattle.bus_story.specs.TraceHistory.{aim_of, is_host}
+use Rattle.bus_story.specs.TraceHistory.{aim_of}
 use Rattle.bus_story.specs.Samples.{latency_of}
 use Rattle.bus_reactions.specs.declared.due.Due.{Due}
 use Rattle.bus_reactions.specs.Reactions.{due_at}
@@ -37,6 +37,7 @@ use Rattle.bus_laws.specs.Stages.{CalmStanding, HasShortLatencies, NextCalmRow, 
 use Rattle.bus_laws.specs.Rows.{Stands, row_of_lines}
 use Rattle.bus_laws.specs.Callings.{begun_call, both_ids, new_calling_at, won_call, won_bus}
 use Rattle.bus_base.proofs.Tests.{eq_self}
+use Rattle.disk_array.specs.Seats.{is_initiator}
 
 in_won : (s : ScenarioValue) (p : List Row) (c t0 : ℕ) → ArbitrationWon s p c t0 → stage p ≡ InCalling (won_call c t0)
 in_won s p c t0 h = stage_is p _ _ _ _ h.stands
@@ -180,9 +181,9 @@ from_won s p c t0 row fits always h m =
       | inl same ↦
           let x : Due = record { time = row.time; kind = row.kind } in
           let z = is_calling s c h.lat (won_lines c) (own_time p c) (callee s (run_state s p) c (aim_of (run_state s p).story.aims c)) x (sym (calls_due s p c h.lat t0 (won_lines c) always.devices h.caller_below h.there h.stands.connection_is (in_won s p c t0 h) h.caller) ∙ ap (unreset_due s p) (sym same) ∙ m.is_due) in
-          let e : row ≡ row_of_lines row.time c (both_ids (is_host s.hosts c) c z.k) = λ i. record { time = row.time; dev = same i; kind = z.kind_is i } in
+          let e : row ≡ row_of_lines row.time c (both_ids (is_initiator s.hosts c) c z.k) = λ i. record { time = row.time; dev = same i; kind = z.kind_is i } in
           let wait : t0 + 1200 ≤ row.time = let w = z.time_is in let u = h.caller_time in omega arith in
-          subst (λ (r : Row). NextCalmRow s p r) (sym e) (makes_call s p (is_host s.hosts c) c z.k t0 row.time fits always h (subst (λ (r : Row). IsLeast (unreset_due s p) 8 r) e m) wait z.below (λ q. z.apart (sym q)))
+          subst (λ (r : Row). NextCalmRow s p r) (sym e) (makes_call s p (is_initiator s.hosts c) c z.k t0 row.time fits always h (subst (λ (r : Row). IsLeast (unreset_due s p) 8 r) e m) wait z.below (λ q. z.apart (sym q)))
       | inr ne ↦ elim (h.each row.dev m.inside ne) [
         | inl n ↦
             let x : Due = record { time = row.time; kind = row.kind } in

@@ -104,10 +104,6 @@ pub handshakes_before : (end : ℕ) → 0 < end → (rows : List Row) → ComeBe
 unfolding view_of
 handshakes_before end some rows h = (is_timely end some rows h).handshakes
 
-pub last_before : (end : ℕ) → 0 < end → (rows : List Row) → ComeBefore end rows → last_time rows < end
-last_before end some [] h = some
-last_before end some (row ∷ rows) h = h.0
-
 stage_from : (end : ℕ) (rst : Bool) (since free : ℕ) (n : Option Connection) (c : Option Call) (a : Option Arbitration) → since < end → free < end → IsConnectionBefore end n → IsCallBefore end c → IsArbitrationBefore end a → IsStageBefore end (stage_by rst since n c a free)
 stage_from end true since free n c a s f x y z = s
 stage_from end false since free (Some n) c a s f x y z = x

@@ -93,7 +93,7 @@ handshakes_before end z rows h =
 
 -- ---- few of them wait
 
-push_length : (waiting : List Request) (b : Request) → length (waiting ++ b ∷ []) ≡ length waiting + 1
+pub push_length : (waiting : List Request) (b : Request) → length (waiting ++ b ∷ []) ≡ length waiting + 1
 push_length [] b = refl
 push_length (x ∷ waiting) b = let e = push_length waiting b in omega (arith, e)
 
@@ -143,3 +143,7 @@ after_few false time (Some n) c b h = go (changes_phase c)
 pub few : (rows : List Row) → length (handshakes rows).waiting ≤ 255
 few [] = none_few
 few (row ∷ rows) = after_few (is_fault row.kind) row.time (connection (row ∷ rows)) (change_of rows row) (handshakes rows) (few rows)
+
+pub struck_same : (q : Bool) (h : Handshakes) → (strikes_if q h).requests ≡ h.requests
+struck_same true h = refl
+struck_same false h = refl

@@ -5,7 +5,6 @@ use lib.Count.{ones}
 use Rattle.bus_trace.specs.LineSet.{none, set_of}
 use Rattle.bus_trace.specs.View.{union_below}
 use Rattle.bus_trace.specs.declared.Row.{Row}
-use Rattle.bus_trace.specs.declared.Kind.TheVariants.{Fault}
 use Rattle.bus_trace.specs.declared.selection.Call.{Call}
 use Rattle.bus_trace.specs.declared.selection.Calling.{Calling}
 use Rattle.bus_trace.specs.declared.connection.Connection.{Connection}
@@ -15,10 +14,7 @@ use Rattle.bus_lines.specs.Stage.{stage}
 use Rattle.bus_lines.specs.Effect.{effect, no_effect}
 use Rattle.bus_lines.specs.Handshakes.{handshakes, no_handshakes, room_by}
 use Rattle.bus_lines.specs.Handshakes as pulses
-use Rattle.bus_trace.proofs.Sample.{row}
-
-abbrev fault : ℕ → ℕ → ℕ → Row
-fault time dev bit = record { time = time; dev = dev; kind = Fault bit }
+use Rattle.bus_trace.proofs.Sample.{row, fault}
 
 -- ---- a selection
 

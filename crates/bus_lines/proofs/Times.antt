@@ -44,7 +44,7 @@ times_before end z rows h = record {
   rst = line_before end z (λ s. s.rst) rows h;
 }
 
-last_before : (end : ℕ) → 0 < end → (rows : List Row) → ComeBefore end rows → last_time rows < end
+pub last_before : (end : ℕ) → 0 < end → (rows : List Row) → ComeBefore end rows → last_time rows < end
 last_before end z [] h = z
 last_before end z (row ∷ rows) h = h.0
 

@@ -7,9 +7,9 @@ use Rattle.scenario.specs.Value.{ScenarioValue}
 use Rattle.bus_story.specs.Items.{Item}
 use Rattle.bus_due.specs.RunState.{item_of}
 use Rattle.bus_due.specs.RunSteps.{run_state}
-use Rattle.bus_due.specs.Telling.{id_of}
+use Rattle.bus_due.specs.Telling.{id_of, id_or_none}
 use Rattle.target_course.specs.Courses.{IsLabelOf}
-use Rattle.bus_run.specs.Label.{id_or_none, process_known}
+use Rattle.bus_run.specs.Label.{process_known}
 
 label_of : (item : Option Item) → IsLabelOf item (id_or_none (id_of item))
 label_of item = record {

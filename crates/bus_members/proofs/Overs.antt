@@ -10,16 +10,17 @@ use Rattle.scenario.specs.declared.value.HostDef.{HostDef}
 use Rattle.scenario.specs.declared.value.TargetDef.{TargetDef}
 use Rattle.scenario.specs.Value.{ScenarioValue}
 use Rattle.disk_array.specs.Processes.{command_at}
+use Rattle.disk_array.specs.Seats.{is_initiator}
 use Rattle.bus_story.specs.Samples.{host_latency, target_latency, latency_of}
-use Rattle.bus_story.specs.TraceHistory.{is_host}
+use Rattle.bus_story.specs.Items.{sense_id, command_id}
 use Rattle.bus_due.specs.Defs.{host_of, target_def_of}
 use Rattle.bus_due.specs.RunState.{array_of}
 use Rattle.bus_due.specs.RunSteps.{run_state}
 use Rattle.initiator.specs.Books.{my_book}
-use Rattle.initiator.specs.Endings.{AreEndingsOf, sense_of, end_at}
+use Rattle.initiator.specs.Endings.{AreEndingsOf, end_at}
 use Rattle.initiator.specs.Hosts.{HostValue}
 use Rattle.initiator.specs.Openings.{mine_at}
-use Rattle.initiator.specs.Outcomes.{command_of, is_sense_over}
+use Rattle.initiator.specs.Outcomes.{is_sense_over}
 use Rattle.initiator.specs.Received.{BufferPairValue, no_buffers, empty_buffer, pair_at, received_taken, undoes_no_byte}
 use Rattle.target_units.specs.Units.{UnitsState, AreUnitsOf}
 use Rattle.bus_members.specs.declared.member.Member.{Member}
@@ -72,9 +73,9 @@ host_goes_on s rows dev first k q v w e le h =
           };
     })
 
-pub no_initiator : (s : ScenarioValue) (rows : List Row) (dev : ℕ) (target : TargetValue) → IsTarget s rows dev target → is_host s.hosts dev ≡ true → ⊥
+pub no_initiator : (s : ScenarioValue) (rows : List Row) (dev : ℕ) (target : TargetValue) → IsTarget s rows dev target → is_initiator s.hosts dev ≡ true → ⊥
 no_initiator s rows dev target h is =
-    true≢false (sym is ∙ ap (λ (d : ℕ). is_host s.hosts d) (sym h.named) ∙ h.after.knows.line.is_none)
+    true≢false (sym is ∙ ap (λ (d : ℕ). is_initiator s.hosts d) (sym h.named) ∙ h.after.knows.line.is_none)
 
 -- ---- its units
 
@@ -86,11 +87,11 @@ units_at s rows dev target units h e are = record {
 
 -- ---- as the run ends
 
-none_any : (hosts : List HostDef) (dev : ℕ) → find (λ (h : HostDef). h.dev == dev) hosts ≡ None → is_host hosts dev ≡ false
+none_any : (hosts : List HostDef) (dev : ℕ) → find (λ (h : HostDef). h.dev == dev) hosts ≡ None → is_initiator hosts dev ≡ false
 none_any [] dev e = refl
 none_any (h ∷ hosts) dev e = go (none_any hosts dev) (h.dev == dev) e
   where
-    go : (find (λ (h : HostDef). h.dev == dev) hosts ≡ None → is_host hosts dev ≡ false) → (q : Bool) → (if q then Some h else find (λ (h : HostDef). h.dev == dev) hosts) ≡ None → (q || is_host hosts dev) ≡ false
+    go : (find (λ (h : HostDef). h.dev == dev) hosts ≡ None → is_initiator hosts dev ≡ false) → (q : Bool) → (if q then Some h else find (λ (h : HostDef). h.dev == dev) hosts) ≡ None → (q || is_initiator hosts dev) ≡ false
     go more true e = absurd cc
     go more false e = more e
 
@@ -113,8 +114,8 @@ host_over s rows dev v h = record {
   kept = λ undone n c low is own.
       let mine : (c.host == v.def.dev) ≡ true = ap (λ (d : ℕ). c.host == d) h.named ∙ own in
       record {
-        bytes = (h.after.received_is undone).buffers (command_of n) c is mine;
-        sense_bytes = (h.after.received_is undone).buffers (sense_of n) c is mine;
+        bytes = (h.after.received_is undone).buffers (command_id n) c is mine;
+        sense_bytes = (h.after.received_is undone).buffers (sense_id n) c is mine;
       };
 }
 

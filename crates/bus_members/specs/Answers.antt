@@ -7,11 +7,11 @@ use Rattle.scenario.specs.declared.value.CmdDef.{CmdDef}
 use Rattle.scenario.specs.Value.{ScenarioValue}
 use Rattle.bus_story.specs.Outcomes.{ending_of, has_end}
 use Rattle.bus_story.specs.Story.{Ending, by_status, by_loss, by_reset, by_abort, unanswered, Story}
+use Rattle.bus_story.specs.Items.{sense_id, command_id}
 use Rattle.bus_due.specs.RunSteps.{run_state}
 use Rattle.initiator.specs.Books.{my_book}
-use Rattle.initiator.specs.Endings.{sense_of}
 use Rattle.initiator.specs.Openings.{mine_at}
-use Rattle.initiator.specs.Outcomes.{command_of, is_reply_of, is_sense_over}
+use Rattle.initiator.specs.Outcomes.{is_reply_of, is_sense_over}
 use Rattle.initiator.specs.Received.{moved_of, room_of, undoes_no_byte}
 
 -- ---- its outcome is known: it has ended, and after CHECK CONDITION its automatic REQUEST SENSE has ended, or is over
@@ -48,8 +48,8 @@ is_reply s b c id = is_reply_of s b.history id (came s b c id)
 
 abbrev pub is_replied : ScenarioValue → Story → ℕ → CmdDef → Bool
 is_replied s b n c =
-    (not (is_good (ending_of b.ended n)) || is_reply s b c (command_of n))
-    && (not (has_end b.history (sense_of n)) || is_reply s b c (sense_of n))
+    (not (is_good (ending_of b.ended n)) || is_reply s b c (command_id n))
+    && (not (has_end b.history (sense_id n)) || is_reply s b c (sense_id n))
 
 -- The commands from the n-th on.
 abbrev pub are_replied_from : ScenarioValue → Story → ℕ → List CmdDef → Bool
@@ -63,7 +63,7 @@ are_replied s rows = are_replied_from s (run_state s rows).story 1 s.commands
 -- ---- and the outcome is known
 
 abbrev pub is_answered : ScenarioValue → Story → ℕ → CmdDef → Bool
-is_answered s b n c = is_settled (ending_of b.ended n) (has_end b.history (sense_of n)) (sense_is_over s b n c) && is_replied s b n c
+is_answered s b n c = is_settled (ending_of b.ended n) (has_end b.history (sense_id n)) (sense_is_over s b n c) && is_replied s b n c
 
 -- The commands from the n-th on.
 abbrev pub are_answered_from : ScenarioValue → Story → ℕ → List CmdDef → Bool

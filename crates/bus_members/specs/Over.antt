@@ -4,14 +4,14 @@ use Rattle.bus_trace.specs.declared.Row.{Row}
 use Rattle.scenario.specs.declared.value.CmdDef.{CmdDef}
 use Rattle.scenario.specs.Value.{ScenarioValue}
 use Rattle.disk_array.specs.Processes.{command_at}
-use Rattle.bus_story.specs.TraceHistory.{is_host}
+use Rattle.disk_array.specs.Seats.{is_initiator}
+use Rattle.bus_story.specs.Items.{sense_id, command_id}
 use Rattle.bus_due.specs.Defs.{target_def_of}
 use Rattle.bus_due.specs.RunState.{array_of}
 use Rattle.bus_due.specs.RunSteps.{run_state}
 use Rattle.initiator.specs.Books.{my_book}
-use Rattle.initiator.specs.Endings.{AreEndingsOf, sense_of}
+use Rattle.initiator.specs.Endings.{AreEndingsOf}
 use Rattle.initiator.specs.Hosts.{HostValue}
-use Rattle.initiator.specs.Outcomes.{command_of}
 use Rattle.initiator.specs.Received.{IsBufferOf, moved_of, room_of, buffer_at, undoes_no_byte}
 use Rattle.target_units.specs.Units.{UnitsState, AreUnitsOf}
 use Rattle.bus_members.specs.declared.member.Member.{Member}
@@ -20,8 +20,8 @@ use Rattle.bus_members.specs.Members.{IsTarget}
 
 -- What came to the command of this number, and to its automatic REQUEST SENSE, is still there.
 pub record IsKept (s : ScenarioValue) (rows : List Row) (v : HostValue) (n : ℕ) (c : CmdDef) : Type 0 where
-  pub bytes : IsBufferOf (moved_of (run_state s rows).story (command_of n)) (room_of s c false) (buffer_at v.received (command_of n))
-  pub sense_bytes : IsBufferOf (moved_of (run_state s rows).story (sense_of n)) (room_of s c true) (buffer_at v.received (sense_of n))
+  pub bytes : IsBufferOf (moved_of (run_state s rows).story (command_id n)) (room_of s c false) (buffer_at v.received (command_id n))
+  pub sense_bytes : IsBufferOf (moved_of (run_state s rows).story (sense_id n)) (room_of s c true) (buffer_at v.received (sense_id n))
 
 -- This initiator was told of these rows, and then outcomes of commands below this number were taken.
 pub record IsHostOver (s : ScenarioValue) (rows : List Row) (dev first : ℕ) (v : HostValue) : Type 0 where
@@ -37,7 +37,7 @@ IsMemberOver s rows dev first (Target target) = IsTarget s rows dev target
 
 -- The scenario has no device of this ID.
 pub record HasNone (s : ScenarioValue) (dev : ℕ) : Type 0 where
-  pub no_host : is_host s.hosts dev ≡ false
+  pub no_host : is_initiator s.hosts dev ≡ false
   pub no_target : target_def_of s dev ≡ None
 
 abbrev pub IsPlaceOver : ScenarioValue → List Row → ℕ → ℕ → Option Member → Type 0

@@ -4,12 +4,11 @@ ghost use Rattle.bus_trace.specs.declared.Row.{Row};
 ghost use Rattle.scenario.specs.declared.value.CmdDef.{CmdDef};
 ghost use Rattle.scenario.specs.Value.{ScenarioValue};
 ghost use Rattle.disk_array.specs.Processes.{command_at};
+ghost use Rattle.disk_array.specs.Seats.{is_initiator};
 ghost use Rattle.bus_story.specs.Outcomes.{outcome_of};
-ghost use Rattle.bus_story.specs.TraceHistory.{is_host};
 ghost use Rattle.bus_due.specs.RunSteps.{run_state};
 ghost use Rattle.initiator.specs.Outcomes.{told_outcome_if};
 ghost use Rattle.initiator.specs.Received.{undoes_no_byte};
-ghost use Rattle.initiator.specs.Transfers.{event_if};
 ghost use Rattle.target_course.specs.Shown.{shown_list};
 ghost use Rattle.bus_run.specs.Shown.{shown_events};
 ghost use Rattle.bus_run.specs.Places.{IsIn};
@@ -17,6 +16,7 @@ ghost use Rattle.bus_members.specs.Answers.{is_answered};
 ghost use Rattle.bus_members.specs.Members.{IsMember};
 ghost use Rattle.bus_members.specs.Over.{IsMemberOver, IsPlaceOver, AreUnitsIf};
 ghost use Rattle.bus_members.specs.declared.member.Member.{Member as MemberValue};
+ghost use Rattle.bus_dialogue.specs.Events.{event_if};
 
 use bus_base::{Event, ProcId};
 use bus_dialogue::Observer;
@@ -112,7 +112,7 @@ impl Member {
     pub fn take_outcome(&mut self, alloc: Global, number: u16) -> Option<Outcome>
         ensures told { (s : ScenarioValue) (rows : List Row) (dev : ℕ) (c : CmdDef)
             → IsMemberOver s rows dev number self.old → command_at s.commands number ≡ Some c → c.host ≡ dev
-            → is_host s.hosts dev ≡ true → undoes_no_byte s rows ≡ true
+            → is_initiator s.hosts dev ≡ true → undoes_no_byte s rows ≡ true
             → is_answered s (run_state s rows).story number c ≡ true
             → told_outcome_if result ≡ outcome_of s (run_state s rows).story number }
         ensures over { (s : ScenarioValue) (rows : List Row) (dev first : ℕ) → first ≤ number + 1

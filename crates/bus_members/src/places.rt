@@ -12,31 +12,21 @@ use bus_base::{Dev, NoMemory};
 use bus_run::Device;
 use disk_target::Target;
 use initiator::Host;
-use scenario::{HostDef, Scenario, TargetDef};
+use scenario::{HostDef, Scenario, TargetDef, host_line, target_line};
 use std::alloc::Global;
 
 // Whether one of these lines is of this initiator.
 fn has_host(hosts: &[HostDef], dev: Dev) -> bool
     ensures { result ≡ is_some (find (λ (h : HostDef). h.dev == dev) hosts.now) }
 {
-    for def in hosts {
-        if def.dev == dev {
-            return true;
-        }
-    }
-    false
+    host_line(hosts, dev).is_some()
 }
 
 // Whether one of these lines is of this target.
 fn has_target(targets: &[TargetDef], dev: Dev) -> bool
     ensures { result ≡ is_some (find (λ (t : TargetDef). t.dev == dev) targets.now) }
 {
-    for def in targets {
-        if def.dev == dev {
-            return true;
-        }
-    }
-    false
+    target_line(targets, dev).is_some()
 }
 
 // The place of this ID, with its device if the scenario has one.

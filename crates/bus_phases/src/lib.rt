@@ -27,7 +27,7 @@ pub use bus_trace::{Agreement, Change, Connection, Lines};
 pub use dialogue::Dialogue;
 pub use half::Half;
 pub use msg_grammar::{Got, MsgIn, MsgOut};
-pub use pulses::{Pulses, no_pulses, pulses_after, turned_after};
+pub use pulses::{Pulses, count_after, no_pulses, pulses_after, turned_after};
 pub use raises::Raises;
 pub use reading::{Reading, reading_in, reading_out};
 pub use spoken::{CommandBytes, Heard, Spoken, asynchronous};

@@ -31,8 +31,8 @@ pub fn no_pulses() -> Pulses
     }
 }
 
-// A count with one more, where it happens now.
-fn count_after(now: bool, count: u64) -> u64
+/// A count with one more, where it happens now; it stays at the last u64.
+pub fn count_after(now: bool, count: u64) -> u64
     ensures { result ≡ count_after now count }
 {
     if now { count.saturating_add(1) } else { count }

@@ -1,20 +1,20 @@
 -- What a device is due to do next, on its way to a connection and under RST.
-use Rattle.std.specs.Prelude.{ℕ, ◌+◌, Option, None, if◌then◌else◌}
+use Rattle.std.specs.Prelude.{ℕ, ◌+◌, Option, None}
 use Rattle.bus_trace.specs.declared.delays.TheConstants.{BUS_SETTLE_DELAY}
-use Rattle.bus_trace.specs.LineSet.{LineSet, none, same_set}
+use Rattle.bus_trace.specs.LineSet.{LineSet}
 use Rattle.bus_reactions.specs.declared.due.Due.{Due}
 use Rattle.bus_reactions.specs.declared.due.Myself.{Myself}
 use Rattle.bus_reactions.specs.declared.due.Want.{Want}
 use Rattle.bus_lines.specs.declared.stage.Stage.{Stage}
 use Rattle.bus_lines.specs.declared.stage.Stage.TheVariants.{OnFreeBus, InArbitration, InCalling, InAnswer, InConnection, InReset}
 use Rattle.bus_reactions.specs.declared.sight.Sight.{Sight}
-use Rattle.bus_reactions.specs.Reactions.{due_at}
+use Rattle.bus_reactions.specs.Reactions.{release_after}
 use Rattle.bus_reactions.specs.FreeBus.{free_due, arbitration_due}
 use Rattle.bus_reactions.specs.Calling.{calling_due, answer_due}
 
 -- While RST is true each other device releases all its lines, and does nothing else (6.2.2).
 abbrev pub bus_clear : Myself → ℕ → Option Due
-bus_clear me since = if same_set me.own none then None else due_at (since + me.latency) none
+bus_clear me since = release_after since me
 
 -- `flip` is the bit that a fault strikes where it samples the IDs. In a connection nothing is due of this.
 abbrev pub link_due_by : LineSet → ℕ → ℕ → Myself → Want → Option ℕ → Stage → Option Due

@@ -1,12 +1,17 @@
 -- A reaction of a device: the row that it makes next, and when.
-use Rattle.std.specs.Prelude.{ℕ, min, Bool, true, false, Option, Some, None, nat_lt, if◌then◌else◌}
-use Rattle.bus_trace.specs.LineSet.{LineSet}
+use Rattle.std.specs.Prelude.{ℕ, ◌+◌, min, Bool, true, false, Option, Some, None, nat_lt, if◌then◌else◌}
+use Rattle.bus_trace.specs.LineSet.{LineSet, none, same_set}
 use Rattle.bus_trace.specs.declared.Kind.TheVariants.{Drives, Fault}
 use Rattle.bus_reactions.specs.declared.due.Due.{Due}
+use Rattle.bus_reactions.specs.declared.due.Myself.{Myself}
 
 -- At this time it drives these lines; or a fault strikes this bit of what it samples.
 abbrev pub due_at : ℕ → LineSet → Option Due
 due_at time lines = Some (record { time = time; kind = Drives lines })
+
+-- A device that drives lines releases them all, its latency after this time.
+abbrev pub release_after : ℕ → Myself → Option Due
+release_after time me = if same_set me.own none then None else due_at (time + me.latency) none
 
 abbrev pub fault_due : ℕ → ℕ → Option Due
 fault_due time bit = Some (record { time = time; kind = Fault bit })

@@ -15,6 +15,6 @@ mod due;
 mod ends;
 mod sight;
 
-pub use due::{Due, Myself, Want};
+pub use due::{Due, Myself, Want, due_at};
 pub use ends::{Answering, Hand, Offering, Pace};
 pub use sight::{Sight, sight_of};

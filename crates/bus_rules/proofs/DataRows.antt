@@ -38,6 +38,7 @@ use Rattle.msg_grammar.specs.Messages.{got_out, got_in}
 use Rattle.bus_phases.specs.Reading.{reading_of, reading_out, reading_in}
 use Rattle.bus_rules.specs.Seen.{seen, seen_with, drives_bsy, initiator_of, initiator_data, target_data}
 use Rattle.bus_trace.specs.Changes.{change_of}
+use Rattle.bus_trace.proofs.Sets.{same_eq}
 use Rattle.bus_rules.specs.Rules.{test, keeps, judged_rules, lowest_broken, broken_rule}
 use Rattle.bus_rules.specs.DataRows.{is_data_row, crosses_in, keeps_side, asks_soon, is_in_turn, has_turned, stand_since, is_shaken, is_pulsed_well, Standing, standing_after, standing_at, may_cross, transfers_well, is_move, passes, passes_of, passes_in, duty_in_data, course_after_transfer}
 use Rattle.bus_phases.specs.Dialogue.{takes_data}
@@ -46,15 +47,9 @@ use Rattle.bus_rules.specs.Judging.{Running, IsCourseOf, IsTermsOf}
 use Rattle.bus_rules.proofs.First.{none_broken}
 use Rattle.bus_phases.proofs.Agreeing.{agreeing}
 use Rattle.bus_rules.proofs.Courses.{goes_on}
-use Rattle.bus_base.proofs.Tests.{or_false, is_nothing}
+use Rattle.bus_base.proofs.Tests.{or_false, is_nothing, true_by_test}
 
 -- ---- tests
-
-are_same : (a b : Bool) → same a b ≡ true → a ≡ b
-are_same true true e = refl
-are_same true false e = absurd cc
-are_same false true e = absurd cc
-are_same false false e = refl
 
 no_rise : (a b : Bool) → a ≡ b → rises a b ≡ false
 no_rise true b e = refl
@@ -141,15 +136,15 @@ is_quiet c e =
       rst = not-true _ off.1;
       msg = not-true _ phase.0;
       cd = not-true _ phase.1;
-      bsy_after = are_same _ _ first.0;
-      sel_after = are_same _ _ first.1;
-      rst_after = are_same _ _ hold.1;
+      bsy_after = same_eq _ _ first.0;
+      sel_after = same_eq _ _ first.1;
+      rst_after = same_eq _ _ hold.1;
       phase = held.1;
-      io_after = are_same _ _ kept.1;
-      atn_after = are_same _ _ move.1;
-      own_bsy = are_same _ _ own_first.0;
-      own_sel = are_same _ _ own_first.1;
-      own_rst = are_same _ _ own_hold.1;
+      io_after = same_eq _ _ kept.1;
+      atn_after = same_eq _ _ move.1;
+      own_bsy = same_eq _ _ own_first.0;
+      own_sel = same_eq _ _ own_first.1;
+      own_rst = same_eq _ _ own_hold.1;
       own_rst_false = not-true _ down.1;
     }
 
@@ -399,11 +394,6 @@ leaving_kept s row q =
 not_in_reset : (s : Seen) → IsQuiet s.change → is_reset s ≡ false
 not_in_reset s q = λ i. q.rst i || (sym q.rst_after ∙ q.rst) i
 
--- outside of reset a rule is its test
-by_test : (r t : Bool) → t ≡ true → (if r then true else t) ≡ true
-by_test true t e = refl
-by_test false t e = e
-
 abbrev Passes : Seen → Row → Type 0
 Passes s row = passes (standing_of s) s.change row ≡ true
 
@@ -425,55 +415,55 @@ in_connection s row n er conn call arbitration order move quiet h =
       (
         news s row row.kind (not-true _ two.0) (not-true _ two.1),
         (
-          by_test r _ (free_bus s row q),
+          true_by_test r _ (free_bus s row q),
           (
-            by_test r _ (arbitration_kept s row q arbitration),
+            true_by_test r _ (arbitration_kept s row q arbitration),
             (
-              by_test r _ (turn_kept s row q),
+              true_by_test r _ (turn_kept s row q),
               (
-                by_test r _ (win_kept s row q),
+                true_by_test r _ (win_kept s row q),
                 (
-                  by_test r _ (losers_off s row call),
+                  true_by_test r _ (losers_off s row call),
                   (
-                    by_test r _ (winner_kept s row call),
+                    true_by_test r _ (winner_kept s row call),
                     (
-                      by_test r _ (calling_kept s row call),
+                      true_by_test r _ (calling_kept s row call),
                       (
-                        by_test r _ (answer_kept s row call),
+                        true_by_test r _ (answer_kept s row call),
                         (
-                          by_test r _ (end_kept s row call),
+                          true_by_test r _ (end_kept s row call),
                           (
-                            by_test r _ (time_out_kept s row call),
+                            true_by_test r _ (time_out_kept s row call),
                             (
-                              by_test r _ (reselection_kept s row n q call conn side.1),
+                              true_by_test r _ (reselection_kept s row n q call conn side.1),
                               (
-                                by_test r _ ((λ i. keeps_lines_of s row (or_new (conn i) (connection_after s.connection s.call s.change row))) ∙ lines_kept s row n q side.0 side.1),
+                                true_by_test r _ ((λ i. keeps_lines_of s row (or_new (conn i) (connection_after s.connection s.call s.change row))) ∙ lines_kept s row n q side.0 side.1),
                                 (
-                                  by_test r _ (and_from _ _ ((λ i. keeps_data_direction_of s row (conn i)) ∙ turn_of s row n side.0 turn.0) ((λ i. initiator_released_of s row.time (conn i)) ∙ released.0)),
+                                  true_by_test r _ (and_from _ _ ((λ i. keeps_data_direction_of s row (conn i)) ∙ turn_of s row n side.0 turn.0) ((λ i. initiator_released_of s row.time (conn i)) ∙ released.0)),
                                   (
-                                    by_test r _ (and_from _ _ ((λ i. waits_for_turn s row (conn i)) ∙ released.1) ((λ i. target_released_of s row.time (conn i)) ∙ released.2)),
+                                    true_by_test r _ (and_from _ _ ((λ i. waits_for_turn s row (conn i)) ∙ released.1) ((λ i. target_released_of s row.time (conn i)) ∙ released.2)),
                                     (
-                                      by_test r _ (parity_kept s row cr more.1),
+                                      true_by_test r _ (parity_kept s row cr more.1),
                                       (
-                                        by_test r _ bytes.0,
+                                        true_by_test r _ bytes.0,
                                         (
-                                          by_test r _ bytes.1,
+                                          true_by_test r _ bytes.1,
                                           (
-                                            by_test r _ bytes.2,
+                                            true_by_test r _ bytes.2,
                                             (
-                                              by_test r _ bytes.3,
+                                              true_by_test r _ bytes.3,
                                               (
-                                                by_test r _ bytes.4,
+                                                true_by_test r _ bytes.4,
                                                 (
-                                                  by_test r _ (leaving_kept s row q),
+                                                  true_by_test r _ (leaving_kept s row q),
                                                   (
-                                                    by_test r _ (attention_kept s row n q side.1),
+                                                    true_by_test r _ (attention_kept s row n q side.1),
                                                     (
-                                                      by_test r _ (messages_kept s row n q conn er cr more.1),
+                                                      true_by_test r _ (messages_kept s row n q conn er cr more.1),
                                                       (
-                                                        by_test r _ (command_kept s row q cr more.1),
+                                                        true_by_test r _ (command_kept s row q cr more.1),
                                                         (
-                                                          by_test r _ ((λ i. frees_well s row (conn i)) ∙ freeing_kept s row n q),
+                                                          true_by_test r _ ((λ i. frees_well s row (conn i)) ∙ freeing_kept s row n q),
                                                           (
                                                             reset_kept s row q,
                                                             tt,

@@ -18,7 +18,7 @@ use Rattle.bus_trace.specs.declared.connection.Connection.{Connection}
 use Rattle.bus_phases.specs.declared.pulses.Pulses.{Pulses}
 use Rattle.bus_phases.specs.declared.spoken.CommandBytes.{CommandBytes}
 use Rattle.bus_rules.specs.declared.course.Course.{Course}
-use Rattle.bus_trace.specs.Changes.{rises, falls, implies, same_hold, same_phase, drives_data}
+use Rattle.bus_trace.specs.Changes.{rises, falls, implies, drives_data, same_stage}
 use Rattle.bus_rules.specs.Connected.{has_no_initiator_line, has_no_target_line, raises_data}
 use Rattle.bus_rules.specs.Messages.{is_owed, is_none_or_all}
 use Rattle.bus_trace.specs.Phases.{is_data}
@@ -101,16 +101,12 @@ standing_at f v k = record {
 
 -- ---- the test
 
--- The two sets are the same but for data lines, REQ and ACK.
-abbrev pub same_but_bytes : LineSet → LineSet → Bool
-same_but_bytes a b = same_hold a b && same_phase a b && same a.atn b.atn
-
 -- In a DATA phase, where BSY is true and SEL and RST are false, data lines, REQ and ACK alone change.
 abbrev pub is_quiet_bus : LineSet → Bool
 is_quiet_bus s = s.bsy && not s.sel && not s.rst && is_data s
 
 abbrev pub is_data_row : Change → Bool
-is_data_row c = is_quiet_bus c.before && same_but_bytes c.before c.after && (not c.own.sel && not c.own.rst && same_but_bytes c.own c.next)
+is_data_row c = is_quiet_bus c.before && same_stage c.before c.after && (not c.own.sel && not c.own.rst && same_stage c.own c.next)
 
 -- A byte crosses.
 abbrev pub crosses_in : Change → Bool

@@ -5,7 +5,6 @@ pub mod Selection
 pub mod Reset
 pub mod Connected
 pub mod Transfer
-pub mod Pulsing
 pub mod Messages
 pub mod Rules
 pub mod Judging

@@ -6,28 +6,22 @@
 ghost use Rattle.std.specs.Prelude.{◌≡◌, ◌<◌, ◌&&◌, List, is_none};
 ghost use Rattle.bus_trace.specs.declared.Row.{Row};
 ghost use Rattle.bus_trace.specs.Trace.{IsViewOf, drives};
-ghost use Rattle.bus_rules.specs.Pulsing.{AreTimes};
-ghost use Rattle.bus_rules.specs.DataRows.{same_but_bytes, is_quiet_bus, is_data_row, crosses_in, keeps_side, asks_soon, is_in_turn, has_turned, stand_since, is_shaken, may_ask, keeps_count, last_pulse, is_timed, is_pulsed_well, standing_at, may_cross, transfers_well, turns_well, passes_in, passes_of, is_move, passes, duty_in_data};
+ghost use Rattle.bus_trace.specs.Changes.{same_stage};
+ghost use Rattle.bus_trace.specs.Agreements.{AreTimes};
+ghost use Rattle.bus_rules.specs.DataRows.{is_quiet_bus, is_data_row, crosses_in, keeps_side, asks_soon, is_in_turn, has_turned, stand_since, is_shaken, may_ask, keeps_count, last_pulse, is_timed, is_pulsed_well, standing_at, may_cross, transfers_well, turns_well, passes_in, passes_of, is_move, passes, duty_in_data};
 
 use crate::connected::{has_no_initiator_line, has_no_target_line, raises_data};
 use crate::course::Course;
 use crate::message_rules::{is_none_or_all, is_owed};
 use crate::terms::{initiator_bsy, initiator_data, target_data};
-use crate::transfer::{alternates, changes_data, holds_still, is_after, pulses_well, times_of};
+use crate::transfer::{alternates, changes_data, holds_still, is_after, pulses_well};
 use bus_base::{Dev, Ns};
 use bus_phases::{Duty, Pulses};
 use bus_trace::{
     BUS_SETTLE_DELAY, Change, Connection, DATA_RELEASE_DELAY, DESKEW_DELAY, LineView, Lines, Row,
     SET_UP_TIME, TURN_DELAY, TransferTimes, UNLIMITED_OFFSET, drives_data, falls, is_data,
-    is_fault, rises, same_hold, same_phase,
+    is_fault, rises, same_hold, same_phase, same_stage, times_of,
 };
-
-// Whether the two sets are the same but for data lines, REQ and ACK.
-fn same_but_bytes(a: Lines, b: Lines) -> bool
-    ensures { result ≡ same_but_bytes a b }
-{
-    same_hold(a, b) && same_phase(a, b) && a.atn() == b.atn()
-}
 
 fn is_quiet_bus(lines: Lines) -> bool
     ensures { result ≡ is_quiet_bus lines }
@@ -41,8 +35,8 @@ pub fn is_data_row(change: &Change) -> bool
 {
     let (own, next) = (change.own, change.next);
     is_quiet_bus(change.before)
-        && same_but_bytes(change.before, change.after)
-        && (!own.sel() && !own.rst() && same_but_bytes(own, next))
+        && same_stage(change.before, change.after)
+        && (!own.sel() && !own.rst() && same_stage(own, next))
 }
 
 /// Whether a byte crosses in a connection.

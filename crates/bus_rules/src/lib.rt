@@ -31,6 +31,7 @@ pub use bus_base::{Dev, Ns};
 pub use bus_trace::{Arbitration, Call, Calling, Change, Connection, Kind, Lines, Row};
 pub use judge::{broken, broken_end, end_row, judge_plain};
 pub use laws::{broken_rules_are_lowest, verdicts_are_first};
+pub use order::is_of_device;
 pub use rules::{lowest_at_end, lowest_broken};
 pub use seen::Seen;
 pub use terms::Terms;

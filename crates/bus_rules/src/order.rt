@@ -13,7 +13,8 @@ pub fn is_in_order(seen: &Seen, time: Ns) -> bool
     seen.last <= time
 }
 
-fn is_of_device(device: Option<ScsiId>, dev: Dev) -> bool
+/// Whether there is a device, and it is this one.
+pub fn is_of_device(device: Option<ScsiId>, dev: Dev) -> bool
     ensures { result ≡ is_of_device device dev }
 {
     match device {

@@ -1,14 +1,13 @@
 //! Rules 17 to 23: REQ and ACK, asynchronous and synchronous (ANSI X3.131-1994, 6.1.5.1 and 6.1.5.2).
 ghost use Rattle.std.specs.Prelude.{◌≡◌, ◌<◌};
 ghost use Rattle.bus_rules.specs.Transfer.{crosses, has_parity, is_pulsed, is_asynchronous_transfer, data_stand_since, changes_data, alternates, keeps_handshake, keeps_set_up, holds_still, keeps_data, keeps_offset, is_after, pulses_well, last_crossing, pulses_of, keeps_pulses, leaves_well};
-ghost use Rattle.bus_trace.specs.Agreements.{times_of};
-ghost use Rattle.bus_rules.specs.Pulsing.{AreTimes};
+ghost use Rattle.bus_trace.specs.Agreements.{times_of, AreTimes};
 
 use crate::seen::Seen;
 use bus_base::Ns;
 use bus_trace::{
-    ASSERTION_PERIOD, Change, DATA_HOLD, Lines, NEGATION_PERIOD, Row, SET_UP_TIME, TransferTimes,
-    UNLIMITED_OFFSET, changes_phase, falls, is_data, receiver_of, rises, transfer_times,
+    Change, Lines, Row, SET_UP_TIME, TransferTimes, UNLIMITED_OFFSET, changes_phase, falls,
+    is_data, receiver_of, rises, times_of,
 };
 
 /// Whether a byte crosses in the row.
@@ -113,23 +112,6 @@ pub fn keeps_offset(seen: &Seen) -> bool
     let may_ask = offset == UNLIMITED_OFFSET || req.saturating_sub(ack) < u64::from(offset);
     (!rises(before.req(), after.req()) || may_ask)
         && (!rises(before.ack(), after.ack()) || ack < req)
-}
-
-/// The times of a transfer period factor; below the least of them those of a transfer that is not fast.
-pub fn times_of(factor: u8) -> TransferTimes
-    ensures exact { result ≡ times_of factor }
-    ensures times { AreTimes result }
-{
-    match transfer_times(factor) {
-        Some(times) => times,
-        None => TransferTimes {
-            period: 4 * Ns::from(factor),
-            assertion: ASSERTION_PERIOD,
-            negation: NEGATION_PERIOD,
-            set_up: SET_UP_TIME,
-            hold: DATA_HOLD,
-        },
-    }
 }
 
 /// Whether this long has passed since a moment, if there was one.

@@ -14,8 +14,7 @@ use Rattle.bus_story.specs.Samples.{latency_of}
 use Rattle.bus_reactions.specs.declared.due.Due.{Due}
 use Rattle.bus_reactions.specs.declared.due.Myself.{Myself}
 use Rattle.bus_reactions.specs.Reset.{with_reset}
-use Rattle.bus_due.specs.Connected.{connected_due}
-use Rattle.bus_due.specs.Due.{self_of, reset_from, stage_due, due_if}
+use Rattle.bus_due.specs.Due.{self_of, reset_from, stage_due, due_if, AreOthersStill}
 use Rattle.bus_due.specs.Next.{due}
 use Rattle.bus_due.specs.Own.{Own, own_at, own_next, own_of}
 use Rattle.bus_due.specs.Plain.{AreOfDevices, IsPlain}
@@ -37,11 +36,7 @@ reset_alone s dev None own o = None
 reset_alone s dev (Some latency) own o =
     with_reset (let me : Myself = record { dev = dev; latency = latency; own = own; since = o.row } in me) o.rst (reset_from dev o.released s.resets) None
 
--- It does nothing else.
-abbrev pub AreOthers : Type 0
-AreOthers = (s : ScenarioValue) (k : RunState) (me : Myself) (n : Connection) → (n.initiator == me.dev) ≡ false → (n.target == me.dev) ≡ false → connected_due s k me n ≡ None
-
-alone : AreOthers → (s : ScenarioValue) (rows : List Row) (n : Connection) (dev : ℕ) → AreOfDevices rows → IsLinked rows n → dev < 8 → is_end n dev ≡ false → (latency : Option ℕ) → due_if s (run_state s rows) dev latency ≡ reset_alone s dev latency (drives rows dev) (own_of rows dev)
+alone : AreOthersStill → (s : ScenarioValue) (rows : List Row) (n : Connection) (dev : ℕ) → AreOfDevices rows → IsLinked rows n → dev < 8 → is_end n dev ≡ false → (latency : Option ℕ) → due_if s (run_state s rows) dev latency ≡ reset_alone s dev latency (drives rows dev) (own_of rows dev)
 alone others s rows n dev d g lt x None = refl
 alone others s rows n dev d g lt x (Some latency) =
     (λ j. with_reset me (own_at k.owns dev).rst reset (stage_due s k me (rst j) ((p.connection ∙ g.stands) j)))
@@ -68,7 +63,7 @@ alone others s rows n dev d g lt x (Some latency) =
 
 -- ---- a row of an end
 
-kept_due : AreOthers → (s : ScenarioValue) (rows : List Row) (row : Row) (n : Connection) (dev : ℕ) → AreOfDevices (row ∷ rows) → IsKept rows row n → dev < 8 → is_end n dev ≡ false → due s rows dev ≡ due s (row ∷ rows) dev
+kept_due : AreOthersStill → (s : ScenarioValue) (rows : List Row) (row : Row) (n : Connection) (dev : ℕ) → AreOfDevices (row ∷ rows) → IsKept rows row n → dev < 8 → is_end n dev ≡ false → due s rows dev ≡ due s (row ∷ rows) dev
 kept_due others s rows row n dev d k lt x =
     alone others s rows n dev d.1 k.before lt x (latency_of s dev)
     ∙ (λ j. reset_alone s dev (latency_of s dev) (same_lines j) (same_own j))
@@ -83,14 +78,14 @@ kept_due others s rows row n dev d k lt x =
     same_own : own_of rows dev ≡ own_of (row ∷ rows) dev
     same_own = ap (λ (q : Bool). if q then own_next row.kind (own_of rows dev) (change_of rows row) row.time else own_of rows dev) (sym apart)
 
-besides_kept : AreOthers → (s : ScenarioValue) (rows : List Row) (row : Row) (n : Connection) → AreOfDevices (row ∷ rows) → IsKept rows row n → (dev : ℕ) → dev < 8 → due_besides (Some n) (due s rows) dev ≡ due_besides (Some n) (due s (row ∷ rows)) dev
+besides_kept : AreOthersStill → (s : ScenarioValue) (rows : List Row) (row : Row) (n : Connection) → AreOfDevices (row ∷ rows) → IsKept rows row n → (dev : ℕ) → dev < 8 → due_besides (Some n) (due s rows) dev ≡ due_besides (Some n) (due s (row ∷ rows)) dev
 besides_kept others s rows row n d k dev lt = go (is_end n dev) refl
   where
     go : (q : Bool) → is_end n dev ≡ q → (if q then None else due s rows dev) ≡ (if q then None else due s (row ∷ rows) dev)
     go true e = refl
     go false e = kept_due others s rows row n dev d k lt e
 
-away_kept : AreOthers → (s : ScenarioValue) (rows : List Row) (row : Row) (n : Connection) (a : Away) → AreOfDevices (row ∷ rows) → IsKept rows row n → IsAway s rows a → IsAway s (row ∷ rows) a
+away_kept : AreOthersStill → (s : ScenarioValue) (rows : List Row) (row : Row) (n : Connection) (a : Away) → AreOfDevices (row ∷ rows) → IsKept rows row n → IsAway s rows a → IsAway s (row ∷ rows) a
 away_kept others s rows row n a d k h =
     let same : n ≡ a.connection = some_is n a.connection (sym k.before.stands ∙ h.linked.stands) in
     let here : IsKept rows row a.connection = subst (λ (m : Connection). IsKept rows row m) same k in
@@ -99,7 +94,7 @@ away_kept others s rows row n a d k h =
       first = h.first ∙ least_same (due_besides (Some a.connection) (due s rows)) (due_besides (Some a.connection) (due s (row ∷ rows))) 8 (besides_kept others s rows row a.connection d here);
     }
 
-pub stays_known : AreOthers → (s : ScenarioValue) (rows : List Row) (row : Row) (kept : Option Connection) (away : Option Away) → is_some kept ≡ true → IfSome kept (λ n. IsKept rows row n) → AreOfDevices (row ∷ rows) → IsAwayIf s rows away → IsAwayIf s (row ∷ rows) away
+pub stays_known : AreOthersStill → (s : ScenarioValue) (rows : List Row) (row : Row) (kept : Option Connection) (away : Option Away) → is_some kept ≡ true → IfSome kept (λ n. IsKept rows row n) → AreOfDevices (row ∷ rows) → IsAwayIf s rows away → IsAwayIf s (row ∷ rows) away
 stays_known others s rows row kept None e k d h = tt
 stays_known others s rows row None (Some a) e k d h = absurd cc
 stays_known others s rows row (Some n) (Some a) e k d h = away_kept others s rows row n a d k h

@@ -7,8 +7,9 @@ use Rattle.scsi_device.proofs.Finds.{some_is}
 use Rattle.bus_trace.specs.declared.Row.{Row}
 use Rattle.bus_trace.specs.declared.connection.Connection.{Connection}
 use Rattle.scenario.specs.Value.{ScenarioValue}
-use Rattle.bus_run.specs.Places.{IsIn, AreIn, is_one, rows_told, AreKnownBut}
+use Rattle.bus_run.specs.Places.{IsIn, AreIn, rows_told, AreKnownBut}
 use Rattle.bus_base.proofs.Tests.{or_true, eq_self, nothing_below}
+use Rattle.bus_rules.specs.Order.{is_of_device}
 
 below_more : (d dev : ℕ) → d ≢ dev → nat_lt d (dev + 1) ≡ nat_lt d dev
 below_more d dev ne = grind (arith, nat_tests)
@@ -23,30 +24,30 @@ other_one : (d one : ℕ) → d ≢ one → (one == d) ≡ false
 other_one d one ne = grind (arith, nat_tests)
 
 told_next : (rows : List Row) (row : Row) (dev : ℕ) (one : Option ℕ) (d : ℕ) → d ≢ dev → rows_told rows row (dev + 1) one d ≡ rows_told rows row dev one d
-told_next rows row dev one d ne = ap (λ (q : Bool). if q || is_one one d then row ∷ rows else rows) (below_more d dev ne)
+told_next rows row dev one d ne = ap (λ (q : Bool). if q || is_of_device one d then row ∷ rows else rows) (below_more d dev ne)
 
-told_one : (rows : List Row) (row : Row) (k : ℕ) (one : Option ℕ) (d : ℕ) → is_one one d ≡ true → rows_told rows row k one d ≡ row ∷ rows
+told_one : (rows : List Row) (row : Row) (k : ℕ) (one : Option ℕ) (d : ℕ) → is_of_device one d ≡ true → rows_told rows row k one d ≡ row ∷ rows
 told_one rows row k one d e = ap (λ (q : Bool). if nat_lt d k || q then row ∷ rows else rows) e ∙ ap (λ (q : Bool). if q then row ∷ rows else rows) (or_true (nat_lt d k))
 
 told_below : (rows : List Row) (row : Row) (k : ℕ) (one : Option ℕ) (d : ℕ) → nat_lt d k ≡ true → rows_told rows row k one d ≡ row ∷ rows
-told_below rows row k one d e = ap (λ (q : Bool). if q || is_one one d then row ∷ rows else rows) e
+told_below rows row k one d e = ap (λ (q : Bool). if q || is_of_device one d then row ∷ rows else rows) e
 
-told_not : (rows : List Row) (row : Row) (k : ℕ) (one : Option ℕ) (d : ℕ) → nat_lt d k ≡ false → is_one one d ≡ false → rows_told rows row k one d ≡ rows
+told_not : (rows : List Row) (row : Row) (k : ℕ) (one : Option ℕ) (d : ℕ) → nat_lt d k ≡ false → is_of_device one d ≡ false → rows_told rows row k one d ≡ rows
 told_not rows row k one d e f = λ i. if e i || f i then row ∷ rows else rows
 
 -- The one was told of it before.
-pub skipped : {D : Type 0} → (IsOf : ScenarioValue → List Row → ℕ → D → Type 0) (s : ScenarioValue) (rows : List Row) (row : Row) (dev : ℕ) (one : Option ℕ) (xs : List (Option D)) → is_one one dev ≡ true → AreKnownBut IsOf s rows row dev one xs → AreKnownBut IsOf s rows row (dev + 1) one xs
+pub skipped : {D : Type 0} → (IsOf : ScenarioValue → List Row → ℕ → D → Type 0) (s : ScenarioValue) (rows : List Row) (row : Row) (dev : ℕ) (one : Option ℕ) (xs : List (Option D)) → is_of_device one dev ≡ true → AreKnownBut IsOf s rows row dev one xs → AreKnownBut IsOf s rows row (dev + 1) one xs
 skipped {D} IsOf s rows row dev one xs e h d lt =
     elim (cases_eq d dev) [
       | inl same ↦ subst (λ (r : List Row). IsIn IsOf s r d (slice_index_or xs d None)) (told_one rows row dev one d (is same) ∙ sym (told_one rows row (dev + 1) one d (is same))) (h d lt)
       | inr ne ↦ subst (λ (r : List Row). IsIn IsOf s r d (slice_index_or xs d None)) (sym (told_next rows row dev one d ne)) (h d lt)
     ]
   where
-    is : d ≡ dev → is_one one d ≡ true
-    is same = ap (λ (k : ℕ). is_one one k) same ∙ e
+    is : d ≡ dev → is_of_device one d ≡ true
+    is same = ap (λ (k : ℕ). is_of_device one k) same ∙ e
 
 -- One more is told.
-pub told : {D : Type 0} → (IsOf : ScenarioValue → List Row → ℕ → D → Type 0) (s : ScenarioValue) (rows : List Row) (row : Row) (dev : ℕ) (one : Option ℕ) (xs ys : List (Option D)) → dev < 8 → is_one one dev ≡ false → (IsIn IsOf s rows dev (slice_index_or xs dev None) → IsIn IsOf s (row ∷ rows) dev (slice_index_or ys dev None)) → ((d : ℕ) → d ≢ dev → slice_index_or ys d None ≡ slice_index_or xs d None) → AreKnownBut IsOf s rows row dev one xs → AreKnownBut IsOf s rows row (dev + 1) one ys
+pub told : {D : Type 0} → (IsOf : ScenarioValue → List Row → ℕ → D → Type 0) (s : ScenarioValue) (rows : List Row) (row : Row) (dev : ℕ) (one : Option ℕ) (xs ys : List (Option D)) → dev < 8 → is_of_device one dev ≡ false → (IsIn IsOf s rows dev (slice_index_or xs dev None) → IsIn IsOf s (row ∷ rows) dev (slice_index_or ys dev None)) → ((d : ℕ) → d ≢ dev → slice_index_or ys d None ≡ slice_index_or xs d None) → AreKnownBut IsOf s rows row dev one xs → AreKnownBut IsOf s rows row (dev + 1) one ys
 told {D} IsOf s rows row dev one xs ys lt apart seen others h d b =
     elim (cases_eq d dev) [
       | inl same ↦ subst (λ (k : ℕ). IsIn IsOf s (rows_told rows row (dev + 1) one k) k (slice_index_or ys k None)) (sym same) here

@@ -1,16 +1,11 @@
 -- The process of a connection, as its initiator knows it.
-use Rattle.std.specs.Prelude.{false, List, Option, Some, None}
+use Rattle.std.specs.Prelude.{List}
 use Rattle.bus_base.specs.declared.ProcId.{ProcId}
 use Rattle.bus_trace.specs.declared.Row.{Row}
 use Rattle.scenario.specs.Value.{ScenarioValue}
 use Rattle.bus_due.specs.RunState.{item_of}
 use Rattle.bus_due.specs.RunSteps.{run_state}
-use Rattle.bus_due.specs.Telling.{id_of}
-
--- Its command is 0 where it knows of none.
-abbrev pub id_or_none : Option ProcId → ProcId
-id_or_none None = record { command = 0; sense = false }
-id_or_none (Some id) = id
+use Rattle.bus_due.specs.Telling.{id_of, id_or_none}
 
 abbrev pub process_known : ScenarioValue → List Row → ProcId
 process_known s rows = id_or_none (id_of (item_of (run_state s rows).story.link))

@@ -6,10 +6,11 @@ ghost use Rattle.bus_trace.specs.Terms.{connection};
 ghost use Rattle.bus_lines.specs.Timely.{IsTimely};
 ghost use Rattle.scenario.specs.Value.{ScenarioValue};
 ghost use Rattle.bus_run.specs.Label.{process_known};
-ghost use Rattle.bus_run.specs.Places.{AreIn, is_one, AreKnownBut};
+ghost use Rattle.bus_run.specs.Places.{AreIn, AreKnownBut};
 ghost use Rattle.bus_run.specs.Seen.{AreSeen};
 ghost use Rattle.bus_run.specs.Shown.{shown_events, reading, events_shown, is_left, teller, reset_events};
 ghost use Rattle.bus_run.specs.Standing.{IsKept};
+ghost use Rattle.bus_rules.specs.Order.{is_of_device};
 
 use crate::device::Device;
 use crate::laws::rows_tie_devices;
@@ -78,8 +79,8 @@ pub fn row_shown<D: Device>(places: &[Option<D>], observer: &Observer, row: &Row
 }
 
 // Whether it is this one.
-fn is_one(one: Option<Dev>, dev: Dev) -> bool
-    ensures { result ≡ is_one one dev }
+fn is_of_device(one: Option<Dev>, dev: Dev) -> bool
+    ensures { result ≡ is_of_device one dev }
 {
     match one {
         None => false,
@@ -107,7 +108,7 @@ fn see_unless<D: Device>(
         → AreKnownBut D.IsOf s rows row.now dev one places.old
         → AreKnownBut D.IsOf s rows row.now (dev + 1) one places.new }
 {
-    if !is_one(one, dev) {
+    if !is_of_device(one, dev) {
         see_in(places, dev, observer, row, label, shown);
     }
 }

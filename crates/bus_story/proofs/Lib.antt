@@ -1,3 +1,5 @@
 mod Cases
 mod Small
 pub mod StorySteps
+pub mod CarriedLists
+pub mod SameBytes

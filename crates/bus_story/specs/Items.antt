@@ -5,10 +5,9 @@ use Rattle.bus_base.specs.declared.ProcId.{ProcId}
 use Rattle.scenario.specs.declared.value.HostDef.{HostDef}
 use Rattle.scenario.specs.declared.value.CmdDef.{CmdDef}
 use Rattle.scenario.specs.declared.value.AbortDef.{AbortDef}
-use Rattle.scenario.specs.declared.value.Tag.{Tag}
-use Rattle.scenario.specs.declared.value.Tag.TheVariants as tags
 use Rattle.scenario.specs.Value.{ScenarioValue}
 use Rattle.disk_array.specs.Processes.{command_at, same_id}
+use Rattle.disk_array.specs.Order.{tag_number}
 
 -- A process, or an abort line, counted from 1.
 pub data Item : Type 0 where
@@ -36,11 +35,18 @@ pub record Sent : Type 0 where
   pub checks : List ℕ
   pub tries : List Item
 
+-- The n-th command, and its automatic REQUEST SENSE.
+abbrev pub command_id : ℕ → ProcId
+command_id n = record { command = n; sense = false }
+
+abbrev pub sense_id : ℕ → ProcId
+sense_id n = record { command = n; sense = true }
+
 abbrev pub command_item : ℕ → Item
-command_item n = process (record { command = n; sense = false })
+command_item n = process (command_id n)
 
 abbrev pub sense_item : ℕ → Item
-sense_item n = process (record { command = n; sense = true })
+sense_item n = process (sense_id n)
 
 abbrev pub is_done : Sent → Item → Bool
 is_done b item = has_item b.sent item || has_item b.over item
@@ -74,12 +80,6 @@ open_from b dev n [] = []
 open_from b dev n (c ∷ commands) =
     if c.host == dev && is_open b n then c ∷ open_from b dev (n + 1) commands else open_from b dev (n + 1) commands
 
-abbrev pub tag_number_if : Tag → Option ℕ
-tag_number_if tags.Untagged = None
-tag_number_if (tags.Simple n) = Some n
-tag_number_if (tags.Ordered n) = Some n
-tag_number_if (tags.Head n) = Some n
-
 abbrev pub is_tag_clash : Option ℕ → Option ℕ → Bool
 is_tag_clash None b = true
 is_tag_clash (Some a) None = true
@@ -87,7 +87,7 @@ is_tag_clash (Some a) (Some b) = a == b
 
 -- At one unit: an untagged command beside any, or two with one tag.
 abbrev pub is_clash : CmdDef → CmdDef → Bool
-is_clash c d = (c.target == d.target && c.unit == d.unit) && is_tag_clash (tag_number_if c.tag) (tag_number_if d.tag)
+is_clash c d = (c.target == d.target && c.unit == d.unit) && is_tag_clash (tag_number c.tag) (tag_number d.tag)
 
 abbrev pub open_limit_of : List HostDef → ℕ → ℕ
 open_limit_of [] dev = 0

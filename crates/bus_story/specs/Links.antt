@@ -1,13 +1,14 @@
 -- The connection that stands: to which process or abort it belongs, and what its last message was.
-use Rattle.std.specs.Prelude.{ℕ, ◌+◌, Bool, true, false, not, ◌&&◌, ◌==◌, List, [], ◌∷◌, Option, Some, None, if◌then◌else◌}
+use Rattle.std.specs.Prelude.{ℕ, ◌+◌, Bool, not, ◌&&◌, ◌==◌, List, [], ◌∷◌, Option, Some, None, if◌then◌else◌}
 use Rattle.scenario.specs.declared.value.CmdDef.{CmdDef}
 use Rattle.msg_grammar.specs.declared.message.MsgOut.{MsgOut}
 use Rattle.msg_grammar.specs.declared.message.MsgOut.TheVariants as to_target
 use Rattle.msg_grammar.specs.declared.message.MsgIn.{MsgIn}
 use Rattle.msg_grammar.specs.declared.message.MsgIn.TheVariants as to_initiator
 use Rattle.bus_trace.specs.declared.connection.Connection.{Connection}
-use Rattle.bus_story.specs.Items.{Item, Sent, has_item, command_item, sense_item, is_open, tag_number_if}
+use Rattle.bus_story.specs.Items.{Item, Sent, has_item, command_item, sense_item, is_open}
 use Rattle.bus_story.specs.CarriedBytes.{CarriedBytes}
+use Rattle.disk_array.specs.Order.{same_number, tag_number}
 
 -- The last message, as far as it tells how the connection ends.
 pub data LastMessage : Type 0 where
@@ -45,12 +46,6 @@ last_in _ = plain
 
 -- ---- the process that a target names: IDENTIFY, and for a tagged one SIMPLE QUEUE TAG
 
-abbrev pub same_number : Option ℕ → Option ℕ → Bool
-same_number None None = true
-same_number (Some a) (Some b) = a == b
-same_number None (Some b) = false
-same_number (Some a) None = false
-
 abbrev pub is_of_nexus : CmdDef → ℕ → ℕ → ℕ → Bool
 is_of_nexus c initiator target unit = c.host == initiator && c.target == target && c.unit == unit
 
@@ -61,7 +56,7 @@ is_open_sense b n = has_item b.sent (sense_item n) && not (has_item b.over (sens
 abbrev pub named_item_from : Sent → ℕ → ℕ → ℕ → Option ℕ → ℕ → List CmdDef → Option Item
 named_item_from b initiator target unit tag n [] = None
 named_item_from b initiator target unit tag n (c ∷ commands) =
-    if is_of_nexus c initiator target unit && is_open b n && same_number (tag_number_if c.tag) tag then Some (command_item n)
+    if is_of_nexus c initiator target unit && is_open b n && same_number (tag_number c.tag) tag then Some (command_item n)
     else if is_of_nexus c initiator target unit && is_open_sense b n && same_number None tag then Some (sense_item n)
     else named_item_from b initiator target unit tag (n + 1) commands
 

@@ -64,13 +64,15 @@ with_check b id status =
     if not id.sense && status == CHECK_CONDITION then record b { sent = record b.sent { checks = b.sent.checks ++ id.command ∷ [] } } else b
 
 -- Every open command that this test names ends so, and every automatic REQUEST SENSE that the other names is stopped.
+abbrev pub story_with_end_if : (CmdDef → Bool) → (CmdDef → Bool) → Ending → ℕ → CmdDef → Story → Story
+story_with_end_if drops stops e n c b =
+    if is_open b.sent n && drops c then story_with_end b (record { command = n; sense = false }) e
+    else if stops c && list_any (λ k. k == n) b.sent.checks then story_with_over b (sense_item n)
+    else b
+
 abbrev pub story_with_ends : (CmdDef → Bool) → (CmdDef → Bool) → Ending → ℕ → List CmdDef → Story → Story
 story_with_ends drops stops e n [] b = b
-story_with_ends drops stops e n (c ∷ commands) b =
-    story_with_ends drops stops e (n + 1) commands
-    (if is_open b.sent n && drops c then story_with_end b (record { command = n; sense = false }) e
-    else if stops c && list_any (λ k. k == n) b.sent.checks then story_with_over b (sense_item n)
-    else b)
+story_with_ends drops stops e n (c ∷ commands) b = story_with_ends drops stops e (n + 1) commands (story_with_end_if drops stops e n c b)
 
 abbrev pub is_unit_of : CmdDef → ℕ → ℕ → Bool
 is_unit_of c target unit = c.target == target && c.unit == unit

@@ -1,7 +1,6 @@
 -- What the rows of a scenario's trace tell: its history, and what each process carried. Each row tells by the rows
 -- before it; nothing is asked of a device.
 use Rattle.std.specs.Prelude.{ℕ, zero, suc, ◌%◌, Bool, true, false, not, ◌&&◌, ◌==◌, List, [], ◌∷◌, ◌++◌, slice_set, Option, Some, None, is_some, is_none, nat_lt, if◌then◌else◌}
-use Rattle.std.specs.List.{list_any}
 use Rattle.bus_base.specs.declared.Event.{Event}
 use Rattle.bus_trace.specs.declared.Row.{Row}
 use Rattle.bus_trace.specs.declared.Kind.{Kind}
@@ -22,6 +21,7 @@ use Rattle.bus_story.specs.Links.{Link, link_of, last_out, last_in, link_after_n
 use Rattle.bus_story.specs.CarriedBytes.{CarriedBytes, carried_of, with_carried, with_restored_pointers, carried_after_message, carried_after_byte, carried_after_fault}
 use Rattle.bus_story.specs.Story.{Story, empty_story, unanswered, story_with_over, story_with_end, story_after_events}
 use Rattle.bus_story.specs.HistoryEvents.{carried_if, row_events_by}
+use Rattle.disk_array.specs.Seats.{is_initiator}
 
 -- ---- arbitration and selection
 
@@ -34,12 +34,9 @@ aim_of [] dev = None
 aim_of (item ∷ items) zero = item
 aim_of (item ∷ items) (suc dev) = aim_of items dev
 
-abbrev pub is_host : List HostDef → ℕ → Bool
-is_host hosts dev = list_any (λ (h : HostDef). h.dev == dev) hosts
-
 abbrev pub story_with_aim : ScenarioValue → Story → Row → Story
 story_with_aim s b row =
-    record b { aims = slice_set b.aims row.dev (if is_host s.hosts row.dev then item_at s b.sent row.dev row.time else None) }
+    record b { aims = slice_set b.aims row.dev (if is_initiator s.hosts row.dev then item_at s b.sent row.dev row.time else None) }
 
 abbrev pub retries_of : List HostDef → ℕ → ℕ
 retries_of [] dev = 0

@@ -18,7 +18,7 @@ ghost use Rattle.scenario.specs.Value.{ScenarioValue};
 ghost use Rattle.bus_story.specs.Story.{empty_story};
 ghost use Rattle.bus_story.specs.TraceHistory.{story, story_after, row_events, trace_history};
 
-pub use messages::{message_in, message_out};
+pub use messages::{is_parity_error, is_status_phase, message_in, message_out};
 
 /// The story of one row more is that of the rows before it, and then what this row does.
 pub fn stories_go_on()

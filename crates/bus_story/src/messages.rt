@@ -3,9 +3,11 @@ ghost use Rattle.std.specs.Prelude.{◌≡◌};
 ghost use Rattle.msg_grammar.specs.declared.message.Got.{Got};
 ghost use Rattle.bus_phases.specs.Dialogue.{fresh_bytes};
 ghost use Rattle.bus_story.specs.BusState.{whole_out, whole_in, message_out, message_in};
+ghost use Rattle.bus_story.specs.CarriedBytes.{is_status_phase};
+ghost use Rattle.bus_story.specs.TraceHistory.{is_parity_error};
 
 use bus_phases::{Dialogue, Half};
-use bus_trace::{Change, is_message_in, is_message_out};
+use bus_trace::{Change, Lines, is_message_in, is_message_out};
 use msg_grammar::{Got, MsgIn, MsgOut};
 
 fn whole_out(got: Got<MsgOut>) -> Option<MsgOut>
@@ -58,4 +60,21 @@ pub fn message_in(dialogue: &Dialogue, change: &Change, crosses: bool) -> Option
     }
     let mut bytes = dialogue.half.copy();
     whole_in(bytes.take_in(change.after.data()))
+}
+
+/// Whether it is MESSAGE PARITY ERROR (6.6.14).
+pub fn is_parity_error(message: MsgOut) -> bool
+    ensures { result ≡ is_parity_error message }
+{
+    match message {
+        MsgOut::ParityError => true,
+        _ => false,
+    }
+}
+
+/// Whether these lines are those of a STATUS phase.
+pub fn is_status_phase(lines: Lines) -> bool
+    ensures { result ≡ is_status_phase lines }
+{
+    !lines.msg() && lines.cd() && lines.io()
 }

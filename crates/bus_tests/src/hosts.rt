@@ -14,7 +14,7 @@ use bus_lines::views_are_timely;
 use bus_trace::{Kind, Row};
 use cdb_codec::GOOD;
 use initiator::{Host, Outcome};
-use scenario::{HostDef, read};
+use scenario::{HostDef, host_line, read};
 use std::alloc::Global;
 use std::process::Abort;
 use tagged::TAGGED;
@@ -46,12 +46,7 @@ fn observer_of(rows: &[Row]) -> Observer
 fn has_host(hosts: &[HostDef], dev: Dev) -> bool
     ensures { result ≡ is_some (find (λ (h : HostDef). h.dev == dev) hosts.now) }
 {
-    for def in hosts {
-        if def.dev == dev {
-            return true;
-        }
-    }
-    false
+    host_line(hosts, dev).is_some()
 }
 
 fn host_in(alloc: Global, text: &[u8]) -> Option<Host> {

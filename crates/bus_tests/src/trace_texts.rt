@@ -1,7 +1,7 @@
 //! Tests of `trace_text`: each public function once, and reports to sinks that fail at every call.
 ghost use Rattle.std.specs.Prelude.{◌≡◌, length, IfOk};
 ghost use Rattle.std.specs.List.{AllByRecursion};
-ghost use Rattle.trace_text.specs.RowText.{IsOfEight};
+ghost use Rattle.bus_trace.specs.OfTrace.{IsOfDevice};
 
 use bitflags::Flags;
 use bus_base::{AbortKind, Event, Failed, MemSink, NoMemory, Octets, ProcId};
@@ -132,7 +132,7 @@ done
 
 // Two rows, two events, a reply, and a disk of which one block is shown.
 fn sample_run(alloc: Global) -> Result<Run, NoMemory>
-    ensures rows { IfOk result (λ run. AllByRecursion IsOfEight run.rows) }
+    ensures rows { IfOk result (λ run. AllByRecursion IsOfDevice run.rows) }
     ensures replies { IfOk result (λ run. length run.replies ≡ 1) }
     ensures disks { IfOk result (λ run. length run.disks ≡ 1) }
 {

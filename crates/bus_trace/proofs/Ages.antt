@@ -1,11 +1,11 @@
 -- Since when a line has stood.
 use Rattle.std.proofs.Common.{ℕ, ◌≡◌, ◌≢◌, ◌≤◌, ◌<◌, ◌==◌, Bool, true, false, List, [], ◌∷◌, if◌then◌else◌, ◌∙◌, refl, sym, arith}
-use Rattle.std.specs.Prelude.{nat_lt, not, cond}
+use Rattle.std.specs.Prelude.{not, cond}
 use Rattle.std.specs.Int.{bit_at}
-use Rattle.std.proofs.lemmas.Bool.Decides.{nat_tests}
 use Rattle.bus_trace.specs.LineSet.{LineSet, bit_value, line_of, same}
 use Rattle.bus_trace.specs.declared.rows.Row.{Row}
 use Rattle.bus_trace.specs.Trace.{bus, newer, since, since_line}
+use Rattle.bus_trace.proofs.Bits.{line_low}
 use Rattle.std.proofs.lemmas.Bool.{ne_eqb, eq-eqb}
 use Rattle.bus_base.proofs.Tests.{if_less}
 
@@ -116,15 +116,10 @@ since_line_of line on law rows =
     let e : since (line_of line) rows ≡ since (λ s. bit_value (on s) 1) rows = λ i. since (λ s. law s i) rows in
     e ∙ since_by_line on rows
 
--- a data line is a bit of the data lines
-pub line_data : (k : ℕ) (s : LineSet) → k < 9 → line_of k s ≡ bit_at s.data_bits k
-unfolding line_of
-line_data k s lt = let e : nat_lt k 9 ≡ true = grind (arith, nat_tests) in if_yes (nat_lt k 9) (bit_at s.data_bits k) _ e
-
 -- where no data line changes the time of each stays
 pub data_stay : (b a : LineSet) (time : ℕ) (old : ℕ → ℕ) → b.data_bits ≡ a.data_bits → (k : ℕ) → k < 9 → old k ≡ newer (line_of k) b a (old k) time
 data_stay b a time old same k lt =
-    let e : line_of k b ≡ line_of k a = line_data k b lt ∙ ((λ i. bit_at (same i) k) ∙ sym (line_data k a lt)) in
+    let e : line_of k b ≡ line_of k a = line_low k b lt ∙ ((λ i. bit_at (same i) k) ∙ sym (line_low k a lt)) in
     sym (if_yes (line_of k b == line_of k a) (old k) time (eq-eqb _ _ e))
 
 -- the time of a line that differs is the newest

@@ -10,3 +10,4 @@ pub mod Ages
 pub mod Views
 pub mod Sample
 pub mod SameAgreement
+pub mod Connections

@@ -1,9 +1,10 @@
 -- A byte on the data lines has odd parity.
-use Rattle.std.proofs.Common.{ℕ, ◌≡◌, ◌+◌, ◌*◌, ◌%◌, ◌^◌, ◌<◌, ◌≤◌, ◌==◌, Bool, true, false, refl, arith, ap, ◌∙◌}
+use Rattle.std.proofs.Common.{ℕ, ◌≡◌, ◌+◌, ◌*◌, ◌%◌, ◌^◌, ◌<◌, ◌==◌, Bool, true, false, refl, arith, ap, ◌∙◌}
 use Rattle.std.specs.Int.RustNames.{count_ones}
 use Rattle.std.proofs.lemmas.Nat.{ones_cat}
 use Rattle.std.proofs.lemmas.Bool.Decides.{nat_tests}
 use Rattle.bus_trace.specs.LineSet.{bit_value, byte_set, parity_of, has_odd_parity}
+use Rattle.bus_trace.proofs.Sets.{value_le}
 
 one_more : (byte : ℕ) → byte < 256 → count_ones (byte + 256) ≡ count_ones byte + 1
 unfolding count_ones
@@ -20,10 +21,6 @@ byte_odd byte h = go (parity_of byte) refl
     go false e =
         let same : byte + 0 ≡ byte = omega arith in
         ap (λ n. count_ones n % 2 == 1) same ∙ grind (arith, nat_tests)
-
-value_le : (q : Bool) (w : ℕ) → bit_value q w ≤ w
-value_le true w = omega arith
-value_le false w = omega arith
 
 -- the nine bits are below 512
 pub byte_small : (byte : ℕ) → byte < 256 → (byte_set byte).data_bits < 512

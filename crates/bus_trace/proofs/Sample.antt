@@ -11,7 +11,7 @@ use Rattle.bus_trace.specs.Trace.{drives, bus, last_time, since, since_line}
 abbrev pub row : ℕ → ℕ → ℕ → Row
 row time dev bits = record { time = time; dev = dev; kind = Drives (set_of bits) }
 
-abbrev fault : ℕ → ℕ → ℕ → Row
+abbrev pub fault : ℕ → ℕ → ℕ → Row
 fault time dev code = record { time = time; dev = dev; kind = Fault code }
 
 abbrev sample : List Row

@@ -7,7 +7,7 @@ use Rattle.std.proofs.lemmas.Bool.Decides.{nat_tests}
 use Rattle.bus_trace.specs.LineSet.{LineSet, set_of, number_of, bit_value, none, same, same_set, id_set, ids_set}
 use Rattle.bus_trace.specs.Numbers.{number_back}
 
-value_le : (b : Bool) (w : ℕ) → bit_value b w ≤ w
+pub value_le : (b : Bool) (w : ℕ) → bit_value b w ≤ w
 value_le true w = omega arith
 value_le false w = omega arith
 
@@ -23,12 +23,12 @@ data_set x h =
     let low : x % 512 ≡ x = omega arith in
     λ i. record { data_bits = low i; bsy = no 9 (omega arith) i; sel = no 10 (omega arith) i; cd = no 11 (omega arith) i; io = no 12 (omega arith) i; msg = no 13 (omega arith) i; req = no 14 (omega arith) i; ack = no 15 (omega arith) i; atn = no 16 (omega arith) i; rst = no 17 (omega arith) i }
 
-same_eq : (a b : Bool) → same a b ≡ true → a ≡ b
+pub same_eq : (a b : Bool) → same a b ≡ true → a ≡ b
 same_eq true b e = sym e
 same_eq false true e = e
 same_eq false false e = refl
 
-same_self : (a : Bool) → same a a ≡ true
+pub same_self : (a : Bool) → same a a ≡ true
 same_self true = refl
 same_self false = refl
 

@@ -1,5 +1,5 @@
 -- When two agreements of synchronous data transfer are the same, and the times of a transfer period.
-use Rattle.std.specs.Prelude.{ℕ, ◌*◌, Bool, ◌&&◌, ◌||◌, Option, Some, None, nat_lt, ◌==◌, if◌then◌else◌}
+use Rattle.std.specs.Prelude.{ℕ, ◌*◌, Bool, ◌&&◌, ◌||◌, Option, Some, None, nat_lt, ◌==◌, if◌then◌else◌, ◌<◌}
 use Rattle.bus_trace.specs.declared.delays.TheConstants.{ASSERTION_PERIOD, NEGATION_PERIOD, SET_UP_TIME, DATA_HOLD, FAST_ASSERTION_PERIOD, FAST_NEGATION_PERIOD, FAST_SET_UP_TIME, FAST_DATA_HOLD}
 use Rattle.bus_trace.specs.declared.agreements.TheConstants.{LEAST_FACTOR, LEAST_SLOW_FACTOR}
 use Rattle.bus_trace.specs.declared.agreements.Agreement.{Agreement}
@@ -40,3 +40,10 @@ times_or_slow factor (Some t) = t
 
 abbrev pub times_of : ℕ → TransferTimes
 times_of factor = times_or_slow factor (transfer_times factor)
+
+-- None of the times of a transfer is 0, but for the period of the factor 0.
+pub record AreTimes (t : TransferTimes) : Type 0 where
+  pub assertion : 0 < t.assertion
+  pub negation : 0 < t.negation
+  pub set_up : 0 < t.set_up
+  pub hold : 0 < t.hold

@@ -13,3 +13,6 @@ IsKind (Fault bit) = bit ≤ 8
 pub record IsRow (row : Row) : Type 0 where
   pub device : row.dev < 8
   pub kind : IsKind row.kind
+
+abbrev pub IsOfDevice : Row → Type 0
+IsOfDevice row = row.dev < 8

@@ -2,7 +2,7 @@
 // times that a transfer period brings with it (5.7 and 6.1.5.2).
 
 ghost use Rattle.std.specs.Prelude.{◌≡◌};
-ghost use Rattle.bus_trace.specs.Agreements.{same_agreement, transfer_times};
+ghost use Rattle.bus_trace.specs.Agreements.{same_agreement, transfer_times, times_of, AreTimes};
 
 use crate::delays::{
     ASSERTION_PERIOD, DATA_HOLD, FAST_ASSERTION_PERIOD, FAST_DATA_HOLD, FAST_NEGATION_PERIOD,
@@ -79,4 +79,21 @@ pub fn transfer_times(factor: u8) -> Option<TransferTimes>
         set_up: SET_UP_TIME,
         hold: DATA_HOLD,
     })
+}
+
+/// The times of a transfer period factor; below the least of them those of a transfer that is not fast.
+pub fn times_of(factor: u8) -> TransferTimes
+    ensures exact { result ≡ times_of factor }
+    ensures times { AreTimes result }
+{
+    match transfer_times(factor) {
+        Some(times) => times,
+        None => TransferTimes {
+            period: 4 * Ns::from(factor),
+            assertion: ASSERTION_PERIOD,
+            negation: NEGATION_PERIOD,
+            set_up: SET_UP_TIME,
+            hold: DATA_HOLD,
+        },
+    }
 }

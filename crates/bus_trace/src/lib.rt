@@ -30,10 +30,12 @@ mod scsi_id;
 mod selection;
 
 pub use agreements::{
-    Agreement, TransferTimes, UNLIMITED_OFFSET, is_same_agreement, transfer_times,
+    Agreement, TransferTimes, UNLIMITED_OFFSET, is_same_agreement, times_of, transfer_times,
 };
 pub use arbitration::{Arbitration, arbitration_after};
-pub use changes::{Change, drives_data, falls, is_within, rises, same_hold, same_phase};
+pub use changes::{
+    Change, drives_data, falls, is_within, rises, same_hold, same_phase, same_stage,
+};
 pub use connection::{Connection, connection_after, receiver_of};
 pub use delays::{
     ARBITRATION_DELAY, ASSERTION_PERIOD, BUS_CLEAR_DELAY, BUS_FREE_DELAY, BUS_SET_DELAY,

@@ -12,7 +12,6 @@ use Rattle.msg_grammar.specs.declared.message.MsgIn.{MsgIn}
 use Rattle.msg_grammar.specs.declared.message.MsgIn.TheVariants as to_initiator
 use Rattle.msg_grammar.specs.declared.message.MsgOut.{MsgOut}
 use Rattle.bus_story.specs.BusState.{RowReading, row_reading}
-use Rattle.bus_story.specs.Links.{same_number}
 use Rattle.bus_transcript.specs.declared.item.Name.{Name}
 use Rattle.bus_transcript.specs.declared.item.Item.{Item}
 use Rattle.bus_transcript.specs.declared.item.Item.TheVariants as items
@@ -26,12 +25,9 @@ use Rattle.bus_transcript.specs.Accounts.{AccountValue, with_item, with_block, w
 use Rattle.bus_transcript.specs.Opened.{OpenedValue}
 use Rattle.bus_transcript.specs.Events.{same_name, name_after, last_name, is_of_last, is_in, are_in}
 use Rattle.bus_transcript.specs.Rows.{TranscriberValue, with_items, abort_item, account_from, account_parts, departed, departed_if, closed_by, closed_if, reset_items, free_items, under_reset, unanswered_by, unanswered_items, in_connection, on_bus, by_change, transcribed, finished_if, transcript_of}
+use Rattle.disk_array.proofs.SeatLookups.{number_same}
 
 -- ---- names
-
-pub number_same : (a : Option ℕ) → same_number a a ≡ true
-number_same None = refl
-number_same (Some n) = eq-eqb n n refl
 
 pub name_same : (n : Name) → same_name n n ≡ true
 name_same n =

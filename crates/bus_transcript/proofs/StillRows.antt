@@ -1,6 +1,6 @@
 -- A row that leaves a connection and its messages as they are changes nothing of the transcript but the bus.
 use Rattle.std.proofs.Common.{◌≡◌, ◌∙◌, Bool, true, false, [], refl, sym, ap, Option, Some, None}
-use Rattle.std.specs.Prelude.{not, ◌&&◌, ◌||◌, is_some, is_none, if◌then◌else◌, slice_set}
+use Rattle.std.specs.Prelude.{not, ◌&&◌, is_some, is_none, if◌then◌else◌, slice_set}
 use Rattle.std.proofs.lemmas.Bool.{and_parts}
 use Rattle.bus_trace.specs.declared.rows.Kind.{Kind}
 use Rattle.bus_trace.specs.declared.rows.Row.{Row}
@@ -17,6 +17,7 @@ use Rattle.bus_transcript.specs.Opened.{OpenedValue, is_complete, is_completion,
 use Rattle.bus_transcript.specs.Rows.{TranscriberValue, after_row, bus_seen, by_change, in_connection, is_silent, on_bus, under_reset, with_bus}
 use Rattle.bus_transcript.specs.Still.{stands_on, is_still, still_bus}
 use Rattle.bus_transcript.proofs.Silence.{silent_stays}
+use Rattle.bus_base.proofs.Tests.{or_false}
 
 -- ---- tests
 
@@ -24,10 +25,6 @@ second_false : (a b c d e : Bool) → b ≡ false → (a && b && c && d && e) �
 second_false true true c d e z = absurd (cc)
 second_false true false c d e z = refl
 second_false false b c d e z = refl
-
-or_nothing : (a : Bool) → (a || false) ≡ a
-or_nothing true = refl
-or_nothing false = refl
 
 is_not : (a : Bool) → not a ≡ true → a ≡ false
 is_not true z = absurd (cc)
@@ -48,7 +45,7 @@ stays_open k w d kind crosses phase message fault =
     else if phase i then phase_entered (phase_over k d.change.before w.dialogue.half true) d.change.after
     else with_still_row k w d.change kind)
     ∙ (λ i. if taken i then with_part k Completion else with_fault k (fault i && is_some w.crossed))
-    ∙ (λ i. record k { struck = or_nothing k.struck i })
+    ∙ (λ i. record k { struck = or_false k.struck i })
   where
     taken : is_completion k w.dialogue.half d.change ≡ false
     taken = second_false (rises d.change.before.ack d.change.after.ack) (is_message_in d.change.before) (is_complete k.held) (is_nil w.dialogue.half) (not d.change.after.atn) message

@@ -1,6 +1,6 @@
 -- What the messages of a connection say of it: its unit and tag, its abort messages, and what it means that the target
 -- then goes to BUS FREE (6.1.1, 6.6).
-use Rattle.std.specs.Prelude.{ℕ, Bool, true, false, List, [], ◌∷◌, Option, Some, None, is_some, is_none, if◌then◌else◌}
+use Rattle.std.specs.Prelude.{ℕ, Bool, false, List, [], ◌∷◌, Option, Some, None, is_some, is_none, if◌then◌else◌}
 use Rattle.msg_grammar.specs.declared.message.MsgOut.{MsgOut}
 use Rattle.msg_grammar.specs.declared.message.MsgOut.TheVariants as to_target
 use Rattle.msg_grammar.specs.declared.message.MsgIn.{MsgIn}
@@ -12,6 +12,7 @@ use Rattle.bus_transcript.specs.declared.part.Part.TheVariants.{Out, In, BrokenO
 use Rattle.bus_transcript.specs.declared.summary.Departure.{Departure}
 use Rattle.bus_transcript.specs.declared.summary.Departure.TheVariants.{Loss, Leave, Abortion}
 use Rattle.bus_transcript.specs.declared.summary.Summary.{Summary}
+use Rattle.msg_grammar.specs.Grammar.{is_abort}
 
 -- ---- the unit and the tag that a message names
 
@@ -34,13 +35,6 @@ tag_in (to_initiator.SimpleTag tag) = Some tag
 tag_in _ = None
 
 -- ---- messages that end processes
-
-abbrev pub is_abort : MsgOut → Bool
-is_abort to_target.Abort = true
-is_abort to_target.AbortTag = true
-is_abort to_target.ClearQueue = true
-is_abort to_target.DeviceReset = true
-is_abort _ = false
 
 -- ABORT TAG without a tag counts as ABORT.
 abbrev pub tag_aborted : Option ℕ → AbortKind

@@ -1,6 +1,6 @@
 -- The transcript of a trace: what its rows show and carry, row by row, with the processes named. Each row tells by the rows
 -- before it; nothing is asked of a device or a scenario.
-use Rattle.std.specs.Prelude.{ℕ, ◌<◌, Bool, true, false, List, [], ◌∷◌, ◌++◌, Option, Some, None, is_some, is_none, if◌then◌else◌, not, ◌&&◌}
+use Rattle.std.specs.Prelude.{ℕ, Bool, true, false, List, [], ◌∷◌, ◌++◌, Option, Some, None, is_some, is_none, if◌then◌else◌, not, ◌&&◌}
 use Rattle.bus_trace.specs.declared.rows.Kind.{Kind}
 use Rattle.bus_trace.specs.declared.rows.Row.{Row}
 use Rattle.bus_trace.specs.declared.changes.Change.{Change}
@@ -155,10 +155,6 @@ abbrev pub after_row : TranscriberValue → Row → TranscriberValue
 after_row t row = after_reading t row (row_reading t.bus_state row)
 
 -- ---- a trace, its newest row first
-
--- A row of one of the eight devices.
-abbrev pub IsOfDevice : Row → Type 0
-IsOfDevice row = row.dev < 8
 
 abbrev pub transcribed : List Row → TranscriberValue
 transcribed [] = nothing_seen

@@ -2,8 +2,7 @@
 use Rattle.std.specs.Prelude.{ℕ, ◌%◌, Bool, true, false, List, [], ◌∷◌, ◌++◌, Option, Some, None, codes, decimal}
 use Rattle.std.specs.List.{flat_map}
 use Rattle.text_words.specs.Spelling.{byte_text, hex_text}
-use Rattle.bus_base.specs.declared.AbortKind.{AbortKind}
-use Rattle.bus_base.specs.declared.AbortKind.TheVariants as aborts
+use Rattle.text_pages.specs.AbortText.{abort_text}
 use Rattle.msg_grammar.specs.declared.message.MsgOut.{MsgOut}
 use Rattle.msg_grammar.specs.declared.message.MsgOut.TheVariants as to_target
 use Rattle.msg_grammar.specs.declared.message.MsgIn.{MsgIn}
@@ -42,13 +41,6 @@ abbrev pub status_text : Option ℕ → List ℕ
 status_text None = codes "none"
 status_text (Some byte) = byte_text byte
 
--- what an abort message is aimed at
-abbrev pub aim_text : AbortKind → List ℕ
-aim_text aborts.All = codes "all"
-aim_text (aborts.Tag tag) = codes "tag " ++ decimal tag
-aim_text aborts.WholeQueue = codes "queue"
-aim_text aborts.Device = codes "device"
-
 abbrev pub data_word : Bool → List ℕ
 data_word true = codes "dataout "
 data_word false = codes "datain "
@@ -67,7 +59,7 @@ item_words (items.Ready name) = codes "ready " ++ name_text name
 item_words (items.End name status) = codes "end " ++ (name_text name ++ (32 ∷ [] ++ status_text status))
 item_words (items.Lost name) = codes "lost " ++ name_text name
 item_words (items.Abort initiator target unit kind) =
-    codes "abort " ++ (decimal initiator ++ (32 ∷ [] ++ (decimal target ++ (32 ∷ [] ++ (number_or_dash unit ++ (32 ∷ [] ++ aim_text kind))))))
+    codes "abort " ++ (decimal initiator ++ (32 ∷ [] ++ (decimal target ++ (32 ∷ [] ++ (number_or_dash unit ++ (32 ∷ [] ++ abort_text kind))))))
 item_words (items.Reset dev) = codes "reset " ++ decimal dev
 item_words (items.Free at) = codes "free " ++ decimal at
 

@@ -9,6 +9,7 @@ use crate::bus::{Bus, Reading};
 use crate::part::{Incoming, Part};
 use bus_base::Octets;
 use bus_phases::Half;
+use bus_story::{is_parity_error, is_status_phase};
 use bus_trace::{
     Change, Connection, Kind, Lines, changes_phase, is_command, is_data, is_fault, is_message_in,
     is_message_out, rises,
@@ -50,15 +51,6 @@ impl Model for Opened {
     } };
 }
 
-fn is_parity_error(message: MsgOut) -> bool
-    ensures { result ≡ is_parity_error message }
-{
-    match message {
-        MsgOut::ParityError => true,
-        _ => false,
-    }
-}
-
 fn is_complete(message: Option<Incoming>) -> bool
     ensures { result ≡ is_complete message }
 {
@@ -75,13 +67,6 @@ fn incoming_part(message: Incoming) -> Part
         Incoming::Whole(message) => Part::In(message),
         Incoming::Broken => Part::BrokenOff,
     }
-}
-
-/// Whether these lines are those of a STATUS phase.
-fn is_status_phase(lines: Lines) -> bool
-    ensures { result ≡ is_status_phase lines }
-{
-    !lines.msg() && lines.cd() && lines.io()
 }
 
 impl Opened {

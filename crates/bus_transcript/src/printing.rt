@@ -6,27 +6,14 @@ ghost use Rattle.bus_base.specs.Whole.{WritesAll};
 ghost use Rattle.text_words.specs.Spelling.{byte_text, hex_text};
 ghost use Rattle.text_pages.specs.Pages.{Prints};
 ghost use Rattle.msg_grammar.specs.Messages.{FitsOut, FitsIn};
-ghost use Rattle.bus_transcript.specs.Text.{fitted_out, fitted_in, number_or_dash, name_text, beginning_text, status_text, aim_text, data_word, item_words, item_text, transcript_text};
+ghost use Rattle.bus_transcript.specs.Text.{fitted_out, fitted_in, number_or_dash, name_text, beginning_text, status_text, data_word, item_words, item_text, transcript_text};
 
 use crate::item::{Item, Name, Transcript};
 use bus_base::{AbortKind, Dev, Failed, Ns, Sink};
 use msg_grammar::{MsgIn, MsgOut, encode_in, encode_out};
-use text_pages::{Page, flush, is_failed, new_page, put, put_number};
-use text_words::byte_text;
-
-fn put_byte<K: Sink>(out: &mut K, page: &mut Page, byte: u8)
-    ensures { Prints K.written K.faults out.old out.new page.old page.new (byte_text byte) }
-{
-    put(out, page, &byte_text(byte));
-}
-
-fn put_hex<K: Sink>(out: &mut K, page: &mut Page, bytes: &[u8])
-    ensures { Prints K.written K.faults out.old out.new page.old page.new (hex_text bytes.now) }
-{
-    for byte in bytes {
-        put_byte(out, page, *byte);
-    }
-}
+use text_pages::{
+    Page, flush, is_failed, new_page, put, put_abort, put_byte, put_hex, put_number, put_spaced,
+};
 
 fn put_or_dash<K: Sink>(out: &mut K, page: &mut Page, number: Option<u8>)
     ensures { Prints K.written K.faults out.old out.new page.old page.new (number_or_dash number) }
@@ -35,14 +22,6 @@ fn put_or_dash<K: Sink>(out: &mut K, page: &mut Page, number: Option<u8>)
         None => put(out, page, b"-"),
         Some(number) => put_number(out, page, number as u64),
     }
-}
-
-// A number and a space.
-fn put_spaced<K: Sink>(out: &mut K, page: &mut Page, number: u64)
-    ensures { Prints K.written K.faults out.old out.new page.old page.new (decimal number ++ 32 ∷ []) }
-{
-    put_number(out, page, number);
-    put(out, page, b" ");
 }
 
 fn put_name<K: Sink>(out: &mut K, page: &mut Page, name: Name)
@@ -71,20 +50,6 @@ fn put_status<K: Sink>(out: &mut K, page: &mut Page, status: Option<u8>)
     match status {
         None => put(out, page, b"none"),
         Some(byte) => put_byte(out, page, byte),
-    }
-}
-
-fn put_aim<K: Sink>(out: &mut K, page: &mut Page, kind: AbortKind)
-    ensures { Prints K.written K.faults out.old out.new page.old page.new (aim_text kind) }
-{
-    match kind {
-        AbortKind::All => put(out, page, b"all"),
-        AbortKind::Tag(tag) => {
-            put(out, page, b"tag ");
-            put_number(out, page, tag as u64)
-        }
-        AbortKind::WholeQueue => put(out, page, b"queue"),
-        AbortKind::Device => put(out, page, b"device"),
     }
 }
 
@@ -184,7 +149,7 @@ fn put_end<K: Sink>(out: &mut K, page: &mut Page, name: Name, status: Option<u8>
     put_status(out, page, status);
 }
 
-fn put_abort<K: Sink>(
+fn put_aborted<K: Sink>(
     out: &mut K,
     page: &mut Page,
     initiator: Dev,
@@ -200,7 +165,7 @@ fn put_abort<K: Sink>(
     put_spaced(out, page, target as u64);
     put_or_dash(out, page, unit);
     put(out, page, b" ");
-    put_aim(out, page, kind);
+    put_abort(out, page, kind);
 }
 
 // A word and a number.
@@ -240,7 +205,7 @@ fn put_words<K: Sink>(out: &mut K, page: &mut Page, item: &Item)
         Item::End(name, status) => put_end(out, page, *name, *status),
         Item::Lost(name) => put_named(out, page, b"lost ", *name),
         Item::Abort(initiator, target, unit, kind) => {
-            put_abort(out, page, *initiator, *target, *unit, *kind)
+            put_aborted(out, page, *initiator, *target, *unit, *kind)
         }
         Item::Reset(dev) => put_counted(out, page, b"reset ", *dev as u64),
         Item::Free(at) => put_counted(out, page, b"free ", *at),

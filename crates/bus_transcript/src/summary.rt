@@ -1,6 +1,7 @@
 //! What the messages of a connection say of it (ANSI X3.131-1994, 6.6).
 ghost use Rattle.std.specs.Prelude.{◌≡◌};
-ghost use Rattle.bus_transcript.specs.Nexus.{unit_out, unit_in, tag_out, tag_in, is_abort, tag_aborted, kind_of, no_summary, named, named_out, named_in, last_abort, departure_out, departure_in, summary_out, summary_in, summary_after, summary_of};
+ghost use Rattle.bus_transcript.specs.Nexus.{unit_out, unit_in, tag_out, tag_in, tag_aborted, kind_of, no_summary, named, named_out, named_in, last_abort, departure_out, departure_in, summary_out, summary_in, summary_after, summary_of};
+ghost use Rattle.msg_grammar.specs.Grammar.{is_abort};
 
 use crate::part::Part;
 use bus_base::AbortKind;

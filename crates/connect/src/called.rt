@@ -1,23 +1,24 @@
 // The devices that see another one call: the called device, and those that have lost (6.1.2 to 6.1.4).
 ghost use Rattle.std.specs.Prelude.{◌≡◌, ◌<◌};
-ghost use Rattle.bus_reactions.specs.Calling.{loser_release, answer_at, answer, is_called, called_due};
+ghost use Rattle.bus_reactions.specs.Calling.{answer_at, answer, is_called, called_due};
+ghost use Rattle.bus_reactions.specs.Reactions.{release_after};
 ghost use Rattle.connect.specs.Ready.{IsReady, time_limit};
 
-use crate::free_bus::due_at;
 use bus_base::Ns;
-use bus_reactions::{Due, Myself};
+use bus_reactions::{Due, Myself, due_at};
 use bus_trace::{BUS_SETTLE_DELAY, Calling, Kind, Lines};
 
-/// The release of a device that has lost.
-pub fn loser_release(me: &Myself, sel: Ns) -> Option<Due>
+/// The release of all lines, the latency of the device after this time: of one that has lost an arbitration, after SEL,
+/// and of each under RST.
+pub fn release(me: &Myself, time: Ns) -> Option<Due>
     requires ready { IsReady me.now }
-    requires sel { sel < time_limit }
-    ensures { result ≡ loser_release sel me.now }
+    requires time { time < time_limit }
+    ensures { result ≡ release_after time me.now }
 {
     if me.own.is_none() {
         return None;
     }
-    due_at(sel + me.latency, Lines::none())
+    due_at(time + me.latency, Lines::none())
 }
 
 fn answer_at(time: Ns, flip: Option<u8>) -> Option<Due>
@@ -62,10 +63,10 @@ pub fn called_due(
     ensures { result ≡ called_due bsy sel me.now flip calling.now }
 {
     let Some(calling) = calling else {
-        return loser_release(me, sel);
+        return release(me, sel);
     };
     if calling.called.get() != me.dev {
-        loser_release(me, sel)
+        release(me, sel)
     } else if is_called(calling) {
         answer(me, bsy, flip)
     } else {

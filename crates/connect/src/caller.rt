@@ -4,9 +4,8 @@ ghost use Rattle.bus_lines.specs.Timely.{IsBefore, IsCallingBefore};
 ghost use Rattle.bus_reactions.specs.Calling.{with_calling_mark, calling_start, calling_bsy_release, withdrawal, calling_abort, unanswered_due, caller_due, selection_end, bsy_takeover, reselection_end, answered_due};
 ghost use Rattle.connect.specs.Ready.{IsReady, time_limit};
 
-use crate::free_bus::due_at;
 use bus_base::Ns;
-use bus_reactions::{Due, Myself, Want};
+use bus_reactions::{Due, Myself, Want, due_at};
 use bus_trace::{
     Calling, Lines, QUIET_TIME, SELECTION_ABORT_TIME, SELECTION_TIMEOUT_DELAY, TWO_DESKEW,
     byte_lines,

@@ -6,18 +6,8 @@ ghost use Rattle.bus_reactions.specs.FreeBus.{entry, later_entry, free_due, win,
 ghost use Rattle.connect.specs.Ready.{IsReady, time_limit};
 
 use bus_base::Ns;
-use bus_reactions::{Due, Myself};
+use bus_reactions::{Due, Myself, due_at};
 use bus_trace::{ARBITRATION_DELAY, Arbitration, BUS_SET_DELAY, ENTRY_DELAY, Kind, Lines};
-
-/// At this time it drives these lines.
-pub fn due_at(time: Ns, lines: Lines) -> Option<Due>
-    ensures { result ≡ due_at time lines }
-{
-    Some(Due {
-        time,
-        kind: Kind::Drives(lines),
-    })
-}
 
 fn entry(me: &Myself, free: Ns, since: Ns) -> Option<Due>
     requires ready { IsReady me.now }

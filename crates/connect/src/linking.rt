@@ -4,16 +4,16 @@ ghost use Rattle.bus_trace.specs.declared.Row.{Row};
 ghost use Rattle.bus_lines.specs.BusView.{IsBusViewOf};
 ghost use Rattle.bus_lines.specs.Timely.{IsTimely, IsBefore, IsCallingBefore, IsStageBefore};
 ghost use Rattle.bus_reactions.specs.Calling.{calling_due, answer_due};
-ghost use Rattle.bus_reactions.specs.Linking.{bus_clear, link_due_by, link_due, sample_time};
+ghost use Rattle.bus_reactions.specs.Linking.{link_due_by, link_due, sample_time};
 ghost use Rattle.bus_reactions.specs.Sight.{sight};
 ghost use Rattle.connect.specs.Ready.{IsReady, time_limit};
 
-use crate::called::{called_due, loser_release};
+use crate::called::{called_due, release};
 use crate::caller::{answered_due, caller_due};
-use crate::free_bus::{arbitration_due, due_at, free_due};
+use crate::free_bus::{arbitration_due, free_due};
 use bus_base::Ns;
 use bus_lines::{BusView, Stage};
-use bus_reactions::{Due, Myself, Want};
+use bus_reactions::{Due, Myself, Want, due_at};
 use bus_trace::{BUS_SETTLE_DELAY, Call, Calling, Lines};
 
 fn calling_due(
@@ -54,19 +54,8 @@ fn answer_due(
     } else if calling.called.get() == me.dev {
         None
     } else {
-        loser_release(me, sel)
+        release(me, sel)
     }
-}
-
-fn bus_clear(me: &Myself, since: Ns) -> Option<Due>
-    requires ready { IsReady me.now }
-    requires since { since < time_limit }
-    ensures { result ≡ bus_clear me.now since }
-{
-    if me.own.is_none() {
-        return None;
-    }
-    due_at(since + me.latency, Lines::none())
 }
 
 fn link_due_by(
@@ -93,7 +82,7 @@ fn link_due_by(
             answer_due(me, want, sel, &call, &calling, answered)
         }
         Stage::InConnection(_) => None,
-        Stage::InReset(since) => bus_clear(me, since),
+        Stage::InReset(since) => release(me, since),
     }
 }
 

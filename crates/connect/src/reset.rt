@@ -4,9 +4,8 @@ ghost use Rattle.bus_reactions.specs.Reactions.{not_later, earlier_due};
 ghost use Rattle.bus_reactions.specs.Reset.{rst_assertion, rst_release, with_reset};
 ghost use Rattle.connect.specs.Ready.{IsReady, time_limit};
 
-use crate::free_bus::due_at;
 use bus_base::Ns;
-use bus_reactions::{Due, Myself};
+use bus_reactions::{Due, Myself, due_at};
 use bus_trace::{Lines, RESET_HOLD_TIME};
 
 fn not_later(first: Due, other: Due) -> Due

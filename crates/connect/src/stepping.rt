@@ -11,14 +11,13 @@ ghost use Rattle.connect.specs.Steps.{still_drives_bsy, step_due, ends_reselecti
 ghost use Rattle.connect.specs.declared.states.Link.TheVariants as in_state;
 
 use crate::called::is_called;
-use crate::free_bus::due_at;
 use crate::linking::{link_due, sample_time};
 use crate::reset::earlier_due;
 use crate::states::{self, Answering, Contending, Idle, Link, Linked, Step, Waiting, Won};
 use crate::transitions::{next_link, present_link};
 use bus_base::Ns;
 use bus_lines::{BusView, Stage};
-use bus_reactions::{Due, Myself, Want};
+use bus_reactions::{Due, Myself, Want, due_at};
 use bus_trace::{Calling, Kind, Lines};
 
 // ---- what is due

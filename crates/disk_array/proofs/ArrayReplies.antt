@@ -41,7 +41,7 @@ listed (Some c) b rs f e = let same : settled_array c ≡ b = cc in (λ i. (sym 
 pub took : (d c : Array) (rs : List (ProcId × Reply)) → Some d ≡ Some c → d.replies ≡ rs → c.replies ≡ rs
 took d c rs e f = let same : d ≡ c = cc in (λ i. (sym same i).replies) ∙ f
 
-accept_lists : (a c : Array) (p : Process) (x : Option UnitState) → Steps.accept_step_at a p x ≡ Some c → c.replies ≡ a.replies
+pub accept_lists : (a c : Array) (p : Process) (x : Option UnitState) → Steps.accept_step_at a p x ≡ Some c → c.replies ≡ a.replies
 accept_lists a c p None e = took (Steps.with_guest a p None) c a.replies e refl
 accept_lists a c p (Some u) e = either (is_request_sense (command_of p.cdb)) e
   where
@@ -101,7 +101,7 @@ fail_lists s a c id reply None e = new (process_of s id) e
     new None k = cc
     new (Some p) k = fresh p (Steps.is_waiting a.units id || Steps.has_ended a id) k
 
-end_lists : (a c : Array) (status : ℕ) (x : Option RunningProcess) → Steps.end_step a status x ≡ Some c → c.replies ≡ a.replies
+pub end_lists : (a c : Array) (status : ℕ) (x : Option RunningProcess) → Steps.end_step a status x ≡ Some c → c.replies ≡ a.replies
 end_lists a c status None e = cc
 end_lists a c status (Some r) e = given r.reply e
   where

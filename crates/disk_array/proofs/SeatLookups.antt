@@ -1,27 +1,25 @@
 -- Look-ups in the lists of the array after each kind of change.
-use Rattle.std.proofs.Common.{ℕ, ◌≡◌, Bool, true, false, List, [], ◌∷◌, ◌++◌, ◌∙◌, refl, sym, ap, map, arith, Some, None}
+use Rattle.std.proofs.Common.{ℕ, ◌≡◌, Bool, true, false, List, [], ◌∷◌, ◌++◌, ◌∙◌, refl, sym, ap, map, arith, Some, None, Option, zero}
 use Rattle.std.specs.Prelude.{if◌then◌else◌, ◌&&◌, ◌||◌, ◌==◌, is_some}
 use Rattle.std.proofs.lemmas.Grind.{common_steps}
 use Rattle.std.proofs.lemmas.Bool.{eqb-true, eq-eqb}
 use Rattle.bus_base.specs.declared.ProcId.{ProcId}
 use Rattle.cdb_codec.specs.declared.Sense.{Sense}
-use Rattle.disk_array.specs.Processes.{Process, same_id, same_bool}
+use Rattle.disk_array.specs.Processes.{Process, same_id, same_bool, command_at}
 use Rattle.disk_array.specs.Execution.{Reply}
 use Rattle.disk_array.specs.Units.{RunningProcess, UnitState, Nexus, same_nexus, sense_of_nexus, senses_without, nexuses_without, unit_state_at, with_unit, without_guest, units_after_choice, unit_after_choice}
 use Rattle.disk_array.specs.Steps.{units_with_reply, units_without, kept_units, unit_without, kept_guests, is_of_unit}
 use Rattle.disk_array.specs.Seats.{unit_mapped, in_hold, guests_at, unit_with_reply, unit_kept}
 use Rattle.bus_base.proofs.Tests.{and_first, and_second, eq_self}
+use Rattle.scenario.specs.declared.value.CmdDef.{CmdDef}
+use Rattle.disk_array.specs.Order.{same_number}
 
 -- ---- tests
 
-same_bool_is : (a b : Bool) → same_bool a b ≡ true → a ≡ b
+pub same_bool_is : (a b : Bool) → same_bool a b ≡ true → a ≡ b
 same_bool_is true b h = sym h
 same_bool_is false true h = cc
 same_bool_is false false h = refl
-
-pub same_bool_self : (a : Bool) → same_bool a a ≡ true
-same_bool_self true = refl
-same_bool_self false = refl
 
 pub same_id_is : (a b : ProcId) → same_id a b ≡ true → a ≡ b
 same_id_is a b h =
@@ -214,3 +212,15 @@ guests_at_without [] id t n = refl
 guests_at_without (g ∷ guests) id t n =
     let h : guests_at (without_guest guests id) t n ≡ without_guest (guests_at guests t n) id = guests_at_without guests id t n in
     grind (arith, common_steps)
+
+pub none_at : (commands : List CmdDef) → command_at commands 0 ≡ None
+none_at [] = refl
+none_at (x ∷ commands) = refl
+
+pub number_same : (a : Option ℕ) → same_number a a ≡ true
+number_same None = refl
+number_same (Some n) = eq-eqb n n refl
+
+pub never_first : (cs : List CmdDef) (c : CmdDef) → command_at cs zero ≡ Some c → ⊥
+never_first [] c e = cc
+never_first (d ∷ cs) c e = cc

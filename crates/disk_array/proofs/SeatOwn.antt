@@ -192,3 +192,11 @@ waiting_unit s (u ∷ units) id p b c e = go (waiting_unit s units id p b.1 c.1 
         let gone : unit_state_at units p.target p.unit ≡ None = (λ i. unit_state_at units (sym one i) (sym two i)) ∙ c.0 in
         (λ i. list_any (λ (q : Process). same_id q.id id) u.waiting || (h ∙ (λ j. is_waiting_at (gone j) id)) i) ∙ or_false (list_any (λ (q : Process). same_id q.id id) u.waiting)
     go h false z = (λ i. waits_other s u u.waiting id p b.0.waiting e z i || is_waiting units id) ∙ h
+
+pub guest_process : (s : ScenarioValue) (guests : List RunningProcess) (id : ProcId) (g : RunningProcess) → AllOwnGuests s guests → guest_at guests id ≡ Some g → process_of s g.process.id ≡ Some g.process
+guest_process s [] id g b h = cc
+guest_process s (f ∷ guests) id g b h = go (λ k. guest_process s guests id g b.1 k) (same_id f.process.id id) h
+  where
+    go : (guest_at guests id ≡ Some g → process_of s g.process.id ≡ Some g.process) → (x : Bool) → (if x then Some f else guest_at guests id) ≡ Some g → process_of s g.process.id ≡ Some g.process
+    go more true k = let same : f ≡ g = cc in subst (λ (r : RunningProcess). process_of s r.process.id ≡ Some r.process) same b.0
+    go more false k = more k

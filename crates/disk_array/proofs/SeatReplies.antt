@@ -1,7 +1,6 @@
 -- The replies of the processes that run at a seat, after each event.
 use Rattle.std.proofs.Common.{ℕ, zero, suc, ◌≡◌, Bool, true, false, List, [], ◌∷◌, ◌++◌, ◌∙◌, refl, sym, subst, Option, Some, None}
 use Rattle.std.specs.Prelude.{if◌then◌else◌, not, ◌&&◌, ◌||◌, ◌==◌, is_some, is_none, nat_lt}
-use Rattle.std.specs.List.{list_any}
 use Rattle.bus_base.specs.declared.AbortKind.{AbortKind}
 use Rattle.bus_base.specs.declared.AbortKind.TheVariants as aborts
 use Rattle.bus_base.specs.declared.ProcId.{ProcId}
@@ -17,17 +16,17 @@ use Rattle.disk_array.specs.Order.{choice, process_at, process_at_if, chosen_pla
 use Rattle.disk_array.specs.Units.{RunningProcess, UnitState, guest_at, without_guest, with_current, has_no_current}
 use Rattle.disk_array.specs.Steps.{running_if, process_count, guests_with_reply, current_with_reply, unit_without, kept_processes, kept_running, kept_guests, has_tag}
 use Rattle.disk_array.specs.Seats
-use Rattle.disk_array.specs.Seats.{Seat, settled_seat, running_at, is_waiting_at, current_of}
+use Rattle.disk_array.specs.Seats.{Seat, settled_seat, running_at, is_waiting_at, current_of, waits_in}
 use Rattle.disk_array.specs.SoundArray.{AllOwnGuests}
 use Rattle.disk_array.specs.SeatReplies.{HasReplies, IsNowhere, AreOfScenario}
 use Rattle.disk_array.proofs.SeatLookups.{same_id_is}
-use Rattle.disk_array.proofs.SeatOwn.{own_is}
+use Rattle.disk_array.proofs.SeatOwn.{own_is, guest_process}
 use Rattle.std.proofs.lemmas.Bool.{or_right}
 use Rattle.bus_base.proofs.Tests.{eq_self}
 
 -- ---- numbers
 
-id_self : (id : ProcId) → same_id id id ≡ true
+pub id_self : (id : ProcId) → same_id id id ≡ true
 id_self id = λ i. eq_self id.command i && bool_self id.sense i
   where
     bool_self : (b : Bool) → Rattle.disk_array.specs.Processes.same_bool b b ≡ true
@@ -40,11 +39,6 @@ given_last replies id other reply e = λ i. if e i then Some reply else reply_in
 
 given_before : (replies : List (ProcId × Reply)) (id other : ProcId) (reply : Reply) → same_id id other ≡ false → reply_in ((id, reply) ∷ replies) other ≡ reply_in replies other
 given_before replies id other reply e = λ i. if e i then Some reply else reply_in replies other
-
--- ---- who waits
-
-abbrev pub waits_in : List Process → ProcId → Bool
-waits_in waiting id = list_any (λ (p : Process). same_id p.id id) waiting
 
 -- ---- the parts of a seat: its guests, its queue, its current process
 
@@ -92,12 +86,16 @@ without_other (q ∷ waiting) x id e = go (λ k. without_other waiting x id k) (
     go rest true z k = rest k
     go rest false z k = kept rest z (same_id q.id id) refl k
 
-place_waits : (waiting : List Process) (place : ℕ) (p : Process) → process_at waiting place ≡ Some p → waits_in waiting p.id ≡ true
+pub last_waits : (waiting : List Process) (p : Process) → waits_in (waiting ++ p ∷ []) p.id ≡ true
+last_waits [] p = λ i. id_self p.id i || false
+last_waits (q ∷ waiting) p = or_right (same_id q.id p.id) (waits_in (waiting ++ p ∷ []) p.id) (last_waits waiting p)
+
+pub place_waits : (waiting : List Process) (place : ℕ) (p : Process) → process_at waiting place ≡ Some p → waits_in waiting p.id ≡ true
 place_waits [] place p e = cc
 place_waits (q ∷ waiting) zero p e = let same : q ≡ p = cc in (λ i. same_id (same i).id p.id || waits_in waiting p.id) ∙ (λ i. id_self p.id i || waits_in waiting p.id)
 place_waits (q ∷ waiting) (suc place) p e = or_right (same_id q.id p.id) (waits_in waiting p.id) (place_waits waiting place p e)
 
-choice_waits : (waiting : List Process) (place : Option ℕ) (p : Process) → process_at_if waiting place ≡ Some p → waits_in waiting p.id ≡ true
+pub choice_waits : (waiting : List Process) (place : Option ℕ) (p : Process) → process_at_if waiting place ≡ Some p → waits_in waiting p.id ≡ true
 choice_waits waiting None p e = cc
 choice_waits waiting (Some place) p e = place_waits waiting place p e
 
@@ -327,7 +325,7 @@ without rs gs ws c id h = record {
 
 -- ---- some leave
 
-found_id : (gs : List RunningProcess) (id : ProcId) (g : RunningProcess) → guest_at gs id ≡ Some g → same_id g.process.id id ≡ true
+pub found_id : (gs : List RunningProcess) (id : ProcId) (g : RunningProcess) → guest_at gs id ≡ Some g → same_id g.process.id id ≡ true
 found_id [] id g e = cc
 found_id (f ∷ gs) id g e = go (λ k. found_id gs id g k) (same_id f.process.id id) refl e
   where
@@ -342,14 +340,6 @@ current_id (Some q) id r e = go (same_id q.process.id id) refl e
     go : (y : Bool) → same_id q.process.id id ≡ y → (if y then Some q else None) ≡ Some r → (Some q ≡ Some r) × (same_id r.process.id id ≡ true)
     go true z k = let same : q ≡ r = cc in (k, (λ i. same_id (sym same i).process.id id) ∙ z)
     go false z k = cc
-
-guest_of : (s : ScenarioValue) (gs : List RunningProcess) (id : ProcId) (g : RunningProcess) → AllOwnGuests s gs → guest_at gs id ≡ Some g → process_of s g.process.id ≡ Some g.process
-guest_of s [] id g b e = cc
-guest_of s (f ∷ gs) id g b e = go (λ k. guest_of s gs id g b.1 k) (same_id f.process.id id) e
-  where
-    go : (guest_at gs id ≡ Some g → process_of s g.process.id ≡ Some g.process) → (y : Bool) → (if y then Some f else guest_at gs id) ≡ Some g → process_of s g.process.id ≡ Some g.process
-    go more true k = let same : f ≡ g = cc in subst (λ (r : RunningProcess). process_of s r.process.id ≡ Some r.process) same b.0
-    go more false k = more k
 
 -- Two processes of the scenario that have this number are one.
 one_process : (s : ScenarioValue) (p q : Process) (id : ProcId) → process_of s p.id ≡ Some p → process_of s q.id ≡ Some q → same_id p.id id ≡ true → same_id q.id id ≡ true → p ≡ q
@@ -367,7 +357,7 @@ guest_kept s drops (g ∷ gs) id r b e = go (λ k. guest_kept s drops gs id r b.
     here : (y : Bool) → same_id g.process.id id ≡ y → guest_at gs id ≡ Some r → drops r.process ≡ false → drops g.process ≡ true → (if y then Some g else guest_at gs id) ≡ Some r
     here false w f k d = f
     here true w f k d =
-        let same : g.process ≡ r.process = one_process s g.process r.process id b.0 (guest_of s gs id r b.1 f) w (found_id gs id r f) in
+        let same : g.process ≡ r.process = one_process s g.process r.process id b.0 (guest_process s gs id r b.1 f) w (found_id gs id r f) in
         let bad : true ≡ false = sym d ∙ (λ i. drops (same i)) ∙ k in
         cc
 
@@ -425,7 +415,7 @@ running_kept s drops gs c id r b own e = go (guest_at (kept_guests drops gs) id)
     nobody : (x : Option RunningProcess) → guest_at gs id ≡ x → guest_at (kept_guests drops gs) id ≡ None → (c ≡ Some r) × (drops r.process ≡ false) → same_id r.process.id id ≡ true → first (guest_at gs id) (running_if c id) ≡ Some r
     nobody None f none k z = (λ i. first (f i) (running_if (k.0 i) id)) ∙ (λ i. if z i then Some r else None)
     nobody (Some g) f none k z =
-        let same : r.process ≡ g.process = one_process s r.process g.process id (own r k.0) (guest_of s gs id g b f) z (found_id gs id g f) in
+        let same : r.process ≡ g.process = one_process s r.process g.process id (own r k.0) (guest_process s gs id g b f) z (found_id gs id g f) in
         absurd (guest_stays drops gs id g f ((λ i. drops (sym same i)) ∙ k.1) none)
 
     go : (x : Option RunningProcess) → guest_at (kept_guests drops gs) id ≡ x → first x (running_if (kept_running drops c) id) ≡ Some r → first (guest_at gs id) (running_if c id) ≡ Some r
@@ -673,3 +663,21 @@ reply_elsewhere rs seat id reply h new = record {
     waits_other : (other : ProcId) → is_waiting_at seat.unit other ≡ true → (y : Bool) → same_id id other ≡ y → same_id id other ≡ false
     waits_other other e false z = z
     waits_other other e true z = let bad : false ≡ true = sym new.not_waiting ∙ (λ i. is_waiting_at seat.unit (same_id_is id other z i)) ∙ e in cc
+
+pub guest_replied : (gs : List RunningProcess) (id : ProcId) (reply : Reply) (g : RunningProcess) → guest_at gs id ≡ Some g → guest_at (guests_with_reply gs id reply) id ≡ Some (record g { reply = Some reply })
+guest_replied [] id reply g at = cc
+guest_replied (f ∷ gs) id reply g at = go (λ k. guest_replied gs id reply g k) (same_id f.process.id id) refl at
+  where
+    go : (guest_at gs id ≡ Some g → guest_at (guests_with_reply gs id reply) id ≡ Some (record g { reply = Some reply })) → (y : Bool) → same_id f.process.id id ≡ y → (if y then Some f else guest_at gs id) ≡ Some g → guest_at (if y then record f { reply = Some reply } ∷ gs else f ∷ guests_with_reply gs id reply) id ≡ Some (record g { reply = Some reply })
+    go rest true e k =
+        let same : f ≡ g = cc in
+        (λ i. if e i then Some (record f { reply = Some reply }) else guest_at gs id) ∙ (λ i. Some (record (same i) { reply = Some reply }))
+    go rest false e k = (λ i. if e i then Some f else guest_at (guests_with_reply gs id reply) id) ∙ rest k
+
+pub no_guest_replied : (gs : List RunningProcess) (id : ProcId) (reply : Reply) → guest_at gs id ≡ None → guest_at (guests_with_reply gs id reply) id ≡ None
+no_guest_replied [] id reply none = refl
+no_guest_replied (f ∷ gs) id reply none = go (λ k. no_guest_replied gs id reply k) (same_id f.process.id id) refl none
+  where
+    go : (guest_at gs id ≡ None → guest_at (guests_with_reply gs id reply) id ≡ None) → (y : Bool) → same_id f.process.id id ≡ y → (if y then Some f else guest_at gs id) ≡ None → guest_at (if y then record f { reply = Some reply } ∷ gs else f ∷ guests_with_reply gs id reply) id ≡ None
+    go rest true e k = cc
+    go rest false e k = (λ i. if e i then Some f else guest_at (guests_with_reply gs id reply) id) ∙ rest k

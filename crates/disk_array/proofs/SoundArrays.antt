@@ -25,7 +25,7 @@ use Rattle.disk_array.specs.Seats.{seat_of, settled_seat, unit_mapped, unit_with
 use Rattle.disk_array.specs.SoundArray.{IsOwn, AllOwn, IsOwnRunning, IsOwnUnit, AllOwnUnits, AllOwnGuests, AllOfEight, AreApart, IsSound, HasSeats}
 use Rattle.disk_array.proofs.SeatLookups.{mapped_at, replies_map, without_map, kept_map, choice_map, is_place, found_target, found_unit, place_is, not_both, with_unit_at}
 use Rattle.disk_array.proofs.SeatSteps.{choice_target, choice_unit, seat_settled, settled_twice}
-use Rattle.disk_array.proofs.SeatOwn.{own_found}
+use Rattle.disk_array.proofs.SeatOwn.{own_found, guest_process}
 use Rattle.std.proofs.lemmas.Bool.{eqb-true}
 use Rattle.bus_base.proofs.Tests.{and_first, and_second}
 
@@ -350,15 +350,7 @@ status_sound s a p reply b l = go (reply.status == CHECK_CONDITION) (reply.statu
     go false true = record { units = b.units; guests = b.guests; holds = eight_without a.holds (nexus_of p) b.holds; apart = b.apart }
     go false false = b
 
-guest_process : (s : ScenarioValue) (guests : List RunningProcess) (id : ProcId) (g : RunningProcess) → AllOwnGuests s guests → guest_at guests id ≡ Some g → process_of s g.process.id ≡ Some g.process
-guest_process s [] id g b h = cc
-guest_process s (f ∷ guests) id g b h = go (λ k. guest_process s guests id g b.1 k) (same_id f.process.id id) h
-  where
-    go : (guest_at guests id ≡ Some g → process_of s g.process.id ≡ Some g.process) → (x : Bool) → (if x then Some f else guest_at guests id) ≡ Some g → process_of s g.process.id ≡ Some g.process
-    go more true k = let same : f ≡ g = cc in subst (λ (r : RunningProcess). process_of s r.process.id ≡ Some r.process) same b.0
-    go more false k = more k
-
-current_process : (s : ScenarioValue) (units : List UnitState) (id : ProcId) (r : RunningProcess) → AllOwnUnits s units → Steps.running_in units id ≡ Some r → process_of s r.process.id ≡ Some r.process
+pub current_process : (s : ScenarioValue) (units : List UnitState) (id : ProcId) (r : RunningProcess) → AllOwnUnits s units → Steps.running_in units id ≡ Some r → process_of s r.process.id ≡ Some r.process
 current_process s [] id r b h = cc
 current_process s (u ∷ units) id r b h = go (λ k. current_process s units id r b.1 k) u.current b.0.current h
   where

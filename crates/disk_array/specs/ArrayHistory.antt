@@ -1,7 +1,8 @@
 -- A history played on the plain disk array.
-use Rattle.std.specs.Prelude.{List, [], ◌∷◌, Option, Some, None, if◌then◌else◌}
+use Rattle.std.specs.Prelude.{Bool, true, false, ◌||◌, List, [], ◌∷◌, Option, Some, None, if◌then◌else◌}
 use Rattle.bus_base.specs.declared.ProcId.{ProcId}
 use Rattle.bus_base.specs.declared.Event.{Event}
+use Rattle.bus_base.specs.declared.Event.TheVariants as events
 use Rattle.scenario.specs.Value.{ScenarioValue}
 use Rattle.disk_array.specs.Processes.{same_id}
 use Rattle.disk_array.specs.Contents.{Contents}
@@ -34,3 +35,18 @@ reply_in (entry ∷ replies) id = if same_id entry.0 id then Some entry.1 else r
 abbrev pub reply_of : Option Array → ProcId → Option Reply
 reply_of None id = None
 reply_of (Some a) id = reply_in a.replies id
+
+-- Whether a process runs with these events.
+abbrev pub is_run : Event → Bool
+is_run (events.Run id) = true
+is_run (events.Accept id) = false
+is_run (events.Refuse id) = false
+is_run (events.Fail id code) = false
+is_run (events.End id status) = false
+is_run (events.Lost id) = false
+is_run (events.Aborted host target unit what) = false
+is_run (events.Reset dev) = false
+
+abbrev pub shows_run : List Event → Bool
+shows_run [] = false
+shows_run (e ∷ shown) = is_run e || shows_run shown

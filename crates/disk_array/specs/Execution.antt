@@ -3,7 +3,7 @@ use Rattle.std.specs.Prelude.{ℕ, ◌+◌, ◌-◌, min, Bool, true, false, not
 use Rattle.cdb_codec.specs.declared.Sense.{Sense}
 use Rattle.cdb_codec.specs.declared.operation.TheConstants.{REQUEST_SENSE, INQUIRY}
 use Rattle.cdb_codec.specs.declared.replies.TheConstants.{SENSE_LEN, INQUIRY_LEN}
-use Rattle.cdb_codec.specs.declared.sense.TheConstants.{NO_SENSE, ILLEGAL_REQUEST, UNIT_ATTENTION, NO_ADDITIONAL_SENSE, INVALID_OPERATION_CODE, BLOCK_OUT_OF_RANGE, INVALID_FIELD, UNIT_NOT_SUPPORTED, RESET_OCCURRED, COMMANDS_CLEARED}
+use Rattle.cdb_codec.specs.declared.sense.TheConstants.{NO_SENSE, ILLEGAL_REQUEST, UNIT_ATTENTION, ABORTED_COMMAND, NO_ADDITIONAL_SENSE, INVALID_OPERATION_CODE, BLOCK_OUT_OF_RANGE, INVALID_FIELD, UNIT_NOT_SUPPORTED, RESET_OCCURRED, COMMANDS_CLEARED}
 use Rattle.cdb_codec.specs.declared.status.TheConstants.{GOOD, CHECK_CONDITION, QUEUE_FULL}
 use Rattle.cdb_codec.specs.declared.command.Command.{Command}
 use Rattle.cdb_codec.specs.declared.command.Command.TheVariants as commands
@@ -34,6 +34,10 @@ check_condition sense = record { status = CHECK_CONDITION; bytes = []; sense = s
 
 abbrev pub queue_full : Reply
 queue_full = record { status = QUEUE_FULL; bytes = []; sense = no_sense }
+
+-- The reply of a command that its target aborted, with this additional sense code (8.2.14.3).
+abbrev pub aborted_reply : ℕ → Reply
+aborted_reply code = check_condition (sense_of ABORTED_COMMAND code 0x00)
 
 -- The senses of our checks (8.2.14.3).
 abbrev pub invalid_opcode : Sense

@@ -31,6 +31,12 @@ tag_number (tags.Simple tag) = Some tag
 tag_number (tags.Ordered tag) = Some tag
 tag_number (tags.Head tag) = Some tag
 
+abbrev pub same_number : Option ℕ → Option ℕ → Bool
+same_number None None = true
+same_number (Some a) (Some b) = a == b
+same_number None (Some b) = false
+same_number (Some a) None = false
+
 abbrev pub range_in : Result Command CdbFault → Option (ℕ × ℕ)
 range_in (Ok c) = range_of c
 range_in (Err fault) = None

@@ -43,10 +43,15 @@ command_at (c ∷ commands) (suc (suc n)) = command_at commands (suc n)
 abbrev pub sense_block : List ℕ
 sense_block = REQUEST_SENSE ∷ 0x00 ∷ 0x00 ∷ 0x00 ∷ SENSE_LEN ∷ 0x00 ∷ []
 
+abbrev pub sense_process : ProcId → CmdDef → Process
+sense_process id c = record { id = id; initiator = c.host; target = c.target; unit = c.unit; tag = tags.Untagged; cdb = sense_block; sent = [] }
+
+abbrev pub command_process : ScenarioValue → ProcId → CmdDef → Process
+command_process s id c =
+    record { id = id; initiator = c.host; target = c.target; unit = c.unit; tag = c.tag; cdb = c.cdb; sent = payload_bytes c.payload (sent_of s c) }
+
 abbrev pub process_by : ScenarioValue → ProcId → CmdDef → Process
-process_by s id c =
-    if id.sense then record { id = id; initiator = c.host; target = c.target; unit = c.unit; tag = tags.Untagged; cdb = sense_block; sent = [] }
-    else record { id = id; initiator = c.host; target = c.target; unit = c.unit; tag = c.tag; cdb = c.cdb; sent = payload_bytes c.payload (sent_of s c) }
+process_by s id c = if id.sense then sense_process id c else command_process s id c
 
 abbrev pub process_if : ScenarioValue → ProcId → Option CmdDef → Option Process
 process_if s id None = None

@@ -108,6 +108,11 @@ seat_after_refuse_at seat p (Some u) =
 abbrev pub seat_after_refuse : Process → Seat → Option Seat
 seat_after_refuse p seat = seat_after_refuse_at seat p seat.unit
 
+-- ---- who waits
+
+abbrev pub waits_in : List Process → ProcId → Bool
+waits_in waiting id = list_any (λ (p : Process). same_id p.id id) waiting
+
 -- ---- a command runs
 
 abbrev pub current_of : Option UnitState → Option RunningProcess
@@ -214,6 +219,7 @@ seat_after_abort_tag initiator n seat = seat_kept (λ p. p.initiator == initiato
 abbrev pub is_told : ℕ → List Process → ℕ → Bool
 is_told by lost initiator = list_any (λ (p : Process). p.initiator == initiator && not (p.initiator == by)) lost
 
+-- An initiator that lost a command by a clearing of another is told of it; an attention of a reset stays.
 abbrev pub attention_if_told : Bool → Option Sense → Option Sense
 attention_if_told told attention = if told && not (is_reset_pending attention) then Some commands_cleared else attention
 

@@ -18,6 +18,9 @@ pub record RunningProcess : Type 0 where
   pub process : Process
   pub reply : Option Reply
 
+abbrev pub without_reply : Process → RunningProcess
+without_reply p = record { process = p; reply = None }
+
 -- A unit that is there.
 pub record UnitState : Type 0 where
   pub target : ℕ

@@ -1,5 +1,10 @@
 //! What the queue of a logical unit keeps of a command.
+ghost use Rattle.std.specs.Prelude.{◌≡◌};
+ghost use Rattle.disk_array.specs.Order.{tag_number};
+ghost use Rattle.disk_array.specs.Processes.{same_bool, same_id};
+
 use bus_base::{Class, Dev, ProcId};
+use scenario::Tag;
 
 /// A command in the queue of a logical unit: who sent it, how it is tagged, and the blocks that it reads or writes
 /// (ANSI X3.131-1994, 6.6.17 and 7.8).
@@ -20,4 +25,27 @@ pub struct Entry {
     pub count: u32,
     /// Whether it writes them.
     pub writes: bool,
+}
+
+/// The number of a queue tag, `None` for a command without one (6.6.17).
+pub fn tag_number(tag: Tag) -> Option<u8>
+    ensures { result ≡ tag_number tag }
+{
+    match tag {
+        Tag::Untagged => None,
+        Tag::Simple(number) | Tag::Ordered(number) | Tag::Head(number) => Some(number),
+    }
+}
+
+fn same_kind(one: bool, other: bool) -> bool
+    ensures { result ≡ same_bool one other }
+{
+    if one { other } else { !other }
+}
+
+/// Whether the two are the same process.
+pub fn same_id(one: ProcId, other: ProcId) -> bool
+    ensures { result ≡ same_id one other }
+{
+    one.command == other.command && same_kind(one.sense, other.sense)
 }

@@ -4,8 +4,8 @@
 //! has its state, `specs/Execution.antt` what one command does at one unit, `specs/Order.antt` which waiting
 //! command may run, on what a queue keeps of it (`Entry`), `specs/Steps.antt` what each event of a history does,
 //! `specs/ArrayHistory.antt` a whole history, and `specs/Seats.antt` what an event leaves of one unit, there or
-//! not. It stands on `scenario`, `cdb_codec` and `bus_base`. There is no code here but for `Entry` and for laws:
-//! each is the contract of a function that does nothing.
+//! not. It stands on `scenario`, `cdb_codec` and `bus_base`. There is no code here but for `Entry`, [`tag_number`] and
+//! [`same_id`], and for laws: each is the contract of a function that does nothing.
 #![tactic(auto)]
 
 mod entries;
@@ -20,7 +20,7 @@ ghost use Rattle.disk_array.specs.Steps.{step};
 ghost use Rattle.disk_array.specs.ArrayHistory.{array_after};
 
 pub use bus_base::{Class, Dev, Pick, ProcId};
-pub use entries::Entry;
+pub use entries::{Entry, same_id, tag_number};
 pub use plain::contents_are_plain_blocks;
 pub use seats::{
     aborts_change_their_seat, arrays_are_sound, other_seats_stay, processes_change_their_seat,

@@ -3,14 +3,14 @@ use Rattle.std.proofs.Common.{ℕ, ◌≡◌, Bool, true, false, List, [], ◌�
 use Rattle.std.specs.Prelude.{if◌then◌else◌, ◌&&◌, ◌||◌, ◌==◌, is_some}
 use Rattle.bus_base.specs.declared.ProcId.{ProcId}
 use Rattle.disk_array.specs.Processes.{Process, same_id}
-use Rattle.disk_array.specs.Seats.{seat_of, guests_at, current_of}
+use Rattle.disk_array.specs.Seats.{seat_of, guests_at, current_of, waits_in}
 use Rattle.disk_array.specs.Steps.{running_if, running_in, running_process, is_waiting, is_of_unit}
 use Rattle.disk_array.specs.Units.{RunningProcess, UnitState, Array, unit_state_at, guest_at}
-use Rattle.disk_unit.proofs.LiveCommands.{id_self}
+use Rattle.disk_array.proofs.SeatReplies.{id_self}
 use Rattle.scsi_device.specs.Heard.{is_new}
-use Rattle.disk_target.specs.Standings.{waits_in, is_inside, IsNoGuest}
+use Rattle.disk_target.specs.Standings.{is_inside, IsNoGuest}
 use Rattle.std.proofs.lemmas.Bool.{not-true}
-use Rattle.bus_base.proofs.Tests.{and_first, and_second, is_nothing}
+use Rattle.bus_base.proofs.Tests.{and_first, and_second, is_nothing, or_none_first, or_none_second}
 
 -- ---- guests
 
@@ -25,22 +25,14 @@ none_here (g ∷ gs) t n id h = go (λ k. none_here gs t n id k) (same_id g.proc
 
 -- ---- the unit
 
-or_one : (x y : Bool) → (x || y) ≡ false → x ≡ false
-or_one true y h = h
-or_one false y h = refl
-
-or_two : (x y : Bool) → (x || y) ≡ false → y ≡ false
-or_two true y h = cc
-or_two false y h = h
-
 outside : (us : List UnitState) (t n : ℕ) (id : ProcId) → is_waiting us id ≡ false → running_in us id ≡ None → is_inside (unit_state_at us t n) id ≡ false
 outside [] t n id w r = refl
 outside (u ∷ us) t n id w r = go (λ k l. outside us t n id k l) (u.target == t && u.unit == n) (running_if u.current id) refl r
   where
     go : (is_waiting us id ≡ false → running_in us id ≡ None → is_inside (unit_state_at us t n) id ≡ false) → (y : Bool) → (x : Option RunningProcess) → running_if u.current id ≡ x → (if is_some x then x else running_in us id) ≡ None → is_inside (if y then Some u else unit_state_at us t n) id ≡ false
     go rest y (Some q) e k = cc
-    go rest true None e k = (λ i. or_one (waits_in u.waiting id) (is_waiting us id) w i || is_some (e i))
-    go rest false None e k = rest (or_two (waits_in u.waiting id) (is_waiting us id) w) k
+    go rest true None e k = (λ i. or_none_first (waits_in u.waiting id) (is_waiting us id) w i || is_some (e i))
+    go rest false None e k = rest (or_none_second (waits_in u.waiting id) (is_waiting us id) w) k
 
 runs_nowhere : (a : Array) (id : ProcId) → running_process a id ≡ None → (guest_at a.guests id ≡ None) × (running_in a.units id ≡ None)
 runs_nowhere a id h = go (guest_at a.guests id) refl h

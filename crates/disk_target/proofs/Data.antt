@@ -1,6 +1,6 @@
 -- While its process gives data the target knows that process.
-use Rattle.std.proofs.Common.{ℕ, ◌≡◌, ◌≤◌, ◌∙◌, Bool, true, false, List, refl, sym, length, Option, Some, None}
-use Rattle.std.specs.Prelude.{if◌then◌else◌, not, ◌&&◌, ◌||◌, is_some, is_none}
+use Rattle.std.proofs.Common.{◌≡◌, ◌≤◌, ◌∙◌, Bool, true, false, List, refl, sym, length, Option, Some, None}
+use Rattle.std.specs.Prelude.{not, ◌&&◌, ◌||◌, is_some, is_none}
 use Rattle.std.proofs.lemmas.Bool.{and_parts}
 use Rattle.std.proofs.lemmas.List.{take_all}
 use native.Mathlib.Omega.{arith}
@@ -24,14 +24,10 @@ use Rattle.disk_array.specs.ArrayHistory.{reply_in}
 use Rattle.disk_array.specs.Steps.{running_process}
 use Rattle.disk_array.specs.Units.{Array}
 use Rattle.target_course.specs.Courses.{CourseState, name_of, name_if, MOST_KEPT, IsTold, IsOfProcess, IsCourse}
-use Rattle.target_course.proofs.CourseAgrees.{IsFront, name_is, bytes_are, group_short}
+use Rattle.target_course.proofs.CourseAgrees.{IsFront, name_is, group_short}
+use Rattle.bus_story.proofs.SameBytes.{bytes_are}
 use Rattle.disk_target.specs.Bytes.{gives_data}
 use Rattle.bus_base.proofs.Tests.{implied}
-
--- ---- names and command blocks
-
-abbrev group_of : Bool → Bool → Option ℕ
-group_of six ten = if six then Some 6 else if ten then Some 10 else None
 
 -- ---- the process
 

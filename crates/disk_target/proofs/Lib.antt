@@ -3,7 +3,7 @@ pub mod Lines
 pub mod Readies
 pub mod Offers
 pub mod Data
-mod StandingSteps
+pub mod StandingSteps
 mod StandingEvents
 mod ProcessEvents
 mod TimesTwice

@@ -8,13 +8,13 @@ use Rattle.scenario.specs.Value.{ScenarioValue}
 use Rattle.disk_array.specs.Order.{without_process}
 use Rattle.disk_array.specs.Processes.{Process, same_id}
 use Rattle.disk_array.specs.Seats
-use Rattle.disk_array.specs.Seats.{Seat, seat_of, settled_seat}
+use Rattle.disk_array.specs.Seats.{Seat, seat_of, settled_seat, waits_in}
 use Rattle.disk_array.specs.SoundArray.{HasSeats, IsOwn}
 use Rattle.disk_array.specs.Steps.{has_ended, running_if, unit_without}
 use Rattle.disk_array.specs.Units.{Array, RunningProcess, UnitState, guest_at, without_guest}
 use Rattle.bus_due.specs.Allowed.{allowed}
 use Rattle.bus_due.specs.RunState.{RunState, array_of, or_start}
-use Rattle.bus_due.specs.RunSteps.{run_state}
+use Rattle.bus_due.specs.RunSteps.{run_state, events_of_row}
 use Rattle.bus_due.specs.Wants.{since_of}
 use Rattle.scsi_device.specs.Heard.{is_new}
 use Rattle.target_units.specs.Absent.{nothing_kept}
@@ -24,10 +24,9 @@ use Rattle.target_units.specs.declared.logical.LogicalUnit.{LogicalUnit}
 use Rattle.target_units.specs.declared.logical.LogicalUnit.TheVariants as kinds
 use Rattle.target_units.proofs.UnitSteps.{left_kept, loss_left, one_goes, other_place, unit_goes, unit_stays}
 use Rattle.disk_target.specs.Processes.{AreKeptOf}
-use Rattle.disk_target.specs.Standings.{IsNoGuest, is_inside, waits_in}
+use Rattle.disk_target.specs.Standings.{IsNoGuest, is_inside}
 use Rattle.disk_target.proofs.Beginnings.{new_nowhere}
 use Rattle.disk_target.proofs.UnitRows.{by_one, by_row, some_after}
-use Rattle.target_course.specs.Negotiated.{events_of_row}
 
 waiting_kept : (waiting : List Process) (id : ProcId) → waits_in waiting id ≡ false → without_process waiting id ≡ waiting
 waiting_kept [] id e = refl

@@ -20,6 +20,7 @@ use Rattle.bus_dialogue.specs.Ends.{offering_by, seek_before}
 use Rattle.bus_dialogue.specs.NextPhase.{Serving, phase_of, phase_leaving, message_out_leaving, after_messages, unless_attention}
 use Rattle.bus_dialogue.specs.PhaseBytes.{phase_byte, run_length_if, follows_in, lines_by}
 use Rattle.target_course.specs.Alike.{AreAlike}
+use Rattle.target_course.proofs.Agreeing.{serves}
 use Rattle.disk_target.specs.Bytes.{gives_data}
 
 -- The phase of these three lines.
@@ -29,9 +30,6 @@ of_lines m c o =
     else if c then (if o then phases.Status else phases.Command)
     else if o then phases.DataIn
     else phases.DataOut
-
-abbrev serves : Option TargetDef → Plan → Option Task → List ℕ → Arrival → Serving
-serves d p t g a = record { def = d; plan = p; task = t; given = g; arrival = a }
 
 abbrev pub given_too : Serving → List ℕ → Serving
 given_too v g = serves v.def v.plan v.task g v.arrival

@@ -10,27 +10,27 @@ use Rattle.cdb_codec.specs.Cdb.{command_of}
 use Rattle.cdb_codec.specs.declared.status.TheConstants.{GOOD}
 use Rattle.scenario.specs.declared.value.HostDef.{HostDef}
 use Rattle.scenario.specs.Value.{ScenarioValue}
-use Rattle.disk_array.specs.Execution.{Reply, execution, is_request_sense, queue_full}
+use Rattle.disk_array.specs.Execution.{Reply, execution, is_request_sense, queue_full, aborted_reply}
 use Rattle.disk_array.specs.Processes.{Process}
 use Rattle.disk_array.specs.Seats
 use Rattle.disk_array.specs.Seats.{Seat, seat_of, is_initiator}
 use Rattle.disk_array.specs.SoundArray.{IsOwn}
 use Rattle.disk_array.specs.Steps.{has_ended, running_if}
 use Rattle.disk_array.specs.Processes.{same_id}
-use Rattle.disk_unit.proofs.LiveCommands.{same_id_is}
 use Rattle.disk_array.specs.Units.{RunningProcess, UnitState, Array, unit_state_at, guest_at}
+use Rattle.disk_array.proofs.SeatLookups.{same_id_is}
 use Rattle.disk_unit.specs.declared.media.Plan.{Plan}
 use Rattle.disk_unit.specs.declared.unit.Reply as unit
 use Rattle.disk_unit.specs.Plans.{plan_of}
-use Rattle.disk_unit.specs.Units.{told_of}
+use Rattle.disk_unit.specs.Units.{told_of, planned_reply}
 use Rattle.bus_due.specs.Tasks.{room_of, reply_now}
-use Rattle.target_units.specs.Seated.{IsNew, aborted_reply, reply_told}
+use Rattle.target_units.specs.Seated.{IsNew, reply_told}
 use Rattle.target_units.specs.Units.{IsStep, AreUnitsAfter, is_of_one}
 use Rattle.target_units.proofs.UnitSteps.{accept_left, refuse_left, run_left, fail_left, end_left, loss_left, running_own}
 use Rattle.target_units.proofs.UnitTellings.{reply_same}
 use Rattle.disk_target.specs.declared.standing.Standing.{Standing}
 use Rattle.disk_target.specs.declared.standing.Standing.TheVariants as standings
-use Rattle.disk_target.specs.Standings.{is_inside, IsGuest, IsNoGuest, IsStanding, standing_on_arrival, standing_on_failure, reply_planned, is_guest, outcome_of}
+use Rattle.disk_target.specs.Standings.{is_inside, IsGuest, IsNoGuest, IsStanding, standing_on_arrival, standing_on_failure, is_guest, outcome_of, standing_at_first}
 use Rattle.disk_target.specs.Processes.{ProcessesState, AreProcessesAfter}
 use Rattle.disk_target.proofs.StandingEvents
 
@@ -40,11 +40,7 @@ made s a b times now p n dev w same units standing = record {
   standing = subst (λ (d : ℕ). IsStanding (seat_of b d n) p w.standing) (sym same) standing;
 }
 
-abbrev standing_inside : Bool → Standing
-standing_inside true = standings.Queued
-standing_inside false = standings.Nowhere
-
-is_standing_inside : (seat : Seat) (p : Process) (inside : Bool) → IsNoGuest seat p inside → IsStanding seat p (standing_inside inside)
+is_standing_inside : (seat : Seat) (p : Process) (inside : Bool) → IsNoGuest seat p inside → IsStanding seat p (standing_at_first inside)
 is_standing_inside seat p true h = h
 is_standing_inside seat p false h = h
 
@@ -107,7 +103,7 @@ failed_standing s a b p code dev n old v st own h e =
 
 -- ---- it runs
 
-inside_ran : (s : ScenarioValue) (a b : Array) (p : Process) (dev n : ℕ) (v : Standing) (inside : Bool) → standing_inside inside ≡ v → IsStep s (events.Run p.id) a b → IsOwn s dev n p → IsNoGuest (seat_of a dev n) p inside → IsStanding (seat_of b dev n) p v
+inside_ran : (s : ScenarioValue) (a b : Array) (p : Process) (dev n : ℕ) (v : Standing) (inside : Bool) → standing_at_first inside ≡ v → IsStep s (events.Run p.id) a b → IsOwn s dev n p → IsNoGuest (seat_of a dev n) p inside → IsStanding (seat_of b dev n) p v
 inside_ran s a b p dev n v inside e st own h =
     let left = run_left s a b p dev n st own in
     StandingEvents.after_choice left.seat (seat_of b dev n) p v left.settles
@@ -139,11 +135,11 @@ guest_sense s a b p dev n old st own h there =
     (λ i. is_request_sense (command_of (h.process_is i).cdb)) ∙ h.sense (StandingEvents.guest_unanswered (seat_of a dev n) left.seat p old h left.is) there
 
 pub guest_ran : (s : ScenarioValue) (a b : Array) (p : Process) (dev n out : ℕ) (old : Option unit.Reply) (plan : Plan) (reply : unit.Reply) → IsStep s (events.Run p.id) a b → IsOwn s dev n p → IsGuest (seat_of a dev n) p old
-    → plan ≡ plan_of (reply_now a p) out → reply ≡ reply_planned plan → IsStanding (seat_of b dev n) p (standings.Guest (Some reply))
+    → plan ≡ plan_of (reply_now a p) out → reply ≡ planned_reply plan → IsStanding (seat_of b dev n) p (standings.Guest (Some reply))
 guest_ran s a b p dev n out old plan reply st own h plan_is e =
     let left = run_left s a b p dev n st own in
     subst (λ (x : unit.Reply). IsStanding (seat_of b dev n) p (standings.Guest (Some x)))
-    (sym (e ∙ (λ i. reply_planned (plan_is i)) ∙ (λ i. told_of (sym (reply_same a dev n p.initiator p.cdb p own.target_is own.unit_is refl refl) i))))
+    (sym (e ∙ (λ i. planned_reply (plan_is i)) ∙ (λ i. told_of (sym (reply_same a dev n p.initiator p.cdb p own.target_is own.unit_is refl refl) i))))
     (StandingEvents.after_choice left.seat (seat_of b dev n) p (standings.Guest (Some (told_of (execution (Seats.context_of (seat_of a dev n) p.initiator) p.cdb p.sent).reply))) left.settles (StandingEvents.runs_guest (seat_of a dev n) left.seat p old h left.is))
 
 -- ---- it leaves

@@ -45,12 +45,13 @@ use Rattle.target_course.proofs.ProgressRows.{progress_goes_on}
 use Rattle.target_course.proofs.ReplyRows.{reply_goes_on}
 use Rattle.disk_target.specs.Bytes.{IsOthers, StandsInOwn}
 use Rattle.disk_target.specs.Knowns.{IsQuiet, hears_message, knows_command}
-use Rattle.target_course.specs.Negotiated.{events_of_row}
+use Rattle.bus_due.specs.RunSteps.{events_of_row}
 use Rattle.disk_target.specs.Targets.{AreTied, IsCourseIf, KnowsRows, TargetValue}
 use Rattle.disk_target.specs.Turns.{AreAttendedOf}
 use Rattle.disk_target.proofs.Apart.{never_own}
 use Rattle.disk_target.proofs.RowBegins.{stood_on}
 use Rattle.disk_target.proofs.RowServed.{empty_on}
+use Rattle.bus_base.proofs.Tests.{second_false}
 
 abbrev pub IsPlainFor : ScenarioValue → Type 0
 IsPlainFor s = (before : List Row) → AreOfDevices before → IsPlain s before (run_state s before)
@@ -133,19 +134,14 @@ plan_stays false out p q e = refl
 plan_stays true false p q e = refl
 plan_stays true true p q e = absurd cc
 
--- Where no byte crosses and no phase changes, it hears nothing.
-none_of : (a b x y : Bool) → b ≡ false → (a && b && x && y) ≡ false
-none_of true b x y e = λ i. e i && x && y
-none_of false b x y e = refl
-
 abbrev told_by : Bool → List ℕ → Bool → CourseState → CourseState
 told_by opens block known c = record c { named = if opens then name_in c.plan.said else c.named; block = block; known = known }
 
 told_same : (w : Hearing) (c : CourseState) → c.known ≡ false → w.crosses ≡ false → changes_phase w.change ≡ false → course_told w c ≡ c
 told_same w c unknown still changes = λ i. told_by
-    (none_of w.begun (changes_phase w.change) (is_message_out w.change.before) (is_selected c.plan.cause) changes i)
+    (second_false w.begun (changes_phase w.change) (is_message_out w.change.before) (is_selected c.plan.cause) changes i)
     (if changes i then (if is_command w.change.after then [] else c.block) else if still i && is_command w.change.before then block_with c.block (w.change.after.data_bits % 256) else c.block)
-    ((none_of w.begun (changes_phase w.change) (is_command w.change.before) (not c.plan.struck) changes ∙ sym unknown) i)
+    ((second_false w.begun (changes_phase w.change) (is_command w.change.before) (not c.plan.struck) changes ∙ sym unknown) i)
     c
 
 heard_same : (w : Hearing) (c : CourseState) (known crosses : Bool) → c.known ≡ known → w.crosses ≡ crosses → (crosses ≡ true → known ≡ true) → changes_phase w.change ≡ false → (if c.known then c else course_told w c) ≡ c

@@ -31,16 +31,12 @@ within_at s a times dev seek n small sound early = go (unit_state_at a.units dev
     run r e true = _
     run r e false = (early, subst (λ (m : ℕ). m < 8) (sym e) small)
 
-    current : (x : Option UnitState) → unit_state_at a.units dev n ≡ x → (c : Option RunningProcess) → due.current_of x ≡ c → Seats.current_of x ≡ c → IsReadyWithin (ready_unit (wants.ready_in (is_held a.holds dev n) c time))
-    current x e None f g = _
-    current x e (Some r) f g = run r (own_number s a dev n sound r ((λ i. Seats.current_of (e i)) ∙ g)) (is_held a.holds dev n)
+    current : (x : Option UnitState) → unit_state_at a.units dev n ≡ x → (c : Option RunningProcess) → Seats.current_of x ≡ c → IsReadyWithin (ready_unit (wants.ready_in (is_held a.holds dev n) c time))
+    current x e None g = _
+    current x e (Some r) g = run r (own_number s a dev n sound r ((λ i. Seats.current_of (e i)) ∙ g)) (is_held a.holds dev n)
 
-    same : (x : Option UnitState) → Seats.current_of x ≡ due.current_of x
-    same None = refl
-    same (Some u) = refl
-
-    go : (x : Option UnitState) → unit_state_at a.units dev n ≡ x → IsReadyWithin (ready_unit (wants.ready_in (is_held a.holds dev n) (due.current_of (unit_state_at a.units dev n)) time))
-    go x e = subst (λ (y : Option UnitState). IsReadyWithin (ready_unit (wants.ready_in (is_held a.holds dev n) (due.current_of y) time))) (sym e) (current x e (due.current_of x) refl (same x))
+    go : (x : Option UnitState) → unit_state_at a.units dev n ≡ x → IsReadyWithin (ready_unit (wants.ready_in (is_held a.holds dev n) (Seats.current_of (unit_state_at a.units dev n)) time))
+    go x e = subst (λ (y : Option UnitState). IsReadyWithin (ready_unit (wants.ready_in (is_held a.holds dev n) (Seats.current_of y) time))) (sym e) (current x e (Seats.current_of x) refl)
 
 -- One unit after the other, the last first.
 pub ready_by : (P : Option wants.Ready → Type 0) (a : Array) (times : List ℕ) (seek dev : ℕ) → P None

@@ -23,8 +23,8 @@ use Rattle.bus_due.specs.Wants as due
 use Rattle.bus_due.specs.Wants.{ready_of}
 use Rattle.disk_array.specs.ArrayHistory.{reply_in}
 use Rattle.disk_array.proofs.SeatLookups.{found_target, found_unit}
+use Rattle.disk_array.proofs.SeatOwn.{own_found}
 use Rattle.scsi_device.specs.Heard.{Instructions, heard, instructions, is_beginning, is_heard, is_heard_after, is_heard_on, is_heard_row, is_new, is_of_scenario, is_uncounted}
-use Rattle.target_units.proofs.UnitSteps.{own_unit}
 use Rattle.target_units.proofs.UnitTellings.{own_number}
 use Rattle.target_course.specs.States.{IsOwnConnection}
 use Rattle.target_course.proofs.CourseAgrees.{IsFront, front_heard}
@@ -60,20 +60,16 @@ ready_process held None time q e = absurd cc
 ready_process true (Some r) time q e = absurd cc
 ready_process false (Some r) time q e = let same : record { time = time; process = r.process } ≡ q = cc in (r, refl, λ i. (same i).process)
 
-same_current : (x : Option UnitState) → due.current_of x ≡ Seats.current_of x
-same_current None = refl
-same_current (Some u) = refl
-
 own_running : (s : ScenarioValue) (a : Array) (dev n : ℕ) → IsSound s a → (x : Option UnitState) → unit_state_at a.units dev n ≡ x → (r : RunningProcess) → Seats.current_of x ≡ Some r → IsOwnRunning s dev n (Some r)
 own_running s a dev n sound None e r f = absurd cc
 own_running s a dev n sound (Some u) e r f =
-    subst (λ (z : ℕ). IsOwnRunning s z n (Some r)) (found_target a.units dev n u e) (subst (λ (z : ℕ). IsOwnRunning s u.target z (Some r)) (found_unit a.units dev n u e) (subst (λ (c : Option RunningProcess). IsOwnRunning s u.target u.unit c) f (own_unit s a.units dev n u sound.units e).current))
+    subst (λ (z : ℕ). IsOwnRunning s z n (Some r)) (found_target a.units dev n u e) (subst (λ (z : ℕ). IsOwnRunning s u.target z (Some r)) (found_unit a.units dev n u e) (subst (λ (c : Option RunningProcess). IsOwnRunning s u.target u.unit c) f (own_found s a.units dev n u sound.units e).current))
 
 at_one : (s : ScenarioValue) (a : Array) (times : List ℕ) (seek dev n : ℕ) (q : wants.Ready) → n < 8 → IsSound s a → due.ready_at a times seek dev n ≡ Some q → IsReadyAt s a dev q.process
 at_one s a times seek dev n q small sound e =
-    let x = ready_process (is_held a.holds dev n) (due.current_of (unit_state_at a.units dev n)) (due.since_of a.units times dev n + seek) q e in
+    let x = ready_process (is_held a.holds dev n) (Seats.current_of (unit_state_at a.units dev n)) (due.since_of a.units times dev n + seek) q e in
     let r = x.0 in
-    let current : Seats.current_of (unit_state_at a.units dev n) ≡ Some r = sym (same_current (unit_state_at a.units dev n)) ∙ x.1 in
+    let current : Seats.current_of (unit_state_at a.units dev n) ≡ Some r = x.1 in
     let number : q.process.unit ≡ n = (λ i. (sym x.2 i).unit) ∙ own_number s a dev n sound r current in
     let own : IsOwn s dev n q.process = subst (λ (p : Process). IsOwn s dev n p) x.2 (own_running s a dev n sound (unit_state_at a.units dev n) refl r current) in
     record {

@@ -20,9 +20,10 @@ use Rattle.scsi_device.specs.Lines.{IsCommandLine}
 use Rattle.bus_story.specs.BusState.{RowReading, row_reading}
 use Rattle.bus_story.specs.Items.{Item, process, abort}
 use Rattle.bus_dialogue.specs.Hearing.{hearing}
+use Rattle.bus_dialogue.specs.Events.{is_empty}
 use Rattle.bus_due.specs.Plain.{IsPlain}
 use Rattle.bus_due.specs.RunState.{RunState, array_of, process_item, process_served}
-use Rattle.bus_due.specs.RunSteps.{run_state}
+use Rattle.bus_due.specs.RunSteps.{run_state, events_of_row}
 use Rattle.bus_due.specs.Telling.{id_of}
 use Rattle.scsi_device.specs.Heard.{instructions, is_new, is_of_scenario, is_opening}
 use Rattle.target_course.specs.Courses.{CourseState, IsCourse}
@@ -31,7 +32,7 @@ use Rattle.target_course.proofs.CourseAgrees.{IsFront, front_heard}
 use Rattle.target_course.proofs.CourseRows.{heard_before}
 use Rattle.target_course.proofs.ReplyRows.{Shape, number_is, shown_of}
 use Rattle.target_course.proofs.ReplyRows as shapes
-use Rattle.disk_target.specs.Attended.{are_in, is_abort_in, is_empty, is_of_item, is_unseen}
+use Rattle.disk_target.specs.Attended.{are_in, is_abort_in, is_of_item, is_unseen}
 use Rattle.disk_target.specs.Processes.{ProcessesState}
 use Rattle.disk_target.specs.Targets.{AreTied, IsStandingOf}
 use Rattle.disk_target.specs.Turns.{AreAttendedOf, AreAttendedOn, abort_of, is_opening_by, is_reset}
@@ -43,7 +44,7 @@ use Rattle.disk_target.proofs.RowOutside.{attended_in}
 use Rattle.disk_target.proofs.RowServed.{empty_on, opening_same, reset_empty}
 use Rattle.disk_target.proofs.RowShapes.{ShowsIn, nothing, turned, lost, aborted, ended, row_shows}
 use Rattle.bus_base.proofs.Tests.{or_second}
-use Rattle.target_course.specs.Negotiated.{events_of_row}
+use Rattle.bus_dialogue.proofs.Leavings.{empty_is}
 
 -- ---- the connection ends with the row
 
@@ -105,10 +106,6 @@ abort_shown s rows row n a f tied x calm reset is = go d.change.after.rst refl
     go false after = by after (row_shows s rows row n tied.telling_are after (f.connection ∙ x))
 
 -- ---- in the opening
-
-pub empty_is : (shown : List Event) → is_empty shown ≡ true → shown ≡ []
-empty_is [] e = refl
-empty_is (x ∷ shown) e = absurd cc
 
 quiet_in : (x y z : Bool) → (x || not y || z) ≡ true → x ≡ false → y ≡ true → z ≡ true
 quiet_in true y z e f g = cc

@@ -1,6 +1,6 @@
 -- Where the command of a process arrives or runs its target knows it.
 use Rattle.std.proofs.Common.{ℕ, ◌≡◌, ◌≤◌, ◌∙◌, Bool, true, false, List, [], ◌∷◌, refl, sym, length, take, Option, Some, None}
-use Rattle.std.specs.Prelude.{if◌then◌else◌, not, ◌&&◌, ◌||◌, nat_lt, is_some, is_none}
+use Rattle.std.specs.Prelude.{if◌then◌else◌, not, ◌&&◌, ◌||◌, is_some, is_none}
 use Rattle.std.proofs.lemmas.Bool.{and_parts, not-true}
 use Rattle.std.proofs.lemmas.List.{take_all}
 use native.Mathlib.Omega.{arith}
@@ -21,15 +21,13 @@ use Rattle.bus_story.specs.Right.{same_bytes}
 use Rattle.bus_dialogue.specs.declared.exchange.Arrival.{Arrival}
 use Rattle.bus_dialogue.specs.declared.exchange.Cause.{Cause}
 use Rattle.bus_dialogue.specs.declared.exchange.Cause.TheVariants as causes
-use Rattle.bus_dialogue.specs.declared.exchange.Leaving.{Leaving}
 use Rattle.bus_dialogue.specs.declared.exchange.Next.{Next}
 use Rattle.bus_dialogue.specs.declared.exchange.Next.TheVariants as nexts
 use Rattle.bus_dialogue.specs.declared.exchange.Phase.{Phase}
 use Rattle.bus_dialogue.specs.declared.exchange.Phase.TheVariants as phases
 use Rattle.bus_dialogue.specs.declared.exchange.Plan.{Plan}
-use Rattle.bus_dialogue.specs.declared.exchange.Task.{Task}
 use Rattle.bus_dialogue.specs.Events.{arrival_event, arrival_events, arrival_run_events, detected_events, has_replied, is_status_next, newest_with, reply_events, turn_events}
-use Rattle.bus_dialogue.specs.NextPhase.{Serving, after_messages, after_offer, after_opening, after_refusal, bus_free, message_out_leaving, message_repetition, phase_entry, phase_leaving, phase_of, pointer_restoration, recovery, recovery_limit, request_or_command, unless_attention, with_task}
+use Rattle.bus_dialogue.specs.NextPhase.{Serving, after_messages, after_offer, after_opening, after_refusal, bus_free, message_out_leaving, message_repetition, phase_entry, phase_leaving, phase_of, pointer_restoration, recovery, request_or_command, unless_attention, with_task}
 use Rattle.bus_dialogue.specs.Words.{is_naming, request_by as request_of}
 use Rattle.bus_due.specs.Faithful.{is_block_of_process, is_true_leaving}
 use Rattle.bus_due.specs.RunState.{RunState, bus_of, carried_here, process_served}
@@ -38,10 +36,12 @@ use Rattle.bus_due.specs.Sights.{serving_of}
 use Rattle.bus_due.specs.Tasks.{task_if, task_of}
 use Rattle.scsi_device.specs.Heard.{gives_status, instructions, is_answered, is_command_phase, is_new, is_placed, is_unanswered, may_leave, moves_data}
 use Rattle.target_course.specs.Courses.{CourseState, MOST_KEPT}
-use Rattle.target_course.proofs.CourseAgrees.{IsFront, IsServed, bytes_are}
+use Rattle.target_course.proofs.CourseAgrees.{IsFront, IsServed}
+use Rattle.bus_story.proofs.SameBytes.{bytes_are}
 use Rattle.target_course.proofs.ReplyRows.{Shape, shown_of}
 use Rattle.target_course.proofs.ReplyRows as shapes
 use Rattle.bus_base.proofs.Tests.{or_second}
+use Rattle.bus_dialogue.proofs.Leavings.{task_not, recovery_not}
 
 -- ---- which of the shapes need the command
 
@@ -137,17 +137,6 @@ arrives_in v atn phase i x e f = turn_arrival i i v.plan v.arrival phase (is_sta
 
 -- ---- MESSAGE OUT is not left for STATUS but after refused data
 
-recovery_not : (def : Option TargetDef) (t : Task) (again gives : Leaving) → is_status_next again.to ≡ false → is_status_next gives.to ≡ false → is_status_next (recovery def t again gives).to ≡ false
-recovery_not def t again gives e f = go t.in_hold
-  where
-    limited : (y : Bool) → is_status_next (if y then record again { counts = true } else gives).to ≡ false
-    limited true = e
-    limited false = f
-
-    go : (y : Bool) → is_status_next (recovery def (record t { in_hold = y }) again gives).to ≡ false
-    go true = e
-    go false = limited (nat_lt t.recoveries (recovery_limit def))
-
 offer_not : (def : Option TargetDef) (o : Option Agreement) (n : Bool) → is_status_next (after_offer def n o).to ≡ false
 offer_not def (Some offer) n = refl
 offer_not def None true = go (request_of def)
@@ -163,10 +152,6 @@ opening_not v = go (is_some v.plan.said.aborts)
     go : (y : Bool) → is_status_next (if y then bus_free else after_offer v.def v.plan.negotiates v.plan.said.offer).to ≡ false
     go true = refl
     go false = offer_not v.def v.plan.said.offer v.plan.negotiates
-
-task_not : (x : Option Task) (f : Task → Leaving) → ((t : Task) → is_status_next (f t).to ≡ false) → is_status_next (with_task x f).to ≡ false
-task_not None f h = refl
-task_not (Some t) f h = h t
 
 refusal_not : (v : Serving) → is_status_next (after_refusal v).to ≡ false
 refusal_not v = go (is_some v.plan.said.offer) (is_naming v.plan.messages.first)

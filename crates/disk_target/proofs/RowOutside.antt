@@ -21,24 +21,24 @@ use Rattle.bus_story.specs.Items.{Item, process, abort}
 use Rattle.bus_due.specs.Faithful.{faithful, has_ends, is_faithful}
 use Rattle.bus_due.specs.Plain.{AreOfDevices, IsPlain}
 use Rattle.bus_due.specs.RunState.{RunState, process_item, process_served}
-use Rattle.bus_due.specs.RunSteps.{run_state}
+use Rattle.bus_due.specs.RunSteps.{run_state, events_of_row}
 use Rattle.scsi_device.specs.Heard.{Instructions, instructions, is_of_scenario}
 use Rattle.scsi_device.specs.Writes.{Writer, writers}
-use Rattle.target_course.specs.Replies.{shows_run}
 use Rattle.target_course.specs.States.{IsOwnConnection}
 use Rattle.target_course.proofs.CourseAgrees.{IsFront, either, front_heard}
 use Rattle.target_course.proofs.CourseRows.{heard_before}
 use Rattle.target_course.proofs.ReplyRows.{Shape, shown_of}
 use Rattle.target_course.proofs.ReplyRows as shapes
 use Rattle.target_course.proofs.ServedEnds.{ends_are}
-use Rattle.disk_target.specs.Attended.{are_in, are_known_ends, attended, is_abort_in, is_attended, is_attended_if, is_attended_in, is_attended_row, is_calm_turn, is_empty, is_of_item, is_of_process, is_quiet, is_whole_run}
+use Rattle.disk_target.specs.Attended.{are_in, are_known_ends, attended, is_abort_in, is_attended, is_attended_if, is_attended_in, is_attended_row, is_calm_turn, is_of_item, is_of_process, is_quiet, is_whole_run}
 use Rattle.disk_target.specs.Processes.{AreOutside, IsOutside}
 use Rattle.disk_target.specs.Targets.{AreTied}
 use Rattle.disk_target.specs.Turns.{is_reset}
 use Rattle.disk_target.proofs.RowShapes.{ShowsIn, nothing, turned, lost, aborted, ended, none_shown, reset_is, row_shows}
 use Rattle.bus_base.proofs.Tests.{or_second, implied}
-use Rattle.target_course.specs.Negotiated.{events_of_row}
 use Rattle.disk_array.proofs.SeatLookups.{same_id_is}
+use Rattle.disk_array.specs.ArrayHistory.{shows_run}
+use Rattle.bus_dialogue.specs.Events.{is_empty}
 
 -- ---- what is attended in this row
 

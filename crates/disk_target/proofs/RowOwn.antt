@@ -13,7 +13,7 @@ use Rattle.scenario.specs.Value.{ScenarioValue}
 use Rattle.disk_array.specs.Processes.{Process, process_of, same_id}
 use Rattle.disk_array.specs.Seats.{Seat, seat_of}
 use Rattle.disk_array.specs.SoundArray.{HasSeats, IsSound}
-use Rattle.disk_array.specs.ArrayHistory.{reply_in}
+use Rattle.disk_array.specs.ArrayHistory.{reply_in, shows_run}
 use Rattle.disk_array.specs.Steps.{is_waiting, running_process}
 use Rattle.disk_array.specs.Units.{Array}
 use Rattle.bus_story.specs.BusState.{RowReading, row_reading}
@@ -25,7 +25,7 @@ use Rattle.bus_dialogue.specs.declared.exchange.Next.{Next}
 use Rattle.bus_dialogue.specs.Events.{has_replied}
 use Rattle.bus_dialogue.specs.NextPhase.{phase_of}
 use Rattle.bus_due.specs.RunState.{RunState, array_of, bus_of, process_served}
-use Rattle.bus_due.specs.RunSteps.{run_state}
+use Rattle.bus_due.specs.RunSteps.{run_state, events_of_row}
 use Rattle.bus_due.specs.Sights.{serving_of}
 use Rattle.bus_due.specs.Tasks.{reply_now, task_if}
 use Rattle.bus_due.specs.Telling.{id_of}
@@ -35,11 +35,10 @@ use Rattle.target_units.specs.Units.{IsStep}
 use Rattle.target_units.proofs.Arrivals.{arrival_replies}
 use Rattle.target_units.proofs.UnitTellings.{reply_same}
 use Rattle.target_course.specs.Courses.{CourseState, IsCourse, IsOfProcess, name_of}
-use Rattle.target_course.specs.Replies.{shows_run}
 use Rattle.target_course.proofs.CourseAgrees.{IsFront, IsServed, served_is}
 use Rattle.target_course.proofs.ReplyRows.{Shape, shown_of, number_is}
 use Rattle.target_course.proofs.ReplyRows as shapes
-use Rattle.target_course.proofs.ReplySteps.{accept_same}
+use Rattle.target_units.proofs.ReplySteps.{accept_same}
 use Rattle.disk_target.specs.Attended.{are_in, are_known_ends}
 use Rattle.disk_target.specs.Processes.{AreOwnEvents}
 use Rattle.disk_target.specs.Standings.{HasBlock, IsNoGuest, IsStanding}
@@ -53,7 +52,6 @@ use Rattle.disk_target.proofs.RowKnown.{IsKnown, arriving, moving, giving, arriv
 use Rattle.disk_target.proofs.RowOutside.{IsAttended}
 use Rattle.disk_target.proofs.RowShapes.{ShowsIn, nothing, turned, lost, aborted, ended}
 use Rattle.bus_base.proofs.Tests.{is_nothing}
-use Rattle.target_course.specs.Negotiated.{events_of_row}
 use Rattle.disk_array.proofs.SeatLookups.{same_id_is}
 use Rattle.scsi_device.proofs.Finds.{none_is}
 

@@ -13,7 +13,7 @@ use Rattle.disk_array.specs.SoundArray.{HasSeats}
 use Rattle.bus_story.specs.BusState.{RowReading, row_reading}
 use Rattle.bus_due.specs.Plain.{AreOfDevices, IsPlain}
 use Rattle.bus_due.specs.RunState.{RunState}
-use Rattle.bus_due.specs.RunSteps.{run_state}
+use Rattle.bus_due.specs.RunSteps.{run_state, events_of_row}
 use Rattle.bus_due.specs.Telling.{telling}
 use Rattle.target_course.specs.States.{IsOwnConnection}
 use Rattle.target_course.proofs.ReplyRows.{Shape, shown_of}
@@ -25,7 +25,6 @@ use Rattle.disk_target.proofs.RowOutside.{outside_row}
 use Rattle.disk_target.proofs.RowServed.{before_own}
 use Rattle.disk_target.proofs.RowShapes.{ShowsIn, nothing, turned, lost, aborted, ended, none_shown, reset_is, row_shows}
 use Rattle.disk_target.proofs.UnitRows.{stays}
-use Rattle.target_course.specs.Negotiated.{events_of_row}
 
 pub record Resets (s : ScenarioValue) (rows : List Row) (row : Row) : Type 0 where
   pub shown : events_of_row s rows row ≡ events.Reset row.dev ∷ []

@@ -18,21 +18,21 @@ use Rattle.bus_due.specs.LastingState.{progress_in}
 use Rattle.bus_due.specs.RunState.{RunState, array_of, bus_of, process_served}
 use Rattle.bus_due.specs.RunSteps.{run_state}
 use Rattle.bus_due.specs.Tasks.{is_writing, reply_now, size_of}
-use Rattle.scsi_device.specs.Writes.{is_data_out, is_writer, writer_of, writers}
+use Rattle.scsi_device.specs.Writes.{is_data_out, is_writer, writer_of, writers, start_of_run}
 use Rattle.scsi_device.specs.Lines.{FitsBus}
 use Rattle.scenario.specs.Lookups.{has_target}
 use Rattle.disk_array.specs.Order.{count_in, range_in}
+use Rattle.disk_array.proofs.SeatReplies.{id_self}
 use Rattle.bus_due.specs.Tasks.{blocks_in}
 use Rattle.target_units.specs.Rooms.{AreOfLines}
 use Rattle.target_units.specs.Seated.{is_same_process}
 use Rattle.scsi_device.proofs.SentBytes.{process_few}
 use Rattle.target_units.proofs.Sendings.{named}
-use Rattle.target_course.specs.Gathered.{GatheredValue, Gathering, IsGatheredOf, AreAllGathered, bytes_of, gathering_at, run_start_of}
+use Rattle.target_course.specs.Gathered.{GatheredValue, Gathering, IsGatheredOf, AreAllGathered, bytes_of, gathering_at}
 use Rattle.target_course.specs.Courses.{CourseState}
 use Rattle.target_course.specs.States.{IsOwnConnection}
 use Rattle.target_course.proofs.CourseAgrees.{either}
 use Rattle.target_course.proofs.GatheredRows.{bytes_sent}
-use Rattle.disk_unit.proofs.LiveCommands.{id_self}
 use Rattle.disk_target.specs.Attended.{came, ends_good, is_whole_of, is_whole_run}
 use Rattle.disk_target.specs.Bytes.{count_if, taken_by}
 use Rattle.disk_target.specs.Turns.{count_sent}
@@ -79,7 +79,7 @@ all_come s rows v p n all own calm begins is process at w most = go (is_data_out
     k = run_state s rows
 
     start : ℕ
-    start = run_start_of s p (progress_in k.progress p.id).runs
+    start = start_of_run s p (progress_in k.progress p.id).runs
 
     go : (y : Bool) → is_data_out (phase_of (bus_of k)) ≡ y → length p.sent ≤ start + (if y then k.handshakes.answers else 0) → length p.sent ≤ length (gathering_at v.units p.unit).bytes
     go true e most =

@@ -25,7 +25,7 @@ use Rattle.bus_dialogue.specs.NextPhase.{phase_of}
 use Rattle.bus_due.specs.Sights.{leaving}
 use Rattle.bus_due.specs.Plain.{IsPlain}
 use Rattle.bus_due.specs.RunState.{RunState, array_of, or_start, process_item, process_served}
-use Rattle.bus_due.specs.RunSteps.{run_state, array_after_events, served_after}
+use Rattle.bus_due.specs.RunSteps.{run_state, array_after_events, served_after, events_of_row}
 use Rattle.scsi_device.specs.Heard.{heard, instructions, is_of_scenario, is_opening, is_opening_in, is_to, may_leave}
 use Rattle.scsi_device.specs.Lines.{IsCommandLine}
 use Rattle.target_course.specs.Courses.{CourseState, IsCourse}
@@ -44,8 +44,7 @@ use Rattle.disk_target.proofs.RowOwn.{IsItem, Knows, is_any, knows, shown_item}
 use Rattle.disk_target.proofs.RowShapes.{ShowsIn, reset_is, row_shows}
 use Rattle.disk_target.proofs.UnitRows.{stays}
 use Rattle.bus_base.proofs.Tests.{implied}
-use Rattle.target_course.specs.Negotiated.{events_of_row}
-use Rattle.target_course.proofs.Courses.{connection_stays}
+use Rattle.bus_trace.proofs.Connections.{connection_stays}
 
 -- ---- the connection stays the same, and so does what is served
 

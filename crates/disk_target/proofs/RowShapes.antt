@@ -21,12 +21,11 @@ use Rattle.bus_dialogue.specs.declared.exchange.Plan.{Plan}
 use Rattle.bus_dialogue.specs.Events.{after_opening_events, connection_end_events, leaving_events, loss_events, turn_events, unit_or_0}
 use Rattle.bus_dialogue.specs.NextPhase.{phase_of}
 use Rattle.bus_due.specs.RunState.{RunState, bus_of}
-use Rattle.bus_due.specs.RunSteps.{run_state}
+use Rattle.bus_due.specs.RunSteps.{run_state, events_of_row}
 use Rattle.bus_due.specs.Sights.{serving_of}
 use Rattle.bus_due.specs.Telling.{events_of_ends, events_of_ends_in, id_of, initiator_events, is_true_telling, target_events, telling}
 use Rattle.bus_due.proofs.SameEvents.{events_are}
 use Rattle.target_course.proofs.ReplyRows.{Shape, HasShape, served_shape, shown_of}
-use Rattle.target_course.specs.Negotiated.{events_of_row}
 
 -- What a row shows in this connection, of which this process is served.
 pub data ShowsIn (s : ScenarioValue) (k : RunState) (d : RowReading) (n : Connection) (shown : List Event) : Type 0 where

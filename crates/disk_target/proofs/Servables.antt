@@ -8,11 +8,10 @@ use Rattle.scenario.specs.declared.value.TargetDef.{TargetDef}
 use Rattle.scenario.specs.Value.{ScenarioValue}
 use Rattle.disk_array.specs.Units.{Array, UnitState}
 use Rattle.bus_due.specs.RunState.{RunState, array_of, or_start}
-use Rattle.bus_due.specs.RunSteps.{array_after_events, current_times_after, current_times_if, is_same_running, run_state}
+use Rattle.bus_due.specs.RunSteps.{array_after_events, current_times_after, current_times_if, is_same_running, run_state, events_of_row}
 use Rattle.bus_due.specs.Wants.{since_of}
 use Rattle.scsi_device.specs.Lines.{IsTargetLine}
 use Rattle.disk_target.specs.Targets.{AreInTime, IsServable}
-use Rattle.target_course.specs.Negotiated.{events_of_row}
 
 abbrev pub AreBefore : List ℕ → Type 0
 AreBefore times = AllByRecursion (λ (t : ℕ). t < 2 ^ 62) times

@@ -8,14 +8,14 @@ use Rattle.disk_array.specs.Units.{RunningProcess, UnitState, guest_at}
 use Rattle.disk_array.specs.Steps.{process_count, running_if}
 use Rattle.disk_array.specs.Seats
 use Rattle.disk_array.specs.Seats.{Seat, settled_seat, unit_mapped}
+use Rattle.disk_array.proofs.SeatReplies.{id_self, no_guest_replied, guest_replied}
 use Rattle.disk_unit.specs.Units.{told_of}
 use Rattle.disk_unit.specs.declared.unit.Reply as unit
-use Rattle.disk_unit.proofs.LiveCommands.{id_self}
 use Rattle.target_units.specs.Seated.{reply_told}
 use Rattle.disk_target.specs.declared.standing.Standing.{Standing}
 use Rattle.disk_target.specs.declared.standing.Standing.TheVariants as standings
 use Rattle.disk_target.specs.Standings.{is_inside, IsGuest, IsNoGuest, IsStanding, standing_on_arrival, standing_on_failure}
-use Rattle.disk_target.proofs.StandingSteps.{settles, stands, arrived, guest_more, replied_inside, contents_inside, no_guest_replied, guest_replied, left_inside, left_guest}
+use Rattle.disk_target.proofs.StandingSteps.{settles, stands, arrived, guest_more, replied_inside, contents_inside, left_inside, left_guest}
 
 -- ---- the choice
 

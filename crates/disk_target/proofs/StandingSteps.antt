@@ -1,35 +1,20 @@
 -- Where a process stands, as the parts of its seat change.
-use Rattle.std.proofs.Common.{ℕ, zero, suc, ◌≡◌, Bool, true, false, List, [], ◌∷◌, ◌++◌, ◌∙◌, refl, sym, Option, Some, None}
+use Rattle.std.proofs.Common.{◌≡◌, Bool, true, false, List, [], ◌∷◌, ◌++◌, ◌∙◌, refl, sym, Option, Some, None}
 use Rattle.std.specs.Prelude.{if◌then◌else◌, not, ◌&&◌, ◌||◌, is_some}
 use Rattle.bus_base.specs.declared.ProcId.{ProcId}
 use Rattle.disk_array.specs.Contents.{Contents}
 use Rattle.disk_array.specs.Execution.{Reply}
 use Rattle.disk_array.specs.Processes.{Process, same_id}
-use Rattle.disk_array.specs.Order.{choice, process_at, process_at_if, chosen_place, entries_of, without_process}
-use Rattle.disk_array.specs.Units.{RunningProcess, UnitState, guest_at, without_guest, with_current, has_no_current}
-use Rattle.disk_array.specs.Steps.{running_if, guests_with_reply, current_with_reply, unit_without}
-use Rattle.disk_array.specs.Seats.{unit_mapped, unit_with_choice, unit_with_reply, unit_with_contents}
-use Rattle.disk_unit.proofs.LiveCommands.{id_self, same_id_is}
-use Rattle.disk_target.specs.Standings.{waits_in, is_inside}
+use Rattle.disk_array.specs.Order.{choice, chosen_place, entries_of, without_process}
+use Rattle.disk_array.specs.Units.{RunningProcess, UnitState, guest_at, without_guest, with_current, has_no_current, without_reply}
+use Rattle.disk_array.specs.Steps.{running_if, current_with_reply, unit_without}
+use Rattle.disk_array.specs.Seats.{unit_mapped, unit_with_choice, unit_with_reply, unit_with_contents, waits_in}
+use Rattle.disk_array.proofs.SeatReplies.{last_waits, choice_waits}
+use Rattle.disk_array.proofs.SeatLookups.{same_id_is}
+use Rattle.disk_target.specs.Standings.{is_inside}
 use Rattle.bus_base.proofs.Tests.{or_true}
 
 -- ---- who waits
-
-or_one : (x y : Bool) → y ≡ true → (x || y) ≡ true
-or_one x y h = (λ i. x || h i) ∙ or_true x
-
-append_waits : (ws : List Process) (p : Process) → waits_in (ws ++ p ∷ []) p.id ≡ true
-append_waits [] p = λ i. id_self p.id i || false
-append_waits (q ∷ ws) p = or_one (same_id q.id p.id) (waits_in (ws ++ p ∷ []) p.id) (append_waits ws p)
-
-place_waits : (ws : List Process) (place : ℕ) (p : Process) → process_at ws place ≡ Some p → waits_in ws p.id ≡ true
-place_waits [] place p e = cc
-place_waits (q ∷ ws) zero p e = let same : q ≡ p = cc in (λ i. same_id (same i).id p.id || waits_in ws p.id) ∙ (λ i. id_self p.id i || waits_in ws p.id)
-place_waits (q ∷ ws) (suc place) p e = or_one (same_id q.id p.id) (waits_in ws p.id) (place_waits ws place p e)
-
-choice_waits : (ws : List Process) (place : Option ℕ) (p : Process) → process_at_if ws place ≡ Some p → waits_in ws p.id ≡ true
-choice_waits ws None p e = cc
-choice_waits ws (Some place) p e = place_waits ws place p e
 
 without_self : (ws : List Process) (id : ProcId) → waits_in (without_process ws id) id ≡ false
 without_self [] id = refl
@@ -49,19 +34,16 @@ without_other (q ∷ ws) x id e = go (without_other ws x id e) (same_id q.id x) 
 
 -- ---- the choice
 
-abbrev begun : Process → RunningProcess
-begun p = record { process = p; reply = None }
-
-chosen : (ws : List Process) (p : Process) (id : ProcId) → waits_in ws p.id ≡ true → (waits_in (without_process ws p.id) id || is_some (running_if (Some (begun p)) id)) ≡ (waits_in ws id || false)
+chosen : (ws : List Process) (p : Process) (id : ProcId) → waits_in ws p.id ≡ true → (waits_in (without_process ws p.id) id || is_some (running_if (Some (without_reply p)) id)) ≡ (waits_in ws id || false)
 chosen ws p id w = go (same_id p.id id) refl
   where
-    go : (y : Bool) → same_id p.id id ≡ y → (waits_in (without_process ws p.id) id || is_some (running_if (Some (begun p)) id)) ≡ (waits_in ws id || false)
+    go : (y : Bool) → same_id p.id id ≡ y → (waits_in (without_process ws p.id) id || is_some (running_if (Some (without_reply p)) id)) ≡ (waits_in ws id || false)
     go true e =
-        (λ i. waits_in (without_process ws p.id) id || is_some (if e i then Some (begun p) else None))
+        (λ i. waits_in (without_process ws p.id) id || is_some (if e i then Some (without_reply p) else None))
         ∙ or_true (waits_in (without_process ws p.id) id)
         ∙ sym ((λ i. waits_in ws (sym (same_id_is p.id id e) i) || false) ∙ (λ i. w i || false))
     go false e =
-        (λ i. waits_in (without_process ws p.id) id || is_some (if e i then Some (begun p) else None))
+        (λ i. waits_in (without_process ws p.id) id || is_some (if e i then Some (without_reply p) else None))
         ∙ (λ i. without_other ws p.id id e i || false)
 
 unit_settles : (held : Bool) (u : UnitState) (id : ProcId) → is_inside (Some (unit_with_choice held u)) id ≡ is_inside (Some u) id
@@ -88,7 +70,7 @@ stands f (Some u) = refl
 -- ---- a process more
 
 pub arrived : (u : UnitState) (p : Process) → is_inside (Some (record u { waiting = u.waiting ++ p ∷ [] })) p.id ≡ true
-arrived u p = λ i. append_waits u.waiting p i || is_some (running_if u.current p.id)
+arrived u p = λ i. last_waits u.waiting p i || is_some (running_if u.current p.id)
 
 pub guest_more : (gs : List RunningProcess) (g : RunningProcess) (id : ProcId) → guest_at gs id ≡ None → same_id g.process.id id ≡ true → guest_at (gs ++ g ∷ []) id ≡ Some g
 guest_more [] g id none e = λ i. if e i then Some g else None
@@ -119,24 +101,6 @@ replied_inside (Some u) id reply = λ i. waits_in u.waiting id || replied_curren
 pub contents_inside : (x : Option UnitState) (c : Contents) (id : ProcId) → is_inside (unit_mapped (unit_with_contents c) x) id ≡ is_inside x id
 contents_inside None c id = refl
 contents_inside (Some u) c id = refl
-
-pub no_guest_replied : (gs : List RunningProcess) (id : ProcId) (reply : Reply) → guest_at gs id ≡ None → guest_at (guests_with_reply gs id reply) id ≡ None
-no_guest_replied [] id reply none = refl
-no_guest_replied (f ∷ gs) id reply none = go (λ k. no_guest_replied gs id reply k) (same_id f.process.id id) refl none
-  where
-    go : (guest_at gs id ≡ None → guest_at (guests_with_reply gs id reply) id ≡ None) → (y : Bool) → same_id f.process.id id ≡ y → (if y then Some f else guest_at gs id) ≡ None → guest_at (if y then record f { reply = Some reply } ∷ gs else f ∷ guests_with_reply gs id reply) id ≡ None
-    go rest true e k = cc
-    go rest false e k = (λ i. if e i then Some f else guest_at (guests_with_reply gs id reply) id) ∙ rest k
-
-pub guest_replied : (gs : List RunningProcess) (id : ProcId) (reply : Reply) (g : RunningProcess) → guest_at gs id ≡ Some g → guest_at (guests_with_reply gs id reply) id ≡ Some (record g { reply = Some reply })
-guest_replied [] id reply g at = cc
-guest_replied (f ∷ gs) id reply g at = go (λ k. guest_replied gs id reply g k) (same_id f.process.id id) refl at
-  where
-    go : (guest_at gs id ≡ Some g → guest_at (guests_with_reply gs id reply) id ≡ Some (record g { reply = Some reply })) → (y : Bool) → same_id f.process.id id ≡ y → (if y then Some f else guest_at gs id) ≡ Some g → guest_at (if y then record f { reply = Some reply } ∷ gs else f ∷ guests_with_reply gs id reply) id ≡ Some (record g { reply = Some reply })
-    go rest true e k =
-        let same : f ≡ g = cc in
-        (λ i. if e i then Some (record f { reply = Some reply }) else guest_at gs id) ∙ (λ i. Some (record (same i) { reply = Some reply }))
-    go rest false e k = (λ i. if e i then Some f else guest_at (guests_with_reply gs id reply) id) ∙ rest k
 
 -- ---- a process leaves
 

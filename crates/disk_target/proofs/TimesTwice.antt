@@ -10,9 +10,9 @@ use Rattle.disk_array.specs.Order.{choice}
 use Rattle.disk_array.specs.Processes.{Process, process_of, same_id}
 use Rattle.disk_array.specs.Steps.{step, settled_array_if, accept_step, accept_step_at, queue_step, with_guest, process_count}
 use Rattle.disk_array.specs.Units.{RunningProcess, UnitState, Nexus, Array, is_held, unit_state_at, with_unit, with_current, has_no_current, unit_after_choice, units_after_choice, settled_array}
-use Rattle.disk_unit.proofs.LiveCommands.{id_self, same_id_is}
 use Rattle.bus_due.specs.RunSteps.{is_same_running, current_times_after}
-use Rattle.disk_array.proofs.SeatLookups.{found_target, found_unit}
+use Rattle.disk_array.proofs.SeatLookups.{found_target, found_unit, same_id_is}
+use Rattle.disk_array.proofs.SeatReplies.{id_self}
 
 -- ---- each current process stays
 

@@ -16,6 +16,7 @@ use Rattle.scenario.specs.declared.value.Policy.{Policy}
 use Rattle.scenario.specs.declared.value.TargetDef.{TargetDef}
 use Rattle.scenario.specs.Value.{ScenarioValue}
 use Rattle.disk_array.specs.Processes.{Process, command_at}
+use Rattle.disk_array.specs.ArrayHistory.{shows_run}
 use Rattle.bus_story.specs.BusState.{RowReading, row_reading}
 use Rattle.bus_dialogue.specs.declared.exchange.Hearing.{Hearing}
 use Rattle.bus_dialogue.specs.declared.exchange.Leaving.{Leaving}
@@ -29,28 +30,29 @@ use Rattle.bus_dialogue.specs.declared.exchange.Next.TheVariants as nexts
 use Rattle.bus_dialogue.specs.DataRuns.{run_in}
 use Rattle.bus_dialogue.specs.Hearing.{begun, hearing}
 use Rattle.bus_dialogue.specs.NextPhase.{Serving, after_messages, leaving_by, next_data_phase, phase_entry, phase_leaving, phase_of, with_task}
+use Rattle.bus_dialogue.specs.Events.{is_empty}
 use Rattle.bus_due.specs.Defs.{target_def_of}
 use Rattle.bus_due.specs.Plain.{IsPlain}
 use Rattle.bus_due.specs.RunState.{RunState, array_of, bus_of, process_served}
-use Rattle.bus_due.specs.RunSteps.{leaving_of, run_state}
+use Rattle.bus_due.specs.RunSteps.{leaving_of, run_state, events_of_row}
 use Rattle.bus_due.specs.Sights.{hearing_of, leaving, serving_of}
 use Rattle.bus_due.specs.Tasks.{given_of, task_of}
 use Rattle.bus_due.specs.Telling.{id_of, initiator_events, target_events}
 use Rattle.scsi_device.specs.Heard.{instructions, is_opening, is_opening_in, may_leave}
 use Rattle.scsi_device.specs.Lines.{IsCommandLine}
 use Rattle.scsi_device.specs.Writes.{Writer, brings_byte, is_data_out, is_next_byte, is_of_size, is_written, is_written_byte, is_written_in, is_written_on, is_written_run, ends_run, writers, written}
+use Rattle.scsi_device.proofs.PhaseLines.{in_phase}
 use Rattle.target_course.specs.declared.course.ProcessState.{ProcessState}
 use Rattle.target_course.specs.Agreeing.{AreAgreeing, HaveSameTask, IsSameCommand, needs_command}
 use Rattle.target_course.specs.Courses.{CourseState, IsCourse, AreToldOf, events_of_target, id_known, serving_by}
 use Rattle.target_course.specs.Gathered.{place_at, place_in_run}
 use Rattle.target_course.specs.Progress.{IsUncounted}
-use Rattle.target_course.specs.Replies.{shows_run}
 use Rattle.target_course.specs.States.{IsOwnConnection}
 use Rattle.target_course.proofs.CourseAgrees.{IsFront, IsTurn, courses_agree, front_heard, turn_heard}
 use Rattle.target_course.proofs.CourseRows.{heard_before, ids_agree, left_alike, line_of_own}
 use Rattle.target_course.proofs.ReplyRows.{Shape, shown_of}
 use Rattle.target_course.proofs.ReplyRows as shapes
-use Rattle.disk_target.specs.Attended.{is_empty, is_unseen}
+use Rattle.disk_target.specs.Attended.{is_unseen}
 use Rattle.disk_target.specs.Targets.{AreTied}
 use Rattle.disk_target.specs.Turns.{IsTurnIf, IsTurnOf}
 use Rattle.disk_target.specs.declared.turn.Turn.{Turn}
@@ -62,7 +64,6 @@ use Rattle.disk_target.proofs.RowServed.{block_few, may_turn}
 use Rattle.disk_target.proofs.RowShapes.{ShowsIn, nothing, turned, lost, aborted, ended, row_shows, shown_in}
 use Rattle.disk_target.proofs.Data.{served_of}
 use Rattle.bus_base.proofs.Tests.{implied, wrong}
-use Rattle.target_course.specs.Negotiated.{events_of_row}
 use Rattle.target_course.proofs.GatheredSteps.{data_out_is}
 
 -- ---- a phase is left
@@ -81,15 +82,6 @@ from_in v nexts.GoOn = go v.task
 from_message_in : (v : Serving) (atn : Bool) → IsUncounted (phase_leaving v atn phases.MessageIn)
 from_message_in v true = record { done = refl; counts = refl }
 from_message_in v false = from_in v v.plan.next
-
-in_phase : (b : LineSet) → is_message_in b ≡ true → phase_of b ≡ phases.MessageIn
-in_phase b e = go b.msg b.cd b.io e
-  where
-    go : (m d i : Bool) → (m && d && i) ≡ true → (if m then (if i then phases.MessageIn else phases.MessageOut) else if d then (if i then phases.Status else phases.Command) else if i then phases.DataIn else phases.DataOut) ≡ phases.MessageIn
-    go true true true z = refl
-    go true true false z = cc
-    go true false i z = cc
-    go false d i z = cc
 
 uncounted_in : (v : Serving) (q : Bool) (b : LineSet) → q ≡ true → is_message_in b ≡ true → IsUncounted (leaving_by v q b)
 uncounted_in v q b e m = record {

@@ -11,18 +11,18 @@ use Rattle.cdb_codec.specs.declared.status.TheConstants.{GOOD}
 use Rattle.scenario.specs.Value.{ScenarioValue}
 use Rattle.disk_array.specs.Processes.{Process, same_id}
 use Rattle.disk_array.specs.Units.{Array}
+use Rattle.disk_array.specs.ArrayHistory.{shows_run}
 use Rattle.bus_story.specs.BusState.{RowReading, row_reading}
 use Rattle.bus_story.specs.HistoryEvents.{row_events_by}
 use Rattle.bus_story.specs.Items.{Item, process, abort}
 use Rattle.bus_dialogue.specs.NextPhase.{phase_of}
+use Rattle.bus_dialogue.specs.Events.{is_empty}
 use Rattle.bus_due.specs.LastingState.{progress_in}
 use Rattle.bus_due.specs.RunState.{RunState, array_of, bus_of, process_served}
 use Rattle.bus_due.specs.RunSteps.{run_state}
 use Rattle.bus_due.specs.Tasks.{reply_now, is_writing}
 use Rattle.scsi_device.specs.Heard.{Instructions, instructions, is_new, is_opening}
-use Rattle.scsi_device.specs.Writes.{Writer, writer_of, writers, is_writer, is_data_out}
-use Rattle.target_course.specs.Gathered.{run_start_of}
-use Rattle.target_course.specs.Replies.{shows_run}
+use Rattle.scsi_device.specs.Writes.{Writer, writer_of, writers, is_writer, is_data_out, start_of_run}
 
 -- ---- each event of a row is of the process that the target of the connection serves, or of an abort in the connection
 
@@ -76,7 +76,7 @@ are_known_ends known (e ∷ shown) = is_known_end known e && are_known_ends know
 
 abbrev pub came : ScenarioValue → RunState → Process → ℕ
 came s k p =
-    run_start_of s p (progress_in k.progress p.id).runs + (if is_data_out (phase_of (bus_of k)) then k.handshakes.answers else 0)
+    start_of_run s p (progress_in k.progress p.id).runs + (if is_data_out (phase_of (bus_of k)) then k.handshakes.answers else 0)
 
 abbrev pub is_whole_of : ScenarioValue → RunState → List Writer → Process → Bool
 is_whole_of s k all p =
@@ -90,10 +90,6 @@ is_whole_run s k all None = true
 is_whole_run s k all (Some p) = not (ends_good (array_of s k) p) || is_whole_of s k all p
 
 -- ---- a row in a connection; in one after which RST is true, and one before which it was, nothing is shown of processes
-
-abbrev pub is_empty : List Event → Bool
-is_empty [] = true
-is_empty (e ∷ shown) = false
 
 -- In the opening after a selection nothing is shown while the connection stands; and where it ends there its process has not
 -- arrived.

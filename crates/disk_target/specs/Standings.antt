@@ -1,17 +1,15 @@
 -- Where a process stands at its logical unit: in the queue, outside it, or nowhere.
-use Rattle.std.specs.Prelude.{◌≡◌, ℕ, Bool, true, false, ◌||◌, List, Option, Some, None, is_some}
-use Rattle.std.specs.List.{list_any}
+use Rattle.std.specs.Prelude.{◌≡◌, ℕ, Bool, true, false, ◌||◌, Option, Some, None, is_some}
 use Rattle.bus_base.specs.declared.ProcId.{ProcId}
 use Rattle.cdb_codec.specs.Cdb.{command_of}
 use Rattle.scenario.specs.Value.{ScenarioValue}
 use Rattle.disk_array.specs.Execution.{is_request_sense}
 use Rattle.disk_array.specs.Order.{class_of, tag_number}
-use Rattle.disk_array.specs.Processes.{Process, same_id}
-use Rattle.disk_array.specs.Seats.{Seat, is_initiator}
+use Rattle.disk_array.specs.Processes.{Process}
+use Rattle.disk_array.specs.Seats.{Seat, is_initiator, waits_in}
 use Rattle.disk_array.specs.SoundArray.{IsOwn}
 use Rattle.disk_array.specs.Steps.{running_if}
 use Rattle.disk_array.specs.Units.{RunningProcess, UnitState, guest_at}
-use Rattle.disk_unit.specs.declared.media.Plan.{Plan}
 use Rattle.disk_unit.specs.declared.unit.Reply.{Reply}
 use Rattle.target_units.specs.Seated.{IsProcess, reply_told}
 use Rattle.disk_target.specs.declared.standing.Served.{Served}
@@ -38,9 +36,6 @@ words_of s dev p v h block = record { id_is = h.id_is; from_is = h.from_is; tag_
 -- ---- at its unit
 
 -- It waits there, or is current.
-abbrev pub waits_in : List Process → ProcId → Bool
-waits_in waiting id = list_any (λ (p : Process). same_id p.id id) waiting
-
 abbrev pub is_inside : Option UnitState → ProcId → Bool
 is_inside None id = false
 is_inside (Some u) id = waits_in u.waiting id || is_some (running_if u.current id)
@@ -90,7 +85,3 @@ abbrev pub outcome_of : Standing → Option Reply
 outcome_of standings.Nowhere = None
 outcome_of standings.Queued = None
 outcome_of (standings.Guest reply) = reply
-
--- What a plan tells of a reply.
-abbrev pub reply_planned : Plan → Reply
-reply_planned plan = record { status = plan.status; len = plan.in_len; sense = plan.sense }

@@ -17,14 +17,14 @@ use Rattle.bus_dialogue.specs.Hearing.{begun, hearing}
 use Rattle.bus_dialogue.specs.NextPhase.{leaving_by, phase_of}
 use Rattle.bus_due.specs.Plain.{AreOfDevices}
 use Rattle.bus_due.specs.RunState.{array_of, process_served}
-use Rattle.bus_due.specs.RunSteps.{run_state}
+use Rattle.bus_due.specs.RunSteps.{run_state, events_of_row}
 use Rattle.bus_due.specs.Tasks.{given_of, size_of}
 use Rattle.scsi_device.specs.Heard.{is_opening_in}
 use Rattle.target_course.specs.Courses.{CourseState, events_of_target, name_of, serving_by, AreToldOf}
 use Rattle.scsi_device.specs.Lines.{FitsBus, IsTargetLine}
 use Rattle.scsi_device.specs.Writes.{brings_byte}
 use Rattle.target_course.specs.Gathered.{GatheredValue, IsGatheredOf, AreAllGathered, IsSentSo, IsAtUnit}
-use Rattle.target_course.specs.Negotiated.{IsHeardSo, events_of_row}
+use Rattle.target_course.specs.Negotiated.{IsHeardSo}
 use Rattle.target_course.specs.Progress.{IsLeftSo}
 use Rattle.target_course.specs.Replies.{IsOutlookAt}
 use Rattle.target_course.specs.Shown.{shown_list}

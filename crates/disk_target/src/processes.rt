@@ -5,12 +5,12 @@ ghost use Rattle.bus_base.specs.declared.Event.TheVariants.{Accept, Refuse, Run,
 ghost use Rattle.cdb_codec.specs.Cdb.{command_of};
 ghost use Rattle.cdb_codec.specs.declared.status.TheConstants.{GOOD};
 ghost use Rattle.scenario.specs.Value.{ScenarioValue};
-ghost use Rattle.disk_array.specs.Execution.{is_request_sense, queue_full};
+ghost use Rattle.disk_array.specs.Execution.{is_request_sense, queue_full, aborted_reply};
 ghost use Rattle.disk_array.specs.Processes.{Process};
 ghost use Rattle.disk_array.specs.Seats.{seat_of, current_of};
 ghost use Rattle.disk_array.specs.Units.{Array, RunningProcess, guest_at, starting_array, settled_array};
-ghost use Rattle.disk_unit.specs.Units.{told_of};
-ghost use Rattle.target_units.specs.Seated.{HasSent, aborted_reply};
+ghost use Rattle.disk_unit.specs.Units.{told_of, planned_reply};
+ghost use Rattle.target_units.specs.Seated.{HasSent};
 ghost use Rattle.target_units.specs.Units.{UnitsState, AreUnitsOf, AreUnitsAfter, IsStep, is_of_one, unit_in, spare_of};
 ghost use Rattle.target_units.specs.Fillings.{blocks_at};
 ghost use Rattle.scenario.specs.Lookups.{unit_of};
@@ -19,21 +19,20 @@ ghost use Rattle.bus_trace.specs.declared.Row.{Row};
 ghost use Rattle.bus_due.specs.Allowed.{allowed};
 ghost use Rattle.bus_due.specs.Defs.{target_def_of};
 ghost use Rattle.bus_due.specs.RunState.{array_of};
-ghost use Rattle.bus_due.specs.RunSteps.{run_state};
+ghost use Rattle.bus_due.specs.RunSteps.{run_state, events_of_row};
 ghost use Rattle.disk_array.specs.SoundArray.{HasSeats};
 ghost use Rattle.disk_unit.specs.declared.unit.Reply.{Reply};
 ghost use Rattle.scsi_device.specs.Heard.{is_new};
-ghost use Rattle.disk_target.specs.Standings.{IsServed, IsStanding, HasBlock, standing_on_arrival, standing_on_failure, reply_planned, is_guest, outcome_of, standing_at_first};
+ghost use Rattle.disk_target.specs.Standings.{IsServed, IsStanding, HasBlock, standing_on_arrival, standing_on_failure, is_guest, outcome_of, standing_at_first};
 ghost use Rattle.disk_target.specs.Processes.{AreProcessesAt, AreProcessesAfter, IsOwnEvent, AreOwnEvents, AreProcessesOf, AreKeptOf, AreOutside, IsRunInside};
-ghost use Rattle.target_course.specs.Negotiated.{events_of_row};
 ghost use Rattle.disk_target.specs.declared.standing.Standing.{Standing as StandingValue};
 ghost use Rattle.disk_target.specs.declared.standing.Standing.TheVariants.{Nowhere, Guest};
 
 use crate::standing::{Served, Standing};
 use bus_base::{AbortKind, Dev, Event, NoMemory, Ns, ProcId};
 use bus_dialogue::Room;
-use cdb_codec::{ABORTED_COMMAND, CHECK_CONDITION, Command, QUEUE_FULL, Sense, from_cdb};
-use disk_unit::{Accepted, Plan, Reply};
+use cdb_codec::{Command, from_cdb};
+use disk_unit::{Accepted, Plan, Reply, aborted_reply, planned_reply, refusal};
 use scenario::{Scenario, TargetDef};
 use std::alloc::Global;
 use std::marker::Model;
@@ -84,42 +83,6 @@ fn standing_on_failure(before: Standing, reply: Reply) -> Standing
     match before {
         Standing::Queued => Standing::Queued,
         Standing::Nowhere | Standing::Guest(_) => Standing::Guest(Some(reply)),
-    }
-}
-
-fn reply_planned(plan: &Plan) -> Reply
-    ensures { result ≡ reply_planned plan.now }
-{
-    Reply {
-        status: plan.status,
-        len: plan.in_len as usize,
-        sense: plan.sense,
-    }
-}
-
-// QUEUE FULL.
-fn refusal() -> Reply
-    ensures { result ≡ told_of queue_full }
-{
-    Reply {
-        status: QUEUE_FULL,
-        len: 0,
-        sense: None,
-    }
-}
-
-// CHECK CONDITION with ABORTED COMMAND and this code.
-fn failure(code: u8) -> Reply
-    ensures { result ≡ told_of (aborted_reply code) }
-{
-    Reply {
-        status: CHECK_CONDITION,
-        len: 0,
-        sense: Some(Sense {
-            key: ABORTED_COMMAND,
-            asc: code,
-            ascq: 0,
-        }),
     }
 }
 
@@ -227,7 +190,7 @@ impl Processes {
         ensures seek { self.new.units.seek ≡ self.old.units.seek }
     {
         self.units.fail(served.unit, served.id, code, now);
-        self.standing = standing_on_failure(self.standing, failure(code));
+        self.standing = standing_on_failure(self.standing, aborted_reply(code));
     }
 
     // A process that stands in the queue of its unit runs at `now`, in ns.
@@ -257,7 +220,7 @@ impl Processes {
     {
         let plan = self.units.plan(served.unit, served.from, served.cdb);
         self.units.run(served.unit, served.id, served.sent, now);
-        self.standing = Standing::Guest(Some(reply_planned(&plan)));
+        self.standing = Standing::Guest(Some(planned_reply(plan)));
     }
 
     // A process runs at `now`, in ns.

@@ -22,7 +22,7 @@ ghost use Rattle.bus_due.specs.Defs.{target_def_of};
 ghost use Rattle.bus_due.specs.Next.{due};
 ghost use Rattle.bus_due.specs.Plain.{AreOfDevices};
 ghost use Rattle.bus_due.specs.RunState.{array_of, item_of};
-ghost use Rattle.bus_due.specs.RunSteps.{run_state};
+ghost use Rattle.bus_due.specs.RunSteps.{run_state, events_of_row};
 ghost use Rattle.bus_due.specs.Sights.{serving_of};
 ghost use Rattle.bus_due.specs.Tasks.{size_of, reply_now, is_writing};
 ghost use Rattle.scsi_device.specs.Acts.{act_of};
@@ -40,7 +40,6 @@ ghost use Rattle.target_units.specs.Units.{AreUnitsOf, reply_at, unit_in};
 ghost use Rattle.target_course.specs.declared.course.Name.{Name as NameValue};
 ghost use Rattle.disk_target.specs.Bytes.{DecidesAs, IsOthers, IsOwnIf, StandsInOwn};
 ghost use Rattle.disk_target.specs.Needs.{DrivesAs, GivesAs, LeavesAs};
-ghost use Rattle.target_course.specs.Negotiated.{events_of_row};
 ghost use Rattle.disk_target.specs.Knowns.{IsKnownBy, IsKnownIf, IsQuiet, knows_command};
 ghost use Rattle.disk_target.specs.Targets.{AreInTime, AreTied, IsCourseIf, IsServable, IsTargetAfter, KnowsRows};
 ghost use Rattle.disk_target.specs.Turns.{IsSentIf, IsSentOf, IsTurnOf};
@@ -68,7 +67,7 @@ use bus_reactions::{Due, Offering};
 use bus_trace::{Connection, Row, lines_on_the_bus, rows_change_one_device};
 use disk_array::arrays_are_sound;
 use disk_unit::Reply;
-use scenario::{FaultDef, Scenario, TargetDef};
+use scenario::{FaultDef, Scenario, TargetDef, target_line};
 use scsi_device::{Act, Itself, pace, scenarios_fit_the_bus};
 use std::alloc::Global;
 use std::marker::Model;
@@ -119,18 +118,6 @@ impl Model for Target {
 
     ghost invariant = { λ a. (a.def.dev < 8) × (a.def.latency ≤ 100)
         × IsKnownIf a.def a.processes.units a.progress a.reply a.course a.known };
-}
-
-// The line of this target.
-fn target_line(targets: &[TargetDef], dev: Dev) -> Option<TargetDef>
-    ensures { result ≡ find (λ (t : TargetDef). t.dev == dev) targets.now }
-{
-    for def in targets {
-        if def.dev == dev {
-            return Some(*def);
-        }
-    }
-    None
 }
 
 impl Target {

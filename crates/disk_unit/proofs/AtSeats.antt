@@ -26,6 +26,9 @@ use Rattle.disk_unit.specs.Units.{is_reported, reply_with, books_if_reported}
 use Rattle.disk_unit.specs.Keeping.{IsKeptAt, books_after_status}
 use Rattle.disk_unit.specs.LiveCommands.{LiveCommand, HasLive, IsCurrentOf, process_under, has_process, live_but, has_this_key, is_one_of}
 use Rattle.disk_unit.specs.AtSeats.{IsUnitAt}
+use Rattle.bus_base.proofs.Tests.{eq_self}
+use Rattle.disk_array.proofs.SeatLookups.{same_id_is}
+use Rattle.disk_array.proofs.SeatReplies.{id_self}
 use Rattle.disk_unit.proofs.LiveCommands as live
 use Rattle.disk_unit.proofs.Keeping as keeping
 use Rattle.disk_unit.proofs.Executions.{executed}
@@ -189,7 +192,7 @@ ran hosts l c u seat b key p h k lt host f =
 -- The current command has no reply yet, no guest has its number, and the hold is empty.
 pub run_at : (hosts : List HostDef) (seat : Seat) (u : UnitState) (p : Process) → seat.unit ≡ Some u → u.current ≡ Some (record { process = p; reply = None }) → guest_at seat.guests p.id ≡ None → Seats.is_any_held seat.hold ≡ false → Seats.seat_after_run p.id seat ≡ Some (Seats.seat_with_execution seat p (execution (Seats.context_of seat p.initiator) p.cdb p.sent))
 run_at hosts seat u p there now none free =
-    let own : same_id p.id p.id ≡ true = live.id_self p.id in
+    let own : same_id p.id p.id ≡ true = id_self p.id in
     (λ i. Seats.seat_after_run_of seat (is_some (none i)) (if is_some (none i) then none i else running_if (Seats.current_of (there i)) p.id))
     ∙ (λ i. Seats.seat_after_run_of seat false (running_if (now i) p.id))
     ∙ (λ i. Seats.seat_after_run_of seat false (if own i then Some (record { process = p; reply = None }) else None))
@@ -279,7 +282,7 @@ guest_current l id f (Some key) None h = absurd h
 guest_current l id f (Some key) (Some r) h = go (same_id r.process.id id) refl
   where
     go : (y : Bool) → same_id r.process.id id ≡ y → (if is_some (if y then Some r else None) then None else Some r) ≡ Some r
-    go true e = let same : r.process.id ≡ id = live.same_id_is r.process.id id e in let found : has_process l id ≡ true = subst (λ (n : ProcId). has_process l n ≡ true) same (live.process_found l key r.process h) in let bad : true ≡ false = sym found ∙ f in cc
+    go true e = let same : r.process.id ≡ id = same_id_is r.process.id id e in let found : has_process l id ≡ true = subst (λ (n : ProcId). has_process l n ≡ true) same (live.process_found l key r.process h) in let bad : true ≡ false = sym found ∙ f in cc
     go false e = refl
 
 guest_unit : (l : List LiveCommand) (u : UnitState) (b : UnitBooks) (id : ProcId) → HasLive l u b → has_process l id ≡ false → unit_without u id ≡ u
@@ -341,7 +344,7 @@ started s d target unit keys blocks h = record {
 
 pub end_step : (seat : Seat) (p : Process) (reply : Reply) → Seats.running_at seat p.id ≡ Some (record { process = p; reply = Some reply }) → Seats.seat_after_end p.id reply.status seat ≡ Some (Seats.seat_without (Seats.seat_after_status seat p reply) p.id)
 end_step seat p reply h =
-    let same : (reply.status == reply.status) ≡ true = live.eqb_self reply.status in
+    let same : (reply.status == reply.status) ≡ true = eq_self reply.status in
     (λ i. Seats.seat_after_end_of seat reply.status (h i))
     ∙ (λ i. if same i then Some (Seats.seat_without (Seats.seat_after_status seat p reply) p.id) else None)
 

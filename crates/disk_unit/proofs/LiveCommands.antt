@@ -6,32 +6,28 @@ use Rattle.std.proofs.lemmas.Bool.{eqb-true, eqb-false, eq-eqb}
 use Rattle.std.proofs.Math.Seq.{lt-length-set}
 use Rattle.std.proofs.lemmas.List.{get_or-set_same, get_or-set_other}
 use Rattle.bus_base.specs.declared.ProcId.{ProcId}
+use Rattle.bus_base.proofs.Tests.{eq_self}
 use Rattle.disk_array.specs.declared.entries.Entry.{Entry}
-use Rattle.disk_array.specs.Processes.{Process, same_id, same_bool}
-use Rattle.disk_array.specs.Order.{entry_of, tag_number, entries_of, chosen_place, process_at, process_at_if, without_process}
+use Rattle.disk_array.specs.Processes.{Process, same_id}
+use Rattle.disk_array.specs.Order.{entry_of, tag_number, entries_of, chosen_place, process_at, process_at_if, without_process, same_number}
 use Rattle.disk_array.specs.Units.{RunningProcess, UnitState, with_current}
 use Rattle.scenario.specs.declared.value.Tag.{Tag}
 use Rattle.scenario.specs.declared.value.Tag.TheVariants as tags
 use Rattle.disk_array.specs.Execution.{Reply}
 use Rattle.disk_array.specs.Steps.{running_if, running_count, process_count, current_with_reply, unit_without, kept_processes, kept_running, processes_of, unit_processes, has_tag}
 use Rattle.disk_array.specs.Seats.{unit_with_choice, unit_with_reply, unit_kept, is_told as is_told_at}
-use Rattle.tag_queue.specs.Queue.{Queued, queued, is_current, waiting_in, entries_in, has_key, entry_at, without_key, key_at, key_at_if, current_without, is_held, is_of, without_those_of, current_among, has_any, same_tag}
+use Rattle.tag_queue.specs.Queue.{Queued, queued, is_current, waiting_in, entries_in, has_key, entry_at, without_key, key_at, key_at_if, current_without, is_held, is_of, without_those_of, current_among, has_any}
 use Rattle.tag_queue.specs.declared.those.Those.{Those}
 use Rattle.tag_queue.specs.declared.those.Those.TheVariants as those
 use Rattle.disk_unit.specs.Books.{UnitBooks, is_told, books_with, books_with_current, books_after_choice, books_without, books_without_those}
 use Rattle.disk_unit.specs.LiveCommands.{LiveCommand, queued_of, waiting_processes, process_under, has_process, AreApart, HaveBlocks, IsCurrentOf, HasLive, live_but, has_this_key, is_one_of}
-use Rattle.disk_array.proofs.SeatLookups.{same_bool_self}
+use Rattle.disk_array.proofs.SeatLookups.{same_id_is}
+use Rattle.disk_array.proofs.SeatReplies.{id_self}
 
 -- ---- tests
 
-pub eqb_self : (n : ℕ) → (n == n) ≡ true
-eqb_self n = eq-eqb n n refl
-
-eqb_turned : (a b : ℕ) → (a == b) ≡ true → (b == a) ≡ true
+pub eqb_turned : (a b : ℕ) → (a == b) ≡ true → (b == a) ≡ true
 eqb_turned a b h = eq-eqb b a (sym (eqb-true a b h))
-
-pub id_self : (a : ProcId) → same_id a a ≡ true
-id_self a = (λ i. eqb_self a.command i && same_bool_self a.sense i)
 
 clash : (a : Bool) → a ≡ true → a ≡ false → true ≡ false
 clash a t f = sym t ∙ f
@@ -81,22 +77,12 @@ block_found blocks (x ∷ live) key p b h = go (x.key == key) refl h b.1 (λ k. 
     go false z k own more = more k
 
 -- A command that stands once stands nowhere else.
-apart_key : (x : LiveCommand) (live : List LiveCommand) (key : ℕ) (p : Process) → has_key (queued_of live) x.key ≡ false → process_under live key ≡ Some p → (x.key == key) ≡ false
+pub apart_key : (x : LiveCommand) (live : List LiveCommand) (key : ℕ) (p : Process) → has_key (queued_of live) x.key ≡ false → process_under live key ≡ Some p → (x.key == key) ≡ false
 apart_key x live key p h k = go (x.key == key) refl
   where
     go : (y : Bool) → (x.key == key) ≡ y → y ≡ false
     go true z = let same : x.key ≡ key = eqb-true x.key key z in clash (has_key (queued_of live) x.key) (subst (λ (n : ℕ). has_key (queued_of live) n ≡ true) (sym same) (key_found live key p k)) h
     go false z = refl
-
-pub same_id_is : (a b : ProcId) → same_id a b ≡ true → a ≡ b
-same_id_is a b h = go (a.command == b.command) refl a.sense refl b.sense refl h
-  where
-    go : (x : Bool) → (a.command == b.command) ≡ x → (y : Bool) → a.sense ≡ y → (z : Bool) → b.sense ≡ z → (x && same_bool y z) ≡ true → a ≡ b
-    go true one true two true three k = let e : a.command ≡ b.command = eqb-true a.command b.command one in λ i. record { command = e i; sense = (two ∙ sym three) i }
-    go true one true two false three k = cc
-    go true one false two true three k = cc
-    go true one false two false three k = let e : a.command ≡ b.command = eqb-true a.command b.command one in λ i. record { command = e i; sense = (two ∙ sym three) i }
-    go false one y two z three k = cc
 
 apart_id : (x : LiveCommand) (live : List LiveCommand) (key : ℕ) (p : Process) → has_process live x.process.id ≡ false → process_under live key ≡ Some p → same_id x.process.id p.id ≡ false
 apart_id x live key p h k = go (same_id x.process.id p.id) refl
@@ -175,7 +161,7 @@ found_there : (live : List LiveCommand) (place : ℕ) (x : LiveCommand) → AreA
 found_there [] place x a h = cc
 found_there (y ∷ live) zero x a h =
     let e : y ≡ x = cc in
-    let self : (y.key == y.key) ≡ true = eqb_self y.key in
+    let self : (y.key == y.key) ≡ true = eq_self y.key in
     subst (λ (z : LiveCommand). process_under (y ∷ live) z.key ≡ Some z.process) e (λ i. if self i then Some y.process else process_under live y.key)
 found_there (y ∷ live) (suc place) x a h =
     let rest : process_under live x.key ≡ Some x.process = found_there live place x a.2 h in
@@ -186,7 +172,7 @@ starts : (live : List LiveCommand) (place : ℕ) (x : LiveCommand) → AreApart 
 starts [] place x a h = cc
 starts (y ∷ live) zero x a h =
     let e : y ≡ x = cc in
-    let key : (y.key == y.key) ≡ true = eqb_self y.key in
+    let key : (y.key == y.key) ≡ true = eq_self y.key in
     let id : same_id y.process.id y.process.id ≡ true = id_self y.process.id in
     subst (λ (z : LiveCommand). without_process (waiting_processes None (y ∷ live)) z.process.id ≡ waiting_processes (Some z.key) (y ∷ live)) e
     ((λ i. if id i then without_process (waiting_processes None live) y.process.id else y.process ∷ without_process (waiting_processes None live) y.process.id)
@@ -731,7 +717,7 @@ told live u b h by dev =
 
 -- ---- tags
 
-pub tagged : (t : Tag) (n : ℕ) → same_tag (tag_number t) (Some n) ≡ has_tag t n
+pub tagged : (t : Tag) (n : ℕ) → same_number (tag_number t) (Some n) ≡ has_tag t n
 tagged tags.Untagged n = refl
 tagged (tags.Simple m) n = refl
 tagged (tags.Ordered m) n = refl

@@ -1,16 +1,13 @@
 -- The blocks that were written: where one stands, and what a read and a write of it are.
-use Rattle.std.proofs.Common.{◌≡◌, ◌≢◌, ◌<◌, ◌≤◌, ℕ, ◌+◌, zero, suc, Bool, true, false, List, [], ◌∷◌, ◌++◌, length, Some, None, refl, ap, sym, ◌∙◌, arith, rules, eq-eqb, take, drop, get_or, set, replicate}
+use Rattle.std.proofs.Common.{◌≡◌, ◌≢◌, ◌<◌, ◌≤◌, ℕ, ◌+◌, zero, suc, Bool, true, false, List, [], ◌∷◌, ◌++◌, length, Some, None, refl, ap, sym, ◌∙◌, arith, rules, take, drop, get_or, set, replicate}
 use Rattle.std.specs.Prelude.{◌==◌, nat_lt, if◌then◌else◌}
 use Rattle.std.specs.List.{insert}
 use Rattle.std.specs.Global.{Vec}
-use Rattle.std.proofs.lemmas.Bool.{eqb-true, lt-ltb, ltb-true, ne_eqb, ltb-false, le-ltb, true≢false}
+use Rattle.std.proofs.lemmas.Bool.{eqb-false, eqb-true, lt-ltb, ltb-true, ne_eqb, ltb-false, le-ltb, true≢false}
 use Rattle.std.proofs.lemmas.List.{length-replicate}
 use Rattle.std.proofs.lemmas.Grind.{common_steps}
 use Rattle.disk_array.specs.Contents.{touched_block, touched_with}
 use Rattle.disk_unit.specs.Sparse.{touched_of, AreRising, HaveSize, place_in, is_at, touched_from, IsSparse}
-
-differ : (a b : ℕ) → (a == b) ≡ false → a ≢ b
-differ a b other same = true≢false (sym (eq-eqb a b same) ∙ other)
 
 -- ---- a place
 
@@ -66,7 +63,7 @@ rising_insert low (n ∷ numbers) lba rising above absent = go (nat_lt n lba) re
     go true below e rest = let h : n < lba = ltb-true n lba below in (rising.0, rest (omega arith) e)
     go false over e rest =
         let h : lba ≤ n = ltb-false n lba over in
-        let other : n ≢ lba = differ n lba e in
+        let other : n ≢ lba = eqb-false n lba e in
         let next : suc lba ≤ n = omega arith in
         (above, (next, rising.1))
 
@@ -147,7 +144,7 @@ write_absent (n ∷ numbers) (block ∷ blocks) lba new paired absent = go (nat_
         ap (λ (t : List (ℕ × List ℕ)). (n, block.items) ∷ t) (rest e)
         ∙ sym (λ i. if ne_eqb n lba other i then (lba, new.items) ∷ touched_of numbers blocks else if not_over i then (lba, new.items) ∷ ((n, block.items) ∷ touched_of numbers blocks) else (n, block.items) ∷ touched_with (touched_of numbers blocks) lba new.items)
     go false over e rest =
-        let h : lba ≤ n = ltb-false n lba over in let other : n ≢ lba = differ n lba e in let is_over : nat_lt lba n ≡ true = lt-ltb lba n (omega arith) in
+        let h : lba ≤ n = ltb-false n lba over in let other : n ≢ lba = eqb-false n lba e in let is_over : nat_lt lba n ≡ true = lt-ltb lba n (omega arith) in
         sym (λ i. if e i then (lba, new.items) ∷ touched_of numbers blocks else if is_over i then (lba, new.items) ∷ ((n, block.items) ∷ touched_of numbers blocks) else (n, block.items) ∷ touched_with (touched_of numbers blocks) lba new.items)
 
 -- ---- sizes

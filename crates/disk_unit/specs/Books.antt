@@ -3,8 +3,8 @@ use Rattle.std.specs.Prelude.{◌≡◌, ℕ, ◌<◌, ◌==◌, Bool, true, fal
 use Rattle.bus_base.specs.declared.events.Pick.{Pick}
 use Rattle.cdb_codec.specs.declared.Sense.{Sense}
 use Rattle.disk_array.specs.declared.entries.Entry.{Entry}
-use Rattle.disk_array.specs.Execution.{no_sense, reset_occurred, commands_cleared}
-use Rattle.disk_array.specs.Steps.{is_reset_pending}
+use Rattle.disk_array.specs.Execution.{no_sense, reset_occurred}
+use Rattle.disk_array.specs.Seats.{attention_if_told}
 use Rattle.tag_queue.specs.Queue.{Queued, QueueState, empty_queue, queue_with, queue_started, queue_without, queue_cleared_of, with_held, with_none_held, entry_at, chosen_key, has_any}
 use Rattle.tag_queue.specs.declared.those.Those.{Those}
 use Rattle.tag_queue.specs.declared.those.Those.TheVariants as those
@@ -89,10 +89,6 @@ books_after_abort b dev = books_without_sense (books_without_those b (those.Of d
 abbrev pub books_after_abort_tag : UnitBooks → ℕ → ℕ → UnitBooks
 books_after_abort_tag b dev n = books_without_those b (those.Tagged dev n)
 
--- An initiator that lost a command by a clearing of another is told of it; an attention of a reset stays.
-abbrev pub attention_after_clear : Bool → Option Sense → Option Sense
-attention_after_clear told attention = if told && not (is_reset_pending attention) then Some commands_cleared else attention
-
 abbrev pub is_told : ℕ → List Queued → ℕ → Bool
 is_told by lost dev = has_any (those.Of dev) lost && not (dev == by)
 
@@ -102,7 +98,7 @@ pub record IsCleared (by : ℕ) (old new : UnitBooks) : Type 0 where
   pub blocks : new.blocks ≡ old.blocks
   pub senses : new.senses ≡ old.senses
   pub eight : length new.attentions ≡ 8
-  pub attentions : (dev : ℕ) → dev < 8 → slice_index_or new.attentions dev None ≡ attention_after_clear (is_told by old.queue.arrived dev) (slice_index_or old.attentions dev None)
+  pub attentions : (dev : ℕ) → dev < 8 → slice_index_or new.attentions dev None ≡ attention_if_told (is_told by old.queue.arrived dev) (slice_index_or old.attentions dev None)
 
 abbrev pub books_after_reset : UnitBooks → UnitBooks
 books_after_reset b = record b { queue = with_none_held (queue_cleared_of b.queue those.All); senses = replicate 8 None; attentions = replicate 8 (Some reset_occurred) }

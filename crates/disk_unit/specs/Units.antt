@@ -39,6 +39,10 @@ entry_with id from tag class extent = record {
 abbrev pub told_of : Reply → UnitReply
 told_of reply = record { status = reply.status; len = length reply.bytes; sense = sense_if reply }
 
+-- As its command would end.
+abbrev pub planned_reply : Plan → UnitReply
+planned_reply plan = record { status = plan.status; len = plan.in_len; sense = plan.sense }
+
 -- How a command arrives, by whether it is a REQUEST SENSE without fault; these are the books before and after it.
 abbrev pub IsAccepted : Bool → UnitBooks → Entry → List ℕ → UnitBooks → Accepted → Type 0
 IsAccepted true old entry cdb new accepted.AtOnce = new ≡ old

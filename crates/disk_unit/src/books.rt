@@ -1,8 +1,9 @@
 //! What a logical unit keeps of its commands, and for each initiator.
 ghost use Rattle.std.specs.Prelude.{◌≡◌, ℕ, ◌⊎◌, ◌+◌, ◌==◌, not, nat_lt, ◌<◌, ◌≤◌, Bool, true, false, [], length, Some, None, IfOk, IfSome, IfNone, OnOk, OnErr, slice_index_or, slice_set, replicate, is_some};
 ghost use Rattle.tag_queue.specs.Queue.{has_key, entry_at, is_held, key_of, key_of_process as first_of_process, waiting_of};
-ghost use Rattle.disk_unit.specs.Books.{empty_books, block_at, books_with, choice_of, books_after_choice, books_without, books_with_sense, books_without_sense, sense_or_none, books_with_status, books_after_end, books_without_attention, books_after_abort, books_after_abort_tag, books_after_reset, books_without_those, initiator_at, IsCleared, attention_after_clear, is_told};
+ghost use Rattle.disk_unit.specs.Books.{empty_books, block_at, books_with, choice_of, books_after_choice, books_without, books_with_sense, books_without_sense, sense_or_none, books_with_status, books_after_end, books_without_attention, books_after_abort, books_after_abort_tag, books_after_reset, books_without_those, initiator_at, IsCleared, is_told};
 ghost use Rattle.disk_array.specs.Steps.{is_reset_pending as reset_pending};
+ghost use Rattle.disk_array.specs.Seats.{attention_if_told};
 
 use super::command_block::CommandBlock;
 use bus_base::NoMemory;
@@ -258,7 +259,7 @@ const RESET: Sense = Sense {
 fn tell_all(queue: &Queue, by: Dev, attentions: &mut [Option<Sense>; 8])
     ensures eight { length attentions.new ≡ 8 }
     ensures told { (dev : ℕ) → dev < 8 → slice_index_or attentions.new dev None
-        ≡ attention_after_clear (is_told by queue.now.arrived dev) (slice_index_or attentions.old dev None) }
+        ≡ attention_if_told (is_told by queue.now.arrived dev) (slice_index_or attentions.old dev None) }
 {
     for dev in 0..8 {
         let attention = attentions[dev as usize];
@@ -268,14 +269,14 @@ fn tell_all(queue: &Queue, by: Dev, attentions: &mut [Option<Sense>; 8])
 
 // The attention of an initiator, once it is told where it has a command in the queue.
 fn attention_told(queue: &Queue, by: Dev, dev: Dev, attention: Option<Sense>) -> Option<Sense>
-    ensures { result ≡ attention_after_clear (is_told by queue.now.arrived dev) attention }
+    ensures { result ≡ attention_if_told (is_told by queue.now.arrived dev) attention }
 {
     after_clear(queue.has_any(Those::Of(dev)) && dev != by, attention)
 }
 
 // What an attention is after a clearing, of which its initiator is told or not.
 fn after_clear(told: bool, attention: Option<Sense>) -> Option<Sense>
-    ensures { result ≡ attention_after_clear told attention }
+    ensures { result ≡ attention_if_told told attention }
 {
     if told && !is_reset_pending(attention) {
         Some(Sense {

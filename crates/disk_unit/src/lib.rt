@@ -30,4 +30,4 @@ pub use disk::DiskMedium;
 pub use laws::{disks_execute_as_the_array, units_are_seats, units_keep_what_seats_keep};
 pub use media::{Extent, Medium, Plan};
 pub use sparse::SparseBlocks;
-pub use unit::{Accepted, Reply, Unit, heeds_attention};
+pub use unit::{Accepted, Reply, Unit, aborted_reply, heeds_attention, planned_reply, refusal};

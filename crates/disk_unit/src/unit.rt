@@ -2,18 +2,18 @@
 ghost use Rattle.std.specs.Prelude.{◌≡◌, ℕ, ◌+◌, ◌*◌, ◌<◌, ◌≤◌, ◌==◌, not, nat_lt, Bool, true, false, List, [], length, take, drop, Option, Some, None, IfOk, IfSome, is_some, slice_index_or, if◌then◌else◌};
 ghost use Rattle.cdb_codec.specs.Cdb.{command_of};
 ghost use Rattle.disk_array.specs.declared.entries.Entry.{Entry};
-ghost use Rattle.disk_array.specs.Execution.{Reply as ArrayReply, check_condition, is_request_sense as requests_sense, heeds_attention as heeds};
+ghost use Rattle.disk_array.specs.Execution.{Reply as ArrayReply, aborted_reply, check_condition, queue_full, is_request_sense as requests_sense, heeds_attention as heeds};
 ghost use Rattle.tag_queue.specs.Queue.{has_key, entry_at, is_held, key_of_process};
 ghost use Rattle.disk_unit.specs.Plans.{plan_of};
 ghost use Rattle.disk_unit.specs.Books.{UnitBooks, empty_books, block_at, books_with, choice_of, books_after_choice, books_without, books_with_sense, books_without_sense, sense_or_none, books_after_end, books_without_attention, books_after_abort, books_after_reset, initiator_at, attention_at};
-ghost use Rattle.disk_unit.specs.Units.{is_reported, reply_with, entry_with, told_of, IsAccepted, books_if_reported, unit_reply, unit_plan, bytes_taken, plan_for, IsAborted};
+ghost use Rattle.disk_unit.specs.Units.{is_reported, reply_with, entry_with, told_of, planned_reply, IsAccepted, books_if_reported, unit_reply, unit_plan, bytes_taken, plan_for, IsAborted};
 
 use super::books::Books;
 use super::media::{Extent, Medium, Plan};
 use bus_base::{AbortKind, NoMemory};
 use cdb_codec::{
-    CHECK_CONDITION, CdbFault, Command, INQUIRY, NO_ADDITIONAL_SENSE, NO_SENSE, REQUEST_SENSE,
-    Sense, from_cdb,
+    ABORTED_COMMAND, CHECK_CONDITION, CdbFault, Command, INQUIRY, NO_ADDITIONAL_SENSE, NO_SENSE,
+    QUEUE_FULL, REQUEST_SENSE, Sense, from_cdb,
 };
 use std::alloc::Global;
 use tag_queue::{Class, Dev, Entry, Full, Key, Pick, ProcId};
@@ -101,6 +101,43 @@ impl<M: Medium + Drop> Unit<M> {
     }
 }
 
+/// The reply of a command that ends by its plan.
+pub fn planned_reply(plan: Plan) -> Reply
+    ensures { result ≡ planned_reply plan }
+{
+    Reply {
+        status: plan.status,
+        len: plan.in_len as usize,
+        sense: plan.sense,
+    }
+}
+
+/// The reply of a command that its target aborts, with this additional sense code (8.2.14.3).
+pub fn aborted_reply(code: u8) -> Reply
+    ensures { result ≡ told_of (aborted_reply code) }
+{
+    Reply {
+        status: CHECK_CONDITION,
+        len: 0,
+        sense: Some(Sense {
+            key: ABORTED_COMMAND,
+            asc: code,
+            ascq: 0x00,
+        }),
+    }
+}
+
+/// The reply of a command for which the queue has no room (7.3, 7.8.2).
+pub fn refusal() -> Reply
+    ensures { result ≡ told_of queue_full }
+{
+    Reply {
+        status: QUEUE_FULL,
+        len: 0,
+        sense: None,
+    }
+}
+
 // How a command ends that reports this attention.
 fn attention_plan(attention: Sense) -> Plan
     ensures { result ≡ plan_of (check_condition attention) 0 }
@@ -110,17 +147,6 @@ fn attention_plan(attention: Sense) -> Plan
         sense: Some(attention),
         in_len: 0,
         out_len: 0,
-    }
-}
-
-// The reply of a plan.
-fn reply_of(plan: Plan) -> Reply
-    ensures { result ≡ record { status = plan.status; len = plan.in_len; sense = plan.sense } }
-{
-    Reply {
-        status: plan.status,
-        len: plan.in_len as usize,
-        sense: plan.sense,
     }
 }
 
@@ -211,10 +237,10 @@ impl<M: Medium> Unit<M> {
         match self.reported_by(key) {
             Some(attention) => {
                 self.books.clear_attention(self.books.initiator(key));
-                reply_of(attention_plan(attention))
+                planned_reply(attention_plan(attention))
             }
             None => {
-                let reply = reply_of(self.medium.plan(self.books.block(key)));
+                let reply = planned_reply(self.medium.plan(self.books.block(key)));
                 self.commit(key, sent);
                 reply
             }

@@ -52,7 +52,7 @@ use Rattle.bus_due.specs.Telling.{id_of, same_event, same_events, target_events,
 use Rattle.ending_causes.specs.FullQueues.{has_event}
 use Rattle.ending_causes.specs.WrongParity.{is_struck_phase, is_complaint, is_wrong_phase, is_left, serves, leaves_wrong_phase, wrong_phases, is_failure, is_loss, is_past_limit, gives_up}
 use Rattle.ending_causes.proofs.Counts.{is_planned_wrong, planned_wrong, counted}
-use Rattle.bus_base.proofs.Tests.{all_three, wrong}
+use Rattle.bus_base.proofs.Tests.{all_three, eq_turned, wrong}
 use Rattle.disk_array.proofs.SeatLookups.{same_id_is}
 
 -- ---- equal events
@@ -186,9 +186,6 @@ record Tells (v : Serving) (phase : Phase) (id other : ProcId) (code : ℕ) : Ty
   pub failure : is_failure v.plan.cause code phase ≡ true
   pub wrong : is_planned_wrong v.plan phase ≡ true
 
-eqb_sym : (a b : ℕ) → (a == b) ≡ true → (b == a) ≡ true
-eqb_sym a b h = grind (arith, nat_tests)
-
 run_fails : (a : Arrival) (id other : ProcId) (code : ℕ) → has_event (arrival_run_events a id) (events.Fail other code) ≡ false
 run_fails arrivals.Refused id other code = refl
 run_fails arrivals.Guest id other code = refl
@@ -199,12 +196,12 @@ reply_tells : (v : Serving) (phase : Phase) (id other : ProcId) (code : ℕ) →
 reply_tells v phases.Command id other code h = go v.plan.struck refl h
   where
     go : (q : Bool) → v.plan.struck ≡ q → has_event (if q then events.Fail id PARITY_ERROR ∷ [] else arrival_run_events v.arrival id) (events.Fail other code) ≡ true → Tells v phases.Command id other code
-    go true e k = let two = and_parts (same_id id other) (PARITY_ERROR == code) (one_event (events.Fail id PARITY_ERROR) (events.Fail other code) k) in record { same = two.0; failure = eqb_sym PARITY_ERROR code two.1; wrong = e }
+    go true e k = let two = and_parts (same_id id other) (PARITY_ERROR == code) (one_event (events.Fail id PARITY_ERROR) (events.Fail other code) k) in record { same = two.0; failure = eq_turned code PARITY_ERROR ∙ two.1; wrong = e }
     go false e k = wrong (sym k ∙ run_fails v.arrival id other code)
 reply_tells v phases.DataOut id other code h = go v.plan.struck refl h
   where
     go : (q : Bool) → v.plan.struck ≡ q → has_event (if q then events.Fail id PARITY_ERROR ∷ [] else events.Run id ∷ []) (events.Fail other code) ≡ true → Tells v phases.DataOut id other code
-    go true e k = let two = and_parts (same_id id other) (PARITY_ERROR == code) (one_event (events.Fail id PARITY_ERROR) (events.Fail other code) k) in record { same = two.0; failure = eqb_sym PARITY_ERROR code two.1; wrong = e }
+    go true e k = let two = and_parts (same_id id other) (PARITY_ERROR == code) (one_event (events.Fail id PARITY_ERROR) (events.Fail other code) k) in record { same = two.0; failure = eq_turned code PARITY_ERROR ∙ two.1; wrong = e }
     go false e k = cc
 reply_tells v phases.MessageOut id other code h = go v.plan.cause refl h
   where
@@ -213,7 +210,7 @@ reply_tells v phases.MessageOut id other code h = go v.plan.cause refl h
         let two = and_parts (same_id id other) (INITIATOR_DETECTED_ERROR == code) (one_event (events.Fail id INITIATOR_DETECTED_ERROR) (events.Fail other code) k) in
         record {
           same = two.0;
-          failure = (λ i. is_failure (e i) code phases.MessageOut) ∙ eqb_sym INITIATOR_DETECTED_ERROR code two.1;
+          failure = (λ i. is_failure (e i) code phases.MessageOut) ∙ eq_turned code INITIATOR_DETECTED_ERROR ∙ two.1;
           wrong = λ i. is_complaint v.plan (e i);
         }
     go causes.Selected e k = cc

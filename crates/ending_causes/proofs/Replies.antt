@@ -20,7 +20,7 @@ use Rattle.scenario.specs.declared.value.UnitDef.{UnitDef}
 use Rattle.scenario.specs.Value.{ScenarioValue}
 use Rattle.disk_array.specs.Contents.{Contents}
 use Rattle.disk_array.specs.Processes.{Process, process_of, same_id}
-use Rattle.disk_array.specs.Execution.{Reply, Execution, CommandContext, execution, attention_execution, cdb_execution, range_execution, command_execution, is_request_sense, is_good_range, range_of, heeds_attention, needs_unit, queue_full, check_condition, commands_cleared, reset_occurred, sense_of}
+use Rattle.disk_array.specs.Execution.{Reply, Execution, CommandContext, execution, attention_execution, cdb_execution, range_execution, command_execution, is_request_sense, is_good_range, range_of, heeds_attention, needs_unit, queue_full, check_condition, commands_cleared, reset_occurred, aborted_reply}
 use Rattle.disk_array.specs.Order.{choice}
 use Rattle.disk_array.specs.Units.{RunningProcess, UnitState, Nexus, Array, same_nexus, sense_of_nexus, senses_without, nexuses_without, is_held, unit_state_at, with_unit, guest_at, without_guest, with_current, has_no_current, units_after_choice, settled_array, starting_array, starting_units, nexus_of}
 use Rattle.disk_array.specs.Steps
@@ -30,7 +30,7 @@ use Rattle.bus_due.specs.Telling.{same_event}
 use Rattle.ending_causes.specs.FullQueues.{has_event, is_refused_at, was_refused, finds_full_queue, has_cause}
 use Rattle.bus_base.proofs.Tests.{eq_self}
 use Rattle.disk_array.proofs.SeatLookups.{same_id_is}
-use Rattle.bus_due.proofs.SameEvents.{id_self}
+use Rattle.disk_array.proofs.SeatReplies.{id_self}
 
 -- ---- one of several
 
@@ -365,27 +365,24 @@ ran s h a guest (Some r) b =
     (plain_cause s h r.process.id done.reply (plain_execution (Steps.context_at a (nexus_of r.process) u) r.process.cdb r.process.sent (attention_here a (nexus_of r.process) u b.attentions)))
     (contents_put s h a r.process done.contents done.reported r.process.target r.process.unit b))
 
-abbrev failure_of : ℕ → Reply
-failure_of code = check_condition (sense_of ABORTED_COMMAND code 0x00)
-
-failed : (s : ScenarioValue) (h : List Event) (a : Array) (id : ProcId) (code : ℕ) (r : Option RunningProcess) → Caused s (events.Fail id code ∷ h) a → IsCausedIf s (events.Fail id code ∷ h) (Steps.fail_step s a id (failure_of code) r)
+failed : (s : ScenarioValue) (h : List Event) (a : Array) (id : ProcId) (code : ℕ) (r : Option RunningProcess) → Caused s (events.Fail id code ∷ h) a → IsCausedIf s (events.Fail id code ∷ h) (Steps.fail_step s a id (aborted_reply code) r)
 failed s h a id code r b = on r
   where
-    cause : has_cause s (events.Fail id code ∷ h) id (failure_of code) ≡ true
+    cause : has_cause s (events.Fail id code ∷ h) id (aborted_reply code) ≡ true
     cause = or_left (same_id id id && code == code) (has_event h (events.Fail id code)) (λ i. id_self id i && eq_self code i)
 
-    came : (x : Bool) (p : Process) → process_of s id ≡ Some p → IsCausedIf s (events.Fail id code ∷ h) (if x then None else Some (Steps.with_listed_reply (Steps.with_guest a p (Some (failure_of code))) id (failure_of code)))
+    came : (x : Bool) (p : Process) → process_of s id ≡ Some p → IsCausedIf s (events.Fail id code ∷ h) (if x then None else Some (Steps.with_listed_reply (Steps.with_guest a p (Some (aborted_reply code))) id (aborted_reply code)))
     came true p e = tt
     came false p e =
-        listed s (events.Fail id code ∷ h) (Steps.with_guest a p (Some (failure_of code))) id (failure_of code) cause
-        (guest_comes s (events.Fail id code ∷ h) a p (Some (failure_of code)) (subst (λ (other : ProcId). has_cause s (events.Fail id code ∷ h) other (failure_of code) ≡ true) (sym (id_is s id p e)) cause) b)
+        listed s (events.Fail id code ∷ h) (Steps.with_guest a p (Some (aborted_reply code))) id (aborted_reply code) cause
+        (guest_comes s (events.Fail id code ∷ h) a p (Some (aborted_reply code)) (subst (λ (other : ProcId). has_cause s (events.Fail id code ∷ h) other (aborted_reply code) ≡ true) (sym (id_is s id p e)) cause) b)
 
-    new : (x : Option Process) → process_of s id ≡ x → IsCausedIf s (events.Fail id code ∷ h) (Steps.fail_step_of_new a id (failure_of code) x)
+    new : (x : Option Process) → process_of s id ≡ x → IsCausedIf s (events.Fail id code ∷ h) (Steps.fail_step_of_new a id (aborted_reply code) x)
     new None e = tt
     new (Some p) e = came (Steps.is_waiting a.units id || Steps.has_ended a id) p e
 
-    on : (x : Option RunningProcess) → IsCausedIf s (events.Fail id code ∷ h) (Steps.fail_step s a id (failure_of code) x)
-    on (Some q) = caused_if s (events.Fail id code ∷ h) (is_none q.reply) (Steps.with_reply a id (failure_of code)) (replied s (events.Fail id code ∷ h) a id (failure_of code) cause b)
+    on : (x : Option RunningProcess) → IsCausedIf s (events.Fail id code ∷ h) (Steps.fail_step s a id (aborted_reply code) x)
+    on (Some q) = caused_if s (events.Fail id code ∷ h) (is_none q.reply) (Steps.with_reply a id (aborted_reply code)) (replied s (events.Fail id code ∷ h) a id (aborted_reply code) cause b)
     on None = new (process_of s id) refl
 
 left_out : (s : ScenarioValue) (h : List Event) (a : Array) (id : ProcId) → Caused s h a → Caused s h (Steps.array_without a id)

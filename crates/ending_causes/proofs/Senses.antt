@@ -19,8 +19,9 @@ use Rattle.disk_array.specs.Execution.{Reply, Execution, execution, is_request_s
 use Rattle.disk_array.specs.Units.{RunningProcess, UnitState, Nexus, Array, same_nexus, sense_of_nexus, senses_without, nexuses_without, is_held, unit_state_at, guest_at, nexus_of}
 use Rattle.disk_array.specs.Steps
 use Rattle.disk_array.specs.ArrayHistory.{array_step, array_after}
-use Rattle.disk_array.specs.SoundArray.{IsOwn, IsOwnRunning, AllOwnUnits, AllOwnGuests, IsSound, HasSeats}
-use Rattle.disk_array.proofs.SoundArrays.{history_sound}
+use Rattle.disk_array.specs.SoundArray.{IsSound, HasSeats}
+use Rattle.disk_array.proofs.SoundArrays.{history_sound, current_process}
+use Rattle.disk_array.proofs.SeatOwn.{guest_process}
 use Rattle.bus_due.specs.Telling.{same_event}
 use Rattle.ending_causes.specs.FullQueues.{has_event, was_refused, has_cause, is_at_nexus, is_failure_at, has_failure_at}
 use Rattle.ending_causes.proofs.Replies.{IsCaused, Caused, caused, process_runs}
@@ -186,32 +187,12 @@ reset_is s h a =
 
 -- ---- a command ends
 
-guest_own : (s : ScenarioValue) (guests : List RunningProcess) (id : ProcId) (g : RunningProcess) → AllOwnGuests s guests → guest_at guests id ≡ Some g → process_of s g.process.id ≡ Some g.process
-guest_own s [] id g b h = cc
-guest_own s (f ∷ guests) id g b h = go (λ k. guest_own s guests id g b.1 k) (same_id f.process.id id) h
-  where
-    go : (guest_at guests id ≡ Some g → process_of s g.process.id ≡ Some g.process) → (x : Bool) → (if x then Some f else guest_at guests id) ≡ Some g → process_of s g.process.id ≡ Some g.process
-    go later true k = let same : f ≡ g = cc in subst (λ (r : RunningProcess). process_of s r.process.id ≡ Some r.process) same b.0
-    go later false k = later k
-
-current_own : (s : ScenarioValue) (units : List UnitState) (id : ProcId) (r : RunningProcess) → AllOwnUnits s units → Steps.running_in units id ≡ Some r → process_of s r.process.id ≡ Some r.process
-current_own s [] id r b h = cc
-current_own s (u ∷ units) id r b h = go (λ k. current_own s units id r b.1 k) u.current b.0.current h
-  where
-    inner : (Steps.running_in units id ≡ Some r → process_of s r.process.id ≡ Some r.process) → (q : RunningProcess) → IsOwn s u.target u.unit q.process → (x : Bool) → (if is_some (if x then Some q else None) then (if x then Some q else None) else Steps.running_in units id) ≡ Some r → process_of s r.process.id ≡ Some r.process
-    inner later q k true l = let same : q ≡ r = cc in subst (λ (f : RunningProcess). process_of s f.process.id ≡ Some f.process) same k.is
-    inner later q k false l = later l
-
-    go : (Steps.running_in units id ≡ Some r → process_of s r.process.id ≡ Some r.process) → (x : Option RunningProcess) → IsOwnRunning s u.target u.unit x → (if is_some (Steps.running_if x id) then Steps.running_if x id else Steps.running_in units id) ≡ Some r → process_of s r.process.id ≡ Some r.process
-    go later None k l = later l
-    go later (Some q) k l = inner later q k (same_id q.process.id id) l
-
 pub running_own : (s : ScenarioValue) (a : Array) (id : ProcId) (r : RunningProcess) → IsSound s a → Steps.running_process a id ≡ Some r → process_of s r.process.id ≡ Some r.process
 running_own s a id r b h = go (guest_at a.guests id) refl h
   where
     go : (x : Option RunningProcess) → guest_at a.guests id ≡ x → (if is_some x then x else Steps.running_in a.units id) ≡ Some r → process_of s r.process.id ≡ Some r.process
-    go None z k = current_own s a.units id r b.units k
-    go (Some g) z k = guest_own s a.guests id r b.guests (z ∙ k)
+    go None z k = current_process s a.units id r b.units k
+    go (Some g) z k = guest_process s a.guests id r b.guests (z ∙ k)
 
 end_is : (s : ScenarioValue) (h : List Event) (a : Array) (id : ProcId) (status : ℕ) → IsSound s a → Caused s h a → AreSenses s h a.senses → AreSensesIf s h (Steps.end_step a status (Steps.running_process a id))
 end_is s h a id status sound b senses = go (Steps.running_process a id) refl

@@ -31,15 +31,16 @@ use Rattle.bus_story.specs.HistoryEvents
 use Rattle.bus_story.specs.HistoryEvents.{carried_if, row_events_by}
 use Rattle.bus_story.specs.Items.{Item, process, abort, sense_item, is_open, count_item}
 use Rattle.bus_story.specs.Links.{Link, link_of, last_out, last_in, link_after_name}
-use Rattle.bus_story.specs.Story.{Story, Ending, by_abort, by_reset, by_status, story_with_over, story_with_end, with_check, story_with_ends, is_aborted, is_sense_stopped, marked_refused, marked_shown, story_after_event, story_after_events}
+use Rattle.bus_story.specs.Story.{Story, Ending, by_abort, by_reset, by_status, story_with_over, story_with_end, with_check, story_with_ends, is_aborted, is_sense_stopped, marked_refused, marked_shown, story_after_event, story_after_events, story_with_end_if}
 use Rattle.bus_story.specs.TraceHistory
-use Rattle.bus_story.specs.TraceHistory.{story, trace_history, aim_of, is_host, retries_of, is_counted, is_parity_error, story_by_change, story_on_bus, story_with_restored, story_with_carried}
+use Rattle.bus_story.specs.TraceHistory.{story, trace_history, aim_of, retries_of, is_counted, is_parity_error, story_by_change, story_on_bus, story_with_restored, story_with_carried}
+use Rattle.bus_story.proofs.CarriedLists.{carried_id}
 use Rattle.bus_due.specs.Telling.{same_event}
 use Rattle.ending_causes.specs.FullQueues.{has_event}
 use Rattle.ending_causes.specs.Strikes.{is_item_of, is_link_of, fails_with, has_failing_byte, is_strike, has_strike}
 use Rattle.bus_base.proofs.Tests.{all_three, wrong}
 use Rattle.disk_array.proofs.SeatLookups.{same_id_is}
-use Rattle.bus_due.proofs.SameEvents.{id_self}
+use Rattle.disk_array.proofs.SeatReplies.{id_self}
 
 -- ---- what a process has carried: a failure has its fault row
 
@@ -109,14 +110,6 @@ of_is s rows all id h = go (carried_at all id) (at_is s rows all id h)
     go None m = tt
     go (Some k) m = m
 
-id_of_carried : (all : List CarriedBytes) (id : ProcId) → (carried_of all id).id ≡ id
-id_of_carried [] id = refl
-id_of_carried (k ∷ all) id = go (same_id k.id id) refl (id_of_carried all id)
-  where
-    go : (q : Bool) → same_id k.id id ≡ q → (carried_or_nothing (carried_at all id) id).id ≡ id → (carried_or_nothing (if q then Some k else carried_at all id) id).id ≡ id
-    go true e m = same_id_is k.id id e
-    go false e m = m
-
 carried_if_is : (s : ScenarioValue) (rows : List Row) (b : Story) (o : Option Item) → AreCarried s rows b.carried → IsCarriedIf s rows (carried_if b o)
 carried_if_is s rows b None h = tt
 carried_if_is s rows b (Some (process id)) h = of_is s rows b.carried id h
@@ -144,7 +137,7 @@ with_ends_same drops stops e n (c ∷ commands) b =
     (with_ends_same drops stops e (n + 1) commands next)
   where
     next : Story
-    next = if is_open b.sent n && drops c then story_with_end b (record { command = n; sense = false }) e else if stops c && list_any (λ k. k == n) b.sent.checks then story_with_over b (sense_item n) else b
+    next = story_with_end_if drops stops e n c b
 
     go : (p q : Bool) → Same b (if p then story_with_end b (record { command = n; sense = false }) e else if q then story_with_over b (sense_item n) else b)
     go true q = record { carried = refl; link = refl }
@@ -317,7 +310,7 @@ fault_struck s rows row l e h = by row.kind refl
     struck_if bit kind (Some (abort n)) item c crossed = tt
     struck_if bit kind (Some (process id)) item None crossed = of_is s (row ∷ rows) b.carried id h.carried
     struck_if bit kind (Some (process id)) item (Some c) crossed =
-        fault_code s (row ∷ rows) id c.before (carried_of b.carried id) (id_of_carried b.carried id) (now id c bit item crossed kind) (of_is s (row ∷ rows) b.carried id h.carried)
+        fault_code s (row ∷ rows) id c.before (carried_of b.carried id) (carried_id b.carried id) (now id c bit item crossed kind) (of_is s (row ∷ rows) b.carried id h.carried)
 
     by : (kind : Kind) → row.kind ≡ kind → Struck s (row ∷ rows) (TraceHistory.story_after_fault b l kind)
     by (Drives lines) kind = h

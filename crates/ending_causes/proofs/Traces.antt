@@ -27,6 +27,7 @@ use Rattle.ending_causes.specs.WrongParity.{is_struck_phase, is_left, serves, is
 use Rattle.ending_causes.proofs.GiveUps.{failure_is, loss_by, fails_connected, lost_connected, lost_calm}
 use Rattle.ending_causes.proofs.Struck.{either_list}
 use Rattle.disk_array.proofs.SeatLookups.{same_id_is}
+use Rattle.bus_base.proofs.Tests.{middle}
 
 -- ---- the ends of a connection are those of the process that its target serves
 
@@ -60,12 +61,6 @@ ends_are s (row ∷ rows) n h z = go (λ m y. ends_are s rows m two.0 y) k.story
         (λ i. has_ends (process_item s (served_after s k (y i) (next i))) (sym same i)) ∙ before m y
 
 -- ---- a row that gives up
-
-pub middle : (a b c : Bool) → (a && b && c) ≡ true → b ≡ true
-middle true true true h = refl
-middle true true false h = cc
-middle true false c h = cc
-middle false b c h = cc
 
 past_limit : (def : Option TargetDef) (o : Option Task) (w : ℕ) → is_past_limit def o w ≡ true → nat_lt (recovery_limit def) w ≡ true
 past_limit def None w h = cc

@@ -20,7 +20,7 @@ use Rattle.bus_reactions.specs.declared.due.Due.{Due}
 use Rattle.bus_reactions.specs.Ends.{sample_due}
 use Rattle.bus_reactions.specs.Reactions.{fault_due}
 use Rattle.bus_dialogue.specs.Hearing.{begun}
-use Rattle.bus_due.specs.Connected.{is_receiver, is_receiving}
+use Rattle.bus_due.specs.Connected.{is_receiver}
 use Rattle.bus_due.specs.Least.{IsLeast}
 use Rattle.bus_due.specs.Plain.{AreOfDevices, crossed, crossed_if}
 use Rattle.bus_due.specs.RunSteps.{run_state}
@@ -56,8 +56,8 @@ by_receiver n (Some m) c d call row e z = go c.after.bsy e
     go : (q : Bool) → (if q then Some m else None) ≡ Some n → is_receiver n (crossed_if (is_some (receiver_in m c)) c) d ≡ true
     go true y =
         (λ i. is_receiver n (crossed_if (is_some (z i)) c) d)
-        ∙ ap (λ (x : Connection). is_receiving (receiver_in x c) d) (sym (same_Some m n y))
-        ∙ ap (λ (o : Option ℕ). is_receiving o d) z
+        ∙ ap (λ (x : Connection). is_of_device (receiver_in x c) d) (sym (same_Some m n y))
+        ∙ ap (λ (o : Option ℕ). is_of_device o d) z
         ∙ eq_self d
     go false y = no_connection y
 

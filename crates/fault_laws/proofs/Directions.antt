@@ -1,14 +1,15 @@
 -- The samples of a phase are of one device: those that were taken before it came before the phase lines.
 use Rattle.std.proofs.Common.{ℕ, ◌≡◌, ◌⊎◌, inl, inr, ◌≤◌, Bool, true, false, not, ◌&&◌, ◌||◌, max, ◌∙◌, List, ◌∷◌, Option, Some, None, refl, sym, ap, arith}
 use Rattle.std.specs.Prelude.{if◌then◌else◌}
-use Rattle.std.proofs.lemmas.Option.{same_Some}
 use Rattle.bus_trace.specs.LineSet.{same}
 use Rattle.bus_trace.specs.declared.Row.{Row}
 use Rattle.bus_trace.specs.declared.connection.Connection.{Connection}
 use Rattle.bus_trace.specs.Changes.{change_of}
 use Rattle.bus_trace.specs.Phases.{changes_phase}
-use Rattle.bus_trace.specs.Terms.{call, connection, connection_after}
+use Rattle.bus_trace.specs.Terms.{connection}
 use Rattle.bus_trace.specs.Trace.{bus, line_times, phase_time, since_line}
+use Rattle.bus_trace.proofs.Sets.{same_eq}
+use Rattle.bus_trace.proofs.Connections.{connection_stays}
 use Rattle.bus_story.specs.Samples.{Sample}
 use Rattle.bus_dialogue.specs.Hearing.{begun, begun_after}
 use Rattle.bus_laws.specs.Ends.{BeginsConnection, by_selection, by_reselection}
@@ -41,12 +42,6 @@ all_same true true false e = wrong e
 all_same true false o e = wrong e
 all_same false n o e = wrong e
 
-same_is : (a b : Bool) → same a b ≡ true → a ≡ b
-same_is true true e = refl
-same_is true false e = wrong' e
-same_is false true e = wrong' e
-same_is false false e = refl
-
 phase_changed : (p : List Row) (row : Row) → changes_phase (change_of p row) ≡ true → row.time ≤ phase_time (line_times (row ∷ p))
 phase_changed p row e =
     phase_new (same (bus p).msg (bus (row ∷ p)).msg) (same (bus p).cd (bus (row ∷ p)).cd) (same (bus p).io (bus (row ∷ p)).io) (since_line (λ x. x.msg) p) (since_line (λ x. x.cd) p) (since_line (λ x. x.io) p) row.time e
@@ -54,19 +49,9 @@ phase_changed p row e =
 phase_stood : (p : List Row) (row : Row) → changes_phase (change_of p row) ≡ false → (phase_time (line_times (row ∷ p)) ≡ phase_time (line_times p)) × ((bus (row ∷ p)).io ≡ (bus p).io)
 phase_stood p row e =
     let w = all_same (same (bus p).msg (bus (row ∷ p)).msg) (same (bus p).cd (bus (row ∷ p)).cd) (same (bus p).io (bus (row ∷ p)).io) e in
-    (λ i. max (max (if w.first i then since_line (λ x. x.msg) p else row.time) (if w.second i then since_line (λ x. x.cd) p else row.time)) (if w.third i then since_line (λ x. x.io) p else row.time), sym (same_is (bus p).io (bus (row ∷ p)).io w.third))
+    (λ i. max (max (if w.first i then since_line (λ x. x.msg) p else row.time) (if w.second i then since_line (λ x. x.cd) p else row.time)) (if w.third i then since_line (λ x. x.io) p else row.time), sym (same_eq (bus p).io (bus (row ∷ p)).io w.third))
 
 -- ---- a row
-
-same_connection : (p : List Row) (row : Row) (m n : Connection) → connection p ≡ Some m → connection (row ∷ p) ≡ Some n → m ≡ n
-same_connection p row m n e f = go (bus (row ∷ p)).bsy (sym (ap (λ (o : Option Connection). connection_after o (call p) (change_of p row) row) e) ∙ f)
-  where
-    no_connection : {A : Type 0} (k : Connection) → (let a : Option Connection = None in a) ≡ Some k → A
-    no_connection k z = absurd cc
-
-    go : (q : Bool) → (if q then Some m else None) ≡ Some n → m ≡ n
-    go true z = same_Some m n z
-    go false z = no_connection n z
 
 -- The connection goes on.
 directed_goes : (p : List Row) (row : Row) (b : Sample) (m n : Connection) → connection p ≡ Some m → connection (row ∷ p) ≡ Some n → (bus p).rst ≡ false → begun (row ∷ p) ≡ true → b.time ≤ row.time → IsDirected p b → (b.time ≤ phase_time (line_times (row ∷ p))) ⊎ (b.dev ≡ sampler n (bus (row ∷ p)).io)
@@ -77,7 +62,7 @@ directed_goes p row b m n em en calm g le was = go (changes_phase (change_of p r
 
     by : (changes_phase (change_of p row)) ≡ false → (b.time ≤ phase_time (line_times p)) ⊎ (b.dev ≡ sampler m (bus p).io) → (b.time ≤ phase_time (line_times (row ∷ p))) ⊎ (b.dev ≡ sampler n (bus (row ∷ p)).io)
     by e (inl t) = let z = (phase_stood p row e).0 in inl (omega (arith, t, z))
-    by e (inr d) = inr (d ∙ (λ i. sampler (same_connection p row m n em en i) (sym (phase_stood p row e).1 i)))
+    by e (inr d) = inr (d ∙ (λ i. sampler (connection_stays p row m n em en i) (sym (phase_stood p row e).1 i)))
 
     go : (q : Bool) → changes_phase (change_of p row) ≡ q → (b.time ≤ phase_time (line_times (row ∷ p))) ⊎ (b.dev ≡ sampler n (bus (row ∷ p)).io)
     go true e = let z = phase_changed p row e in inl (omega (arith, z, le))

@@ -6,10 +6,10 @@ ghost use Rattle.bus_reactions.specs.Ends.{bsy_release, owes_release, initiator_
 ghost use Rattle.handshake.specs.Bounds.{IsSeen, IsTimed, IsReady, IsSteady};
 
 use crate::situation::Situation;
-use crate::target::{due_at, has_byte_if};
+use crate::target::has_byte_if;
 use bus_base::Ns;
 use bus_lines::Handshakes;
-use bus_reactions::{Answering, Due, Myself, Pace, Sight};
+use bus_reactions::{Answering, Due, Myself, Pace, Sight, due_at};
 use bus_trace::{Lines, SET_UP_TIME, TWO_DESKEW, byte_lines, is_message_out};
 
 // ---- it takes a byte (6.1.5.1)

@@ -9,18 +9,8 @@ ghost use Rattle.handshake.specs.Bounds.{IsSeen, IsTimed, IsReady, IsSteady};
 use crate::situation::Situation;
 use bus_base::Ns;
 use bus_lines::Handshakes;
-use bus_reactions::{Due, Myself, Offering, Pace, Sight};
+use bus_reactions::{Due, Myself, Offering, Pace, Sight, due_at};
 use bus_trace::{BUS_SETTLE_DELAY, Kind, Lines, SET_UP_TIME, TURN_DELAY, byte_lines};
-
-/// At this time it drives these lines.
-pub fn due_at(time: Ns, lines: Lines) -> Option<Due>
-    ensures { result ≡ due_at time lines }
-{
-    Some(Due {
-        time,
-        kind: Kind::Drives(lines),
-    })
-}
 
 // These lines with this byte in place of their data lines where one follows, else without data lines.
 fn with_byte_if(lines: Lines, follows: bool, byte: u8) -> Lines

@@ -10,12 +10,13 @@ use Rattle.scenario.specs.declared.value.AbortDef.{AbortDef}
 use Rattle.scenario.specs.Value.{ScenarioValue}
 use Rattle.bus_story.specs.Items.{Sent, process, abort, command_item, sense_item, has_item, count_item, is_done, is_open, open_limit_of}
 use Rattle.bus_story.specs.Story.{Story, Ending, by_status, by_abort, by_reset, story_with_over, story_with_end, story_with_ends, is_aborted, is_sense_stopped, story_after_event}
+use Rattle.bus_story.proofs.StorySteps.{ends_checks}
 use Rattle.bus_due.specs.Wants.{own_command}
 use Rattle.initiator.specs.declared.mine.Mine.{Mine}
 use Rattle.initiator.specs.declared.mine.MyAbort.{MyAbort}
 use Rattle.initiator.specs.Mines.{mine_of, mines_of, capped, my_abort, my_aborts, with_sent, with_over, with_one_try, with_status, is_check, sent_at, over_at, tried_at, mine_with_end, is_mine_aborted, is_my_sense_stopped, mine_after_event}
 use Rattle.initiator.specs.Books.{has_number, queue_with, queue_from, my_book, book_with_sent, book_with_over, book_with_try, done_at, book_with_done, abort_tried_at, book_with_abort_try, book_after_event}
-use Rattle.initiator.proofs.Mines.{mines_stay, all_sent, all_over, all_tried, mines_after_event, step, step_checks, capped_more}
+use Rattle.initiator.proofs.Mines.{mines_stay, all_sent, all_over, all_tried, mines_after_event, step, capped_more}
 
 -- ---- numbers stay
 
@@ -112,11 +113,6 @@ step_aborts drops stops e n c b m a = go (is_open b.sent n && drops c) (stops c 
     go true q = refl
     go false true = refl
     go false false = refl
-
-ends_checks : (drops stops : CmdDef → Bool) (e : Ending) (n : ℕ) (commands : List CmdDef) (b : Story) → (story_with_ends drops stops e n commands b).sent.checks ≡ b.sent.checks
-unfolding step
-ends_checks drops stops e n [] b = refl
-ends_checks drops stops e n (c ∷ commands) b = ends_checks drops stops e (n + 1) commands (step drops stops e n c b) ∙ step_checks drops stops e n c b
 
 ends_aborts : (drops stops : CmdDef → Bool) (e : Ending) (n : ℕ) (commands : List CmdDef) (b : Story) (m : ℕ) (a : AbortDef) → my_abort (story_with_ends drops stops e n commands b).sent m a ≡ my_abort b.sent m a
 unfolding step

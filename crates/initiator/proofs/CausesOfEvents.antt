@@ -7,25 +7,18 @@ use Rattle.bus_base.specs.declared.AbortKind.{AbortKind}
 use Rattle.bus_base.specs.declared.AbortKind.TheVariants as aborts
 use Rattle.bus_base.specs.declared.Event.{Event}
 use Rattle.bus_base.specs.declared.Event.TheVariants as events
+use Rattle.bus_base.proofs.Tests.{either_stays}
 use Rattle.cdb_codec.specs.declared.status.TheConstants.{CHECK_CONDITION}
 use Rattle.scenario.specs.declared.value.CmdDef.{CmdDef}
 use Rattle.scenario.specs.declared.value.Payload.TheVariants as payloads
 use Rattle.scenario.specs.declared.value.Tag.TheVariants as tags
 use Rattle.scenario.specs.Value.{ScenarioValue}
 use Rattle.disk_array.specs.Processes.{command_at, same_bool}
-use Rattle.bus_story.specs.Items.{command_item, sense_item, has_item, is_open}
+use Rattle.bus_story.specs.Items.{command_item, sense_item, has_item, is_open, sense_id, command_id}
 use Rattle.bus_story.specs.Outcomes.{ending_of, has_end}
-use Rattle.bus_story.specs.Story.{Story, Ending, by_status, by_loss, by_abort, by_reset, unanswered, story_with_over, story_with_end, story_with_ends, is_aborted, is_sense_stopped, story_after_event, story_after_events}
+use Rattle.bus_story.specs.Story.{Story, Ending, by_status, by_loss, by_abort, by_reset, unanswered, story_with_over, story_with_end, story_with_ends, is_aborted, is_sense_stopped, story_after_event, story_after_events, story_with_end_if}
 use Rattle.initiator.specs.Causes.{has_status, has_loss, has_bus_reset, has_command_abort, has_sense_abort, has_sense_stop}
-use Rattle.initiator.specs.Endings.{sense_of}
-use Rattle.initiator.specs.Outcomes.{command_of}
 use Rattle.initiator.proofs.StoryEnds.{ended_if, drops_if, ending_after, AreEnded, event_ends, events_keep}
-
--- ---- one of several
-
-or_each : (x y p q : Bool) → (x ≡ true → p ≡ true) → (y ≡ true → q ≡ true) → (x || y) ≡ true → (p || q) ≡ true
-or_each true y p q f g h = or_left p q (f refl)
-or_each false y p q f g h = or_right p q (g h)
 
 -- ---- the cause of an ending
 
@@ -36,8 +29,8 @@ has_abort_if (Some c) history = has_command_abort history c
 -- The history has the event by which a command, the n-th, ended so.
 abbrev pub has_cause_if : Option CmdDef → ℕ → List Event → Option Ending → Bool
 has_cause_if c n history None = true
-has_cause_if c n history (Some (by_status status)) = has_status history (command_of n) status
-has_cause_if c n history (Some by_loss) = has_loss history (command_of n)
+has_cause_if c n history (Some (by_status status)) = has_status history (command_id n) status
+has_cause_if c n history (Some by_loss) = has_loss history (command_id n)
 has_cause_if c n history (Some by_reset) = has_bus_reset history
 has_cause_if c n history (Some by_abort) = has_abort_if c history
 has_cause_if c n history (Some unanswered) = true
@@ -79,11 +72,11 @@ event_cause c n sent (events.Run id) history old h = cause_stays c n (events.Run
 event_cause c n sent (events.Fail id code) history old h = cause_stays c n (events.Fail id code) history old h
 event_cause c n sent (events.End id status) history old h =
     newly c n (events.End id status ∷ history) (not id.sense && id.command == n) old (by_status status)
-    (λ z. of_status id.sense (id.command == n) (status == status) (has_status history (command_of n) status) (eq-eqb status status refl) z)
+    (λ z. of_status id.sense (id.command == n) (status == status) (has_status history (command_id n) status) (eq-eqb status status refl) z)
     (cause_stays c n (events.End id status) history old h)
 event_cause c n sent (events.Lost id) history old h =
     newly c n (events.Lost id ∷ history) (not id.sense && id.command == n) old by_loss
-    (λ z. of_loss id.sense (id.command == n) (has_loss history (command_of n)) z)
+    (λ z. of_loss id.sense (id.command == n) (has_loss history (command_id n)) z)
     (cause_stays c n (events.Lost id) history old h)
 event_cause c n sent (events.Aborted host target unit what) history old h =
     newly c n (events.Aborted host target unit what ∷ history) (sent && drops_if (is_aborted host target unit what) c) old by_abort
@@ -102,16 +95,10 @@ shown_causes s b n (e ∷ shown) history a h =
 
 -- ---- every command that two tests name, in turn: callings, and what is over
 
-abbrev stepped : (CmdDef → Bool) → (CmdDef → Bool) → Ending → ℕ → CmdDef → Story → Story
-stepped drops stops e n c b =
-    if is_open b.sent n && drops c then story_with_end b (record { command = n; sense = false }) e
-    else if stops c && list_any (λ k. k == n) b.sent.checks then story_with_over b (sense_item n)
-    else b
-
 ends_tries : (drops stops : CmdDef → Bool) (e : Ending) (k : ℕ) (commands : List CmdDef) (b : Story) → (story_with_ends drops stops e k commands b).sent.tries ≡ b.sent.tries
 ends_tries drops stops e k [] b = refl
 ends_tries drops stops e k (c ∷ commands) b =
-    ends_tries drops stops e (k + 1) commands (stepped drops stops e k c b)
+    ends_tries drops stops e (k + 1) commands (story_with_end_if drops stops e k c b)
     ∙ go (is_open b.sent k && drops c) (stops c && list_any (λ j. j == k) b.sent.checks)
   where
     go : (p q : Bool) → (if p then story_with_end b (record { command = k; sense = false }) e else if q then story_with_over b (sense_item k) else b).sent.tries ≡ b.sent.tries
@@ -119,7 +106,7 @@ ends_tries drops stops e k (c ∷ commands) b =
     go false true = refl
     go false false = refl
 
-step_other : (drops stops : CmdDef → Bool) (e : Ending) (k : ℕ) (c : CmdDef) (b : Story) (n : ℕ) → (k == n) ≡ false → has_item (stepped drops stops e k c b).sent.over (sense_item n) ≡ has_item b.sent.over (sense_item n)
+step_other : (drops stops : CmdDef → Bool) (e : Ending) (k : ℕ) (c : CmdDef) (b : Story) (n : ℕ) → (k == n) ≡ false → has_item (story_with_end_if drops stops e k c b).sent.over (sense_item n) ≡ has_item b.sent.over (sense_item n)
 step_other drops stops e k c b n h = go (is_open b.sent k && drops c) (stops c && list_any (λ j. j == k) b.sent.checks)
   where
     go : (p q : Bool) → has_item (if p then story_with_end b (record { command = k; sense = false }) e else if q then story_with_over b (sense_item k) else b).sent.over (sense_item n) ≡ has_item b.sent.over (sense_item n)
@@ -127,7 +114,7 @@ step_other drops stops e k c b n h = go (is_open b.sent k && drops c) (stops c &
     go false true = λ i. h i && true || has_item b.sent.over (sense_item n)
     go false false = refl
 
-step_this : (drops stops : CmdDef → Bool) (e : Ending) (k : ℕ) (c : CmdDef) (b : Story) → has_item (stepped drops stops e k c b).sent.over (sense_item k) ≡ true → (has_item b.sent.over (sense_item k) || stops c) ≡ true
+step_this : (drops stops : CmdDef → Bool) (e : Ending) (k : ℕ) (c : CmdDef) (b : Story) → has_item (story_with_end_if drops stops e k c b).sent.over (sense_item k) ≡ true → (has_item b.sent.over (sense_item k) || stops c) ≡ true
 step_this drops stops e k c b = go (is_open b.sent k && drops c) (stops c) (list_any (λ j. j == k) b.sent.checks)
   where
     not_sense : (q y z : Bool) → (q && false || y) ≡ true → (y || z) ≡ true
@@ -142,21 +129,21 @@ step_this drops stops e k c b = go (is_open b.sent k && drops c) (stops c) (list
 earlier : (drops stops : CmdDef → Bool) (e : Ending) (commands : List CmdDef) (b : Story) (k n : ℕ) → n < k → has_item (story_with_ends drops stops e k commands b).sent.over (sense_item n) ≡ has_item b.sent.over (sense_item n)
 earlier drops stops e [] b k n h = refl
 earlier drops stops e (c ∷ commands) b k n h =
-    earlier drops stops e commands (stepped drops stops e k c b) (k + 1) n (omega (arith, h))
+    earlier drops stops e commands (story_with_end_if drops stops e k c b) (k + 1) n (omega (arith, h))
     ∙ step_other drops stops e k c b n (ne_eqb k n (λ z. omega (arith, z, h)))
 
 stops_from : (drops stops : CmdDef → Bool) (e : Ending) (k : ℕ) (commands : List CmdDef) (b : Story) (j n : ℕ) → n ≡ j + k → has_item (story_with_ends drops stops e k commands b).sent.over (sense_item n) ≡ true → (has_item b.sent.over (sense_item n) || drops_if stops (command_at commands (suc j))) ≡ true
 stops_from drops stops e k [] b j n same h = or_left _ _ h
 stops_from drops stops e k (c ∷ commands) b zero n same h =
     let here : n ≡ k = omega (arith, same) in
-    let later : has_item (story_with_ends drops stops e (k + 1) commands (stepped drops stops e k c b)).sent.over (sense_item n) ≡ has_item (stepped drops stops e k c b).sent.over (sense_item n) =
-    earlier drops stops e commands (stepped drops stops e k c b) (k + 1) n (omega (arith, same)) in
+    let later : has_item (story_with_ends drops stops e (k + 1) commands (story_with_end_if drops stops e k c b)).sent.over (sense_item n) ≡ has_item (story_with_end_if drops stops e k c b).sent.over (sense_item n) =
+    earlier drops stops e commands (story_with_end_if drops stops e k c b) (k + 1) n (omega (arith, same)) in
     (λ i. has_item b.sent.over (sense_item (here i)) || stops c)
-    ∙ step_this drops stops e k c b ((λ i. has_item (stepped drops stops e k c b).sent.over (sense_item (sym here i))) ∙ sym later ∙ h)
+    ∙ step_this drops stops e k c b ((λ i. has_item (story_with_end_if drops stops e k c b).sent.over (sense_item (sym here i))) ∙ sym later ∙ h)
 stops_from drops stops e k (c ∷ commands) b (suc j) n same h =
     let other : (k == n) ≡ false = ne_eqb k n (λ z. omega (arith, z, same)) in
     (λ i. sym (step_other drops stops e k c b n other) i || drops_if stops (command_at commands (suc j)))
-    ∙ stops_from drops stops e (k + 1) commands (stepped drops stops e k c b) j n (omega (arith, same)) h
+    ∙ stops_from drops stops e (k + 1) commands (story_with_end_if drops stops e k c b) j n (omega (arith, same)) h
 
 stops_at : (drops stops : CmdDef → Bool) (e : Ending) (commands : List CmdDef) (b : Story) (n : ℕ) → has_item (story_with_ends drops stops e 1 commands b).sent.over (sense_item n) ≡ true → (has_item b.sent.over (sense_item n) || drops_if stops (command_at commands n)) ≡ true
 stops_at drops stops e commands b zero h = or_left _ _ (sym (earlier drops stops e commands b 1 0 (omega arith)) ∙ h)
@@ -170,7 +157,7 @@ has_sense_abort_if (Some c) history = has_sense_abort history c
 
 abbrev pub has_sense_cause : Option CmdDef → ℕ → List Event → Bool
 has_sense_cause c n history =
-    has_end history (sense_of n) || (has_loss history (sense_of n) || (has_bus_reset history || has_sense_abort_if c history))
+    has_end history (sense_id n) || (has_loss history (sense_id n) || (has_bus_reset history || has_sense_abort_if c history))
 
 more_aborts : (c : Option CmdDef) (e : Event) (history : List Event) → has_sense_abort_if c history ≡ true → has_sense_abort_if c (e ∷ history) ≡ true
 more_aborts None e history h = h
@@ -178,9 +165,9 @@ more_aborts (Some c) e history h = or_right _ _ h
 
 sense_cause_stays : (c : Option CmdDef) (n : ℕ) (e : Event) (history : List Event) → has_sense_cause c n history ≡ true → has_sense_cause c n (e ∷ history) ≡ true
 sense_cause_stays c n e history h =
-    or_each (has_end history (sense_of n)) _ (has_end (e ∷ history) (sense_of n)) _ (λ z. or_right _ _ z)
-    (λ x. or_each (has_loss history (sense_of n)) _ (has_loss (e ∷ history) (sense_of n)) _ (λ z. or_right _ _ z)
-    (λ y. or_each (has_bus_reset history) _ (has_bus_reset (e ∷ history)) _ (λ z. or_right _ _ z) (λ z. more_aborts c e history z) y) x) h
+    either_stays (has_end history (sense_id n)) _ (has_end (e ∷ history) (sense_id n)) _ (λ z. or_right _ _ z)
+    (λ x. either_stays (has_loss history (sense_id n)) _ (has_loss (e ∷ history) (sense_id n)) _ (λ z. or_right _ _ z)
+    (λ y. either_stays (has_bus_reset history) _ (has_bus_reset (e ∷ history)) _ (λ z. or_right _ _ z) (λ z. more_aborts c e history z) y) x) h
 
 of_sense_abort : (host target unit : ℕ) (what : AbortKind) (c : Option CmdDef) (history : List Event) → drops_if (is_sense_stopped host target unit what) c ≡ true → has_sense_abort_if c (events.Aborted host target unit what ∷ history) ≡ true
 of_sense_abort host target unit what None history h = cc
@@ -210,7 +197,7 @@ event_stops s b n (events.Lost id) history h x =
 event_stops s b n (events.Aborted host target unit what) history h x =
     added (has_item b.sent.over (sense_item n)) (drops_if (is_sense_stopped host target unit what) (command_at s.commands n)) (has_sense_cause (command_at s.commands n) n (events.Aborted host target unit what ∷ history))
     (λ z. sense_cause_stays (command_at s.commands n) n (events.Aborted host target unit what) history (h z))
-    (λ z. or_right (has_end (events.Aborted host target unit what ∷ history) (sense_of n)) _ (or_right (has_loss (events.Aborted host target unit what ∷ history) (sense_of n)) _ (or_right (has_bus_reset (events.Aborted host target unit what ∷ history)) _ (of_sense_abort host target unit what (command_at s.commands n) history z))))
+    (λ z. or_right (has_end (events.Aborted host target unit what ∷ history) (sense_id n)) _ (or_right (has_loss (events.Aborted host target unit what ∷ history) (sense_id n)) _ (or_right (has_bus_reset (events.Aborted host target unit what ∷ history)) _ (of_sense_abort host target unit what (command_at s.commands n) history z))))
     (stops_at (is_aborted host target unit what) (is_sense_stopped host target unit what) by_abort s.commands b n x)
 event_stops s b n (events.Reset dev) history h x = or_right _ _ (or_right _ _ refl)
 
@@ -250,10 +237,10 @@ ended =
     ∷ events.End (record { command = 1; sense = false }) 2 ∷ events.Lost (record { command = 3; sense = false }) ∷ []
 
 -- A process is a command or its automatic REQUEST SENSE, and a status is one of them.
-check_statuses : (has_status ended (command_of 1) 2 ∷ has_status ended (command_of 1) 0 ∷ has_status ended (sense_of 2) 0 ∷ has_status ended (command_of 2) 0 ∷ []) ≡ true ∷ false ∷ true ∷ false ∷ []
+check_statuses : (has_status ended (command_id 1) 2 ∷ has_status ended (command_id 1) 0 ∷ has_status ended (sense_id 2) 0 ∷ has_status ended (command_id 2) 0 ∷ []) ≡ true ∷ false ∷ true ∷ false ∷ []
 check_statuses = refl
 
-check_losses : (has_loss ended (command_of 3) ∷ has_loss ended (sense_of 3) ∷ has_loss ended (sense_of 1) ∷ has_loss ended (command_of 1) ∷ []) ≡ true ∷ false ∷ true ∷ false ∷ []
+check_losses : (has_loss ended (command_id 3) ∷ has_loss ended (sense_id 3) ∷ has_loss ended (sense_id 1) ∷ has_loss ended (command_id 1) ∷ []) ≡ true ∷ false ∷ true ∷ false ∷ []
 check_losses = refl
 
 check_resets : (has_bus_reset ended ∷ has_bus_reset (events.Reset 3 ∷ ended) ∷ []) ≡ false ∷ true ∷ []

@@ -16,17 +16,15 @@ use Rattle.scenario.specs.declared.value.HostDef.{HostDef}
 use Rattle.scenario.specs.Value.{ScenarioValue}
 use Rattle.disk_array.specs.Processes.{command_at, same_bool}
 use Rattle.bus_story.specs.BusState.{RowReading, row_reading}
-use Rattle.bus_story.specs.Items.{Item, process, abort, command_item, sense_item, has_item, count_item, is_of_host}
+use Rattle.bus_story.specs.Items.{Item, process, abort, command_item, sense_item, has_item, count_item, is_of_host, sense_id, command_id}
 use Rattle.bus_story.specs.Links.{link_of}
 use Rattle.bus_story.specs.Outcomes.{ending_of, has_end}
 use Rattle.bus_story.specs.Story.{Story, Ending, by_status, by_loss, by_abort, by_reset, unanswered, with_ending, is_aborted, story_after_events}
 use Rattle.bus_story.specs.TraceHistory.{aim_of, retries_of, story_with_aim, story_without_answer, story_with_try, story_after_calling, story_after_calling_by, story_on_free_bus, story_with_restored, story_with_sent, story_after_connection, story_on_bus, story_by_change}
 use Rattle.bus_due.specs.Plain.{AreOfDevices}
-use Rattle.bus_due.specs.RunSteps.{run_state}
+use Rattle.bus_due.specs.RunSteps.{run_state, events_of_row}
 use Rattle.initiator.specs.Causes.{has_status, has_loss, has_bus_reset, has_command_abort, has_sense_stop}
-use Rattle.initiator.specs.Endings.{sense_of}
-use Rattle.initiator.specs.Outcomes.{command_of}
-use Rattle.initiator.specs.Wishes.{IsItemIf, AreAims, events_shown}
+use Rattle.initiator.specs.Wishes.{IsItemIf, AreAims}
 use Rattle.initiator.proofs.CausesOfEvents.{has_cause_if, has_sense_cause, shown_causes, shown_stops, events_tries}
 use Rattle.initiator.proofs.OwnedLinks.{aim_own}
 use Rattle.initiator.proofs.StoryEnds.{first_of, ended_if, drops_if, ending_after, with_ending_at, AreEnded, IsUnended, event_ends, events_keep, unended_connection, unended_linked, change_keeps, are_ended}
@@ -165,7 +163,7 @@ causes_are s (row ∷ rows) n =
     let b : Story = (run_state s rows).story in
     let d : RowReading = row_reading b.bus_state row in
     let c : Story = story_by_change s b d row in
-    shown_causes s c n (events_shown s rows row) b.history (change_keeps s b d row (are_ended s rows))
+    shown_causes s c n (events_of_row s rows row) b.history (change_keeps s b d row (are_ended s rows))
     (called_causes s b c n (command_at s.commands n) b.history (change_called s b n d row) (causes_are s rows n))
 
 -- ---- automatic REQUEST SENSE
@@ -180,7 +178,7 @@ stops_are s (row ∷ rows) n h =
     let b : Story = (run_state s rows).story in
     let d : RowReading = row_reading b.bus_state row in
     let c : Story = story_by_change s b d row in
-    shown_stops s c n (events_shown s rows row) b.history
+    shown_stops s c n (events_of_row s rows row) b.history
     (λ x. stops_are s rows n (sym (called_over s b c n (change_called s b n d row)) ∙ x)) h
 
 -- ---- callings in vain
@@ -255,17 +253,17 @@ tries_are s (row ∷ rows) n x =
     let b : Story = (run_state s rows).story in
     let d : RowReading = row_reading b.bus_state row in
     let c : Story = story_by_change s b d row in
-    let shown : List Event = events_shown s rows row in
+    let shown : List Event = events_of_row s rows row in
     (λ i. has_tries_if s.hosts (command_at s.commands n) n (events_tries s c shown i) (ending_of (run_state s (row ∷ rows)).story.ended n))
     ∙ shown_tried s c n c.sent.tries shown (change_keeps s b d row (are_ended s rows))
     (called_tries s b c n (aims_are s rows x.1) (change_called s b n d row) (tries_are s rows n x.1))
 
 -- ---- the causes
 
-pub status_cause : (s : ScenarioValue) (rows : List Row) (n status : ℕ) → ending_of (run_state s rows).story.ended n ≡ Some (by_status status) → has_status (run_state s rows).story.history (command_of n) status ≡ true
+pub status_cause : (s : ScenarioValue) (rows : List Row) (n status : ℕ) → ending_of (run_state s rows).story.ended n ≡ Some (by_status status) → has_status (run_state s rows).story.history (command_id n) status ≡ true
 status_cause s rows n status e = (λ i. has_cause_if (command_at s.commands n) n (run_state s rows).story.history (sym e i)) ∙ causes_are s rows n
 
-pub loss_cause : (s : ScenarioValue) (rows : List Row) (n : ℕ) → ending_of (run_state s rows).story.ended n ≡ Some by_loss → has_loss (run_state s rows).story.history (command_of n) ≡ true
+pub loss_cause : (s : ScenarioValue) (rows : List Row) (n : ℕ) → ending_of (run_state s rows).story.ended n ≡ Some by_loss → has_loss (run_state s rows).story.history (command_id n) ≡ true
 loss_cause s rows n e = (λ i. has_cause_if (command_at s.commands n) n (run_state s rows).story.history (sym e i)) ∙ causes_are s rows n
 
 pub reset_cause : (s : ScenarioValue) (rows : List Row) (n : ℕ) → ending_of (run_state s rows).story.ended n ≡ Some by_reset → has_bus_reset (run_state s rows).story.history ≡ true
@@ -278,7 +276,7 @@ pub unanswered_cause : (s : ScenarioValue) (rows : List Row) (n : ℕ) (c : CmdD
 unanswered_cause s rows n c d k e =
     (λ i. has_tries_if s.hosts (sym k i) n (run_state s rows).story.sent.tries (sym e i)) ∙ tries_are s rows n d
 
-pub sense_cause : (s : ScenarioValue) (rows : List Row) (n : ℕ) (c : CmdDef) → command_at s.commands n ≡ Some c → has_item (run_state s rows).story.sent.over (sense_item n) ≡ true → has_end (run_state s rows).story.history (sense_of n) ≡ false → has_sense_stop (run_state s rows).story.history n c ≡ true
+pub sense_cause : (s : ScenarioValue) (rows : List Row) (n : ℕ) (c : CmdDef) → command_at s.commands n ≡ Some c → has_item (run_state s rows).story.sent.over (sense_item n) ≡ true → has_end (run_state s rows).story.history (sense_id n) ≡ false → has_sense_stop (run_state s rows).story.history n c ≡ true
 sense_cause s rows n c k o e =
-    or_other (has_end (run_state s rows).story.history (sense_of n)) _ e
+    or_other (has_end (run_state s rows).story.history (sense_id n)) _ e
     ((λ i. has_sense_cause (sym k i) n (run_state s rows).story.history) ∙ stops_are s rows n o)

@@ -18,30 +18,22 @@ use Rattle.bus_reactions.specs.Linking.{link_due, sample_time}
 use Rattle.bus_reactions.specs.Reset.{with_reset}
 use Rattle.bus_reactions.specs.Ends as hand
 use Rattle.bus_dialogue.specs.Ends.{pace_by, answering_by}
-use Rattle.bus_due.specs.Connected.{is_receiving, connected_due}
 use Rattle.bus_due.specs.RunState.{RunState}
 use Rattle.bus_due.specs.RunSteps.{run_state}
-use Rattle.bus_due.specs.Sights.{flip_of, identify_byte, want_of}
+use Rattle.bus_due.specs.Sights.{identify_byte, want_of}
 use Rattle.bus_due.specs.Wants.{ready_time, initiator_if, ready_of, target_of, item_want_time}
 use Rattle.bus_story.specs.TraceHistory.{aim_of}
-use Rattle.bus_due.specs.Due.{self_of, due_if, stage_due, link_due_of, reset_from}
+use Rattle.bus_due.specs.Due.{self_of, due_if, stage_due, link_due_of, reset_from, AreOthersStill}
 use Rattle.bus_due.specs.Next.{due}
 use Rattle.bus_due.specs.Plain.{IsPlain, AreOfDevices}
 use Rattle.bus_due.specs.PlainDue.{IsThere, IsLinked, under_reset, initiator_reaction}
 use Rattle.bus_reactions.specs.declared.ends.Answering.{Answering}
 use Rattle.bus_reactions.specs.declared.ends.Pace.{Pace}
 use Rattle.bus_due.specs.Sights.{sending_of}
-use Rattle.scsi_device.specs.Told.{told, pace_of, first_fault, flip_by}
+use Rattle.scsi_device.specs.Told.{told, pace_of, first_fault, flip_by, AreFlips}
 use Rattle.initiator.specs.States.{InitiatorState, IsOwnConnection, IsInitiatorOf, IsHostOf, IsNoTarget}
 use Rattle.initiator.specs.Dues.{answering_of_host, myself_by, want_by, link_by, hand_by, calm_by, initiator_next}
-
--- ---- what holds of any device: the fault that strikes, and that a connection of others is none of its
-
-abbrev pub AreFlips : Type 0
-AreFlips = (faults : List FaultDef) (f : Option FaultDef) (time : ℕ) → f ≡ first_fault faults → flip_of faults time ≡ flip_by f time
-
-abbrev pub AreOthers : Type 0
-AreOthers = (s : ScenarioValue) (k : RunState) (me : Myself) (n : Connection) → (n.initiator == me.dev) ≡ false → (n.target == me.dev) ≡ false → connected_due s k me n ≡ None
+use Rattle.bus_rules.specs.Order.{is_of_device}
 
 -- ---- the scenario
 
@@ -82,17 +74,17 @@ hands_are flips_are s rows h i f n g p r e o =
     let me : Myself = myself_by h (told rows h.dev) i in
     let pace : Pace = pace_of (told rows h.dev) (Some h) in
     let a : Answering = answering_of_host (told rows h.dev) i in
-    (λ j. hand.sample_due (is_receiving (receiver rows) h.dev) last (flips_are k.faults f last e j)
+    (λ j. hand.sample_due (is_of_device (receiver rows) h.dev) last (flips_are k.faults f last e j)
     (hand.initiator_due (begun rows) (sight rows) (handshakes rows) (myself_is s rows h i g p r j)
     (pace_by (p.begun j) (p.bus j) (p.dialogue j).heard.now.agreement (g.host_is j))
     (answering_by (sym (r.speech_is n o) j) (sending_of s k) (p.bus j) (p.dialogue j).heard.now.offer ((p.own h.dev g.below ∙ sym r.own_is) j).ack)))
-    ∙ (λ j. hand.sample_due (is_receiving (receiver rows) h.dev) last (flip_by f last)
+    ∙ (λ j. hand.sample_due (is_of_device (receiver rows) h.dev) last (flip_by f last)
     (hand.initiator_due (begun rows) (sight rows) (handshakes rows) me pace (record a { byte = sym (r.sending_is n o (bus rows) i.speech) j })))
 
 -- ---- whatever stands
 
 pub dues_are : ((s : ScenarioValue) (rows : List Row) (dev latency : ℕ) (n : Connection) → IsThere s rows dev latency → IsLinked rows n → (n.initiator == dev) ≡ true → due s rows dev ≡ under_reset s rows dev latency (initiator_reaction s rows dev latency))
-    → AreFlips → AreOthers
+    → AreFlips → AreOthersStill
     → (s : ScenarioValue) (rows : List Row) (h : HostDef) (i : InitiatorState) (f : Option FaultDef) → IsHostOf s h → AreOfDevices rows → IsPlain s rows (run_state s rows) → IsNoTarget s rows h.dev → IsInitiatorOf s rows h i → f ≡ first_fault (run_state s rows).faults
     → due s rows h.dev ≡ initiator_next h (told rows h.dev) f i
 dues_are law flips_are others_are s rows h i f g d p t r e = go (bus rows).rst refl (connection rows) refl

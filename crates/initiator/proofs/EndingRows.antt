@@ -7,6 +7,7 @@ use Rattle.std.proofs.lemmas.List.Folds.{list_any-append}
 use Rattle.bus_base.specs.declared.AbortKind.TheVariants as aborts
 use Rattle.bus_base.specs.declared.Event.{Event}
 use Rattle.bus_base.specs.declared.Event.TheVariants as events
+use Rattle.bus_base.proofs.Tests.{or_later}
 use Rattle.bus_trace.specs.declared.Row.{Row}
 use Rattle.bus_trace.specs.declared.selection.Call.{Call}
 use Rattle.bus_trace.specs.Terms.{connection}
@@ -14,13 +15,14 @@ use Rattle.scenario.specs.declared.value.CmdDef.{CmdDef}
 use Rattle.scenario.specs.Value.{ScenarioValue}
 use Rattle.disk_array.specs.Processes.{command_at, same_bool}
 use Rattle.bus_story.specs.BusState.{RowReading, row_reading}
-use Rattle.bus_story.specs.Items.{Item, process, command_item, has_item, Sent, is_of_host}
+use Rattle.bus_story.specs.Items.{Item, process, command_item, has_item, Sent, is_of_host, sense_id}
 use Rattle.bus_story.specs.Outcomes.{ending_of, has_end, is_end_of}
 use Rattle.bus_story.specs.Story as told
 use Rattle.bus_story.specs.Story.{Story, by_status, by_loss, by_abort, by_reset, unanswered, is_aborted, story_after_event, story_after_events}
 use Rattle.bus_story.specs.TraceHistory.{aim_of, story_by_change}
+use Rattle.bus_story.proofs.StorySteps.{events_sent}
 use Rattle.bus_due.specs.Plain.{IsPlain, AreOfDevices}
-use Rattle.bus_due.specs.RunSteps.{run_state}
+use Rattle.bus_due.specs.RunSteps.{run_state, events_of_row}
 use Rattle.bus_due.specs.Wants.{own_command, own_commands}
 use Rattle.initiator.specs.declared.endings.CommandEnd.{CommandEnd}
 use Rattle.initiator.specs.declared.endings.Ending.{Ending}
@@ -30,15 +32,16 @@ use Rattle.initiator.specs.declared.mine.OwnItem.{OwnItem}
 use Rattle.initiator.specs.declared.mine.OwnItem.TheVariants as own
 use Rattle.initiator.specs.Mines.{mine_of, mines_of}
 use Rattle.initiator.specs.Books.{my_book, item_if}
-use Rattle.initiator.specs.Intents.{is_empty}
 use Rattle.initiator.specs.Openings.{mine_at}
-use Rattle.initiator.specs.Wishes.{IsItemIf, events_shown}
-use Rattle.initiator.specs.Endings.{no_end, ended_so, with_sense_end, end_at, ends_with, ends_with_sense, is_named, ends_of_mines, ends_after_event, ends_after_events, is_over, ends_after_calling, ends_after, told_ending, told_ending_if, sense_of, AreEndingsOf}
+use Rattle.initiator.specs.Wishes.{IsItemIf}
+use Rattle.initiator.specs.Endings.{no_end, ended_so, with_sense_end, end_at, ends_with, ends_with_sense, is_named, ends_of_mines, ends_after_event, ends_after_events, is_over, ends_after_calling, ends_after, told_ending, told_ending_if, AreEndingsOf}
 use Rattle.initiator.proofs.Foreign.{no_host_first}
-use Rattle.initiator.proofs.StoryEnds.{first_of, ended_if, drops_if, ending_after, AreEnded, IsUnended, Calls, same, vain, event_ends, events_keep, events_sent, change_calls, change_keeps, shown_unended, linked_unended, links_stand, are_ended}
+use Rattle.initiator.proofs.StoryEnds.{first_of, ended_if, drops_if, ending_after, AreEnded, IsUnended, Calls, same, vain, event_ends, events_keep, change_calls, change_keeps, shown_unended, linked_unended, links_stand, are_ended}
 use Rattle.initiator.proofs.Wishes.{IsCaller}
 use Rattle.initiator.proofs.WishRows.{aims_are, callers_are}
 use Rattle.initiator.proofs.HeldSteps.{in_range}
+use Rattle.initiator.proofs.Mines.{mines_from}
+use Rattle.bus_dialogue.specs.Events.{is_empty}
 
 -- ---- look-ups
 
@@ -100,9 +103,6 @@ sense_told v k n l = (λ i. told_ending_if (with_sense_at v k n l i).ending) ∙
     go false = refl
 
 -- ---- all of its own that an event concerns
-
-abbrev pub mines_from : Sent → ℕ → ℕ → List CmdDef → List Mine
-mines_from b dev k commands = map (mine_of b.checks) (own_commands b dev k commands)
 
 abbrev named_if : Event → Option CmdDef → Bool
 named_if event None = false
@@ -276,7 +276,7 @@ mines_sense event e (m ∷ mines) v n l = go (m.sent && is_named event m) (λ w 
     go true r = r (ends_with v m.number e) (subst (λ (z : ℕ). n < z) (sym (with_length v m.number e)) l) ∙ with_sense v m.number n e l
     go false r = r v l
 
-event_sense : (mines : List Mine) (v : List CommandEnd) (n : ℕ) (event : Event) → n < length v → (end_at (ends_after_event mines v event) n).sense_ended ≡ (is_end_of (sense_of n) event || (end_at v n).sense_ended)
+event_sense : (mines : List Mine) (v : List CommandEnd) (n : ℕ) (event : Event) → n < length v → (end_at (ends_after_event mines v event) n).sense_ended ≡ (is_end_of (sense_id n) event || (end_at v n).sense_ended)
 event_sense mines v n (events.Accept id) l = refl
 event_sense mines v n (events.Refuse id) l = refl
 event_sense mines v n (events.Run id) l = refl
@@ -302,16 +302,12 @@ event_sense mines v n (events.Lost id) l = go id.sense
 event_sense mines v n (events.Aborted host target unit what) l = mines_sense (events.Aborted host target unit what) ends.Abort mines v n l
 event_sense mines v n (events.Reset dev) l = mines_sense (events.Reset dev) ends.Reset mines v n l
 
-or_or : (p q r : Bool) → (p || (q || r)) ≡ ((p || q) || r)
-or_or true q r = refl
-or_or false q r = refl
-
-events_sense : (mines : List Mine) (v : List CommandEnd) (n : ℕ) (shown : List Event) → n < length v → (end_at (ends_after_events mines v shown) n).sense_ended ≡ (has_end shown (sense_of n) || (end_at v n).sense_ended)
+events_sense : (mines : List Mine) (v : List CommandEnd) (n : ℕ) (shown : List Event) → n < length v → (end_at (ends_after_events mines v shown) n).sense_ended ≡ (has_end shown (sense_id n) || (end_at v n).sense_ended)
 events_sense mines v n [] l = refl
 events_sense mines v n (e ∷ shown) l =
     event_sense mines (ends_after_events mines v shown) n e (subst (λ (z : ℕ). n < z) (sym (events_length mines v shown)) l)
-    ∙ (λ i. is_end_of (sense_of n) e || events_sense mines v n shown l i)
-    ∙ or_or (is_end_of (sense_of n) e) (has_end shown (sense_of n)) (end_at v n).sense_ended
+    ∙ (λ i. is_end_of (sense_id n) e || events_sense mines v n shown l i)
+    ∙ or_later (is_end_of (sense_id n) e) (has_end shown (sense_id n)) (end_at v n).sense_ended
 
 -- ---- callings without an answer
 
@@ -440,7 +436,7 @@ rows_length : (s : ScenarioValue) (d : Sent) (dev : ℕ) (v : List CommandEnd) (
 rows_length s d dev v aim [] = calling_length (mines_of d dev s.commands) v aim
 rows_length s d dev v aim (e ∷ shown) = events_length (mines_of d dev s.commands) v (e ∷ shown)
 
-rows_sense : (s : ScenarioValue) (d : Sent) (dev n : ℕ) (v : List CommandEnd) (aim : Option OwnItem) (shown : List Event) → n < length v → (end_at (ends_after (my_book s d dev) aim v shown) n).sense_ended ≡ (has_end shown (sense_of n) || (end_at v n).sense_ended)
+rows_sense : (s : ScenarioValue) (d : Sent) (dev n : ℕ) (v : List CommandEnd) (aim : Option OwnItem) (shown : List Event) → n < length v → (end_at (ends_after (my_book s d dev) aim v shown) n).sense_ended ≡ (has_end shown (sense_id n) || (end_at v n).sense_ended)
 rows_sense s d dev n v aim [] l = calling_sense (mines_of d dev s.commands) v n aim l
 rows_sense s d dev n v aim (e ∷ shown) l = events_sense (mines_of d dev s.commands) v n (e ∷ shown) l
 
@@ -450,12 +446,12 @@ rows_told s b c dev n v aim (event ∷ shown) l h a items at calls busy e =
     events_told s c (story_after_events s c (event ∷ shown)).sent dev n v (event ∷ shown) l h (events_sent s c (event ∷ shown)) a
     (e ∙ (λ i. ending_of (sym (busy refl).ended i) n))
 
-pub endings_go_on : (s : ScenarioValue) (rows : List Row) (row : Row) (dev : ℕ) (v : List CommandEnd) (aim : Option OwnItem) → IsPlain s rows (run_state s rows) → AreOfDevices (row ∷ rows) → item_if aim ≡ aim_of (run_state s rows).story.aims dev → AreEndingsOf s rows dev v → AreEndingsOf s (row ∷ rows) dev (ends_after (my_book s (run_state s (row ∷ rows)).story.sent dev) aim v (events_shown s rows row))
+pub endings_go_on : (s : ScenarioValue) (rows : List Row) (row : Row) (dev : ℕ) (v : List CommandEnd) (aim : Option OwnItem) → IsPlain s rows (run_state s rows) → AreOfDevices (row ∷ rows) → item_if aim ≡ aim_of (run_state s rows).story.aims dev → AreEndingsOf s rows dev v → AreEndingsOf s (row ∷ rows) dev (ends_after (my_book s (run_state s (row ∷ rows)).story.sent dev) aim v (events_of_row s rows row))
 endings_go_on s rows row dev v aim p d at h =
     let b : Story = (run_state s rows).story in
     let r : RowReading = row_reading b.bus_state row in
     let c : Story = story_by_change s b r row in
-    let shown : List Event = events_shown s rows row in
+    let shown : List Event = events_of_row s rows row in
     let caller : IsCaller b.bus_state.call = subst (λ (z : Option Call). IsCaller z) (sym p.call) (callers_are rows d.1) in
     record {
       long = rows_length s (run_state s (row ∷ rows)).story.sent dev v aim shown ∙ h.long;
@@ -467,13 +463,13 @@ endings_go_on s rows row dev v aim p d at h =
             ending_is = rows_told s b c dev n v aim shown l its (change_keeps s b r row (are_ended s rows)) (aims_are s rows d.1).own_items at
                 (change_calls s b n r row caller) (shown_unended s b r row (links_stand s rows)) x.ending_is;
             sense_is = rows_sense s (run_state s (row ∷ rows)).story.sent dev n v aim shown l
-                ∙ (λ i. has_end shown (sense_of n) || x.sense_is i)
-                ∙ sym (list_any-append (λ e. is_end_of (sense_of n) e) shown b.history);
+                ∙ (λ i. has_end shown (sense_id n) || x.sense_is i)
+                ∙ sym (list_any-append (λ e. is_end_of (sense_id n) e) shown b.history);
           };
     }
 
 -- A row in a connection that shows no event leaves them as they are.
-pub endings_stay : (s : ScenarioValue) (rows : List Row) (row : Row) (dev : ℕ) (v : List CommandEnd) → IsPlain s rows (run_state s rows) → is_some (connection rows) ≡ true → [] ≡ events_shown s rows row → AreEndingsOf s rows dev v → AreEndingsOf s (row ∷ rows) dev v
+pub endings_stay : (s : ScenarioValue) (rows : List Row) (row : Row) (dev : ℕ) (v : List CommandEnd) → IsPlain s rows (run_state s rows) → is_some (connection rows) ≡ true → [] ≡ events_of_row s rows row → AreEndingsOf s rows dev v → AreEndingsOf s (row ∷ rows) dev v
 endings_stay s rows row dev v p stands none h =
     let b : Story = (run_state s rows).story in
     let c : Story = story_by_change s b (row_reading b.bus_state row) row in
@@ -484,7 +480,7 @@ endings_stay s rows row dev v p stands none h =
         ending_is = (h.ends n k k_is own_is).ending_is
             ∙ (λ i. ending_of (sym x.ended i) n)
             ∙ (λ i. ending_of (story_after_events s c (none i)).ended n);
-        sense_is = (h.ends n k k_is own_is).sense_is ∙ (λ i. has_end (none i ++ b.history) (sense_of n));
+        sense_is = (h.ends n k k_is own_is).sense_is ∙ (λ i. has_end (none i ++ b.history) (sense_id n));
       };
     }
 

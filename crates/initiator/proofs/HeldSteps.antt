@@ -21,7 +21,7 @@ use Rattle.io_pointers.specs.Pointers.{pointers_of, with_saved_data, with_restor
 use Rattle.initiator.specs.declared.held.Held.{Held}
 use Rattle.initiator.specs.declared.held.HeldPair.{HeldPair}
 use Rattle.initiator.specs.HeldPointers.{capped_place, IsHeldOf, nothing_held, held_restored, held_after_message, advanced_within, status_after, held_after_byte, no_pair, half_of, with_half, held_at, with_held, AreHeldOf}
-use Rattle.initiator.proofs.CarriedLists.{carried_with}
+use Rattle.bus_story.proofs.CarriedLists.{carried_with}
 use Rattle.disk_array.proofs.SeatLookups.{same_id_is}
 use Rattle.scenario.specs.declared.value.CmdDef.{CmdDef}
 

@@ -8,7 +8,7 @@ use Rattle.bus_trace.specs.declared.connection.Connection.{Connection}
 use Rattle.bus_trace.specs.Terms.{connection}
 use Rattle.scenario.specs.Value.{ScenarioValue}
 use Rattle.bus_story.specs.Links.{Link}
-use Rattle.bus_story.specs.TraceHistory.{aim_of, is_host, retries_of}
+use Rattle.bus_story.specs.TraceHistory.{aim_of, retries_of}
 use Rattle.scenario.specs.declared.value.HostDef.{HostDef}
 use Rattle.scsi_device.specs.Lines.{IsHostLine}
 use Rattle.initiator.specs.Intents.{IntentValue, IsInitiator, IsIntentOf}
@@ -20,6 +20,7 @@ use Rattle.bus_due.specs.Sights.{sending_of}
 use Rattle.bus_due.specs.Telling.{id_of}
 use Rattle.scenario.specs.declared.value.CmdDef.{CmdDef}
 use Rattle.disk_array.specs.Processes.{command_at}
+use Rattle.disk_array.specs.Seats.{is_initiator as is_host}
 use Rattle.bus_dialogue.specs.Sending.{byte_to_send}
 use Rattle.bus_due.specs.Plain.{AreOfDevices, IsPlain}
 use Rattle.scsi_device.specs.Lines.{IsCommandLine}

@@ -14,13 +14,13 @@ use Rattle.scenario.specs.Value.{ScenarioValue}
 use Rattle.bus_story.specs.BusState.{row_reading}
 use Rattle.bus_story.specs.TraceHistory.{aim_of, retries_of}
 use Rattle.bus_dialogue.specs.Hearing.{hearing}
-use Rattle.bus_due.specs.RunSteps.{run_state}
+use Rattle.bus_due.specs.RunSteps.{run_state, events_of_row}
 use Rattle.bus_due.specs.Sights.{hearing_of}
 use Rattle.bus_due.specs.Plain.{IsPlain, AreOfDevices}
 use Rattle.bus_due.specs.Wants.{item_want_time, target_of}
 use Rattle.bus_story.specs.Items.{Item}
 use Rattle.initiator.specs.Books.{BookValue, my_book, my_since}
-use Rattle.initiator.specs.Wishes.{Wish, IsWishOf, is_entry, is_call_in_vain, book_after_try, wish_with_entry, wish_on_bus, wish_after, events_shown, IsItemIf, target_by}
+use Rattle.initiator.specs.Wishes.{Wish, IsWishOf, is_entry, is_call_in_vain, book_after_try, wish_with_entry, wish_on_bus, wish_after, IsItemIf, target_by}
 use Rattle.initiator.specs.Intents.{IntentValue, IsInitiator, IsIntentOf, is_news}
 use Rattle.initiator.proofs.Books.{since_is}
 use Rattle.initiator.proofs.Wishes.{IsItemLaw, HasInitiator}
@@ -63,11 +63,11 @@ intent_starts s v w c n t = record {
   callee_is = t;
 }
 
-pub intent_goes_on : IsItemLaw → (s : ScenarioValue) (rows : List Row) (row : Row) (v w : IntentValue) (e : RowEffect) (shown : List Event) → w.dev ≡ v.dev → w.wish ≡ wish_after v.dev v.retries v.call v.wish e.change e.before e.after row.dev row.time shown → w.call ≡ call_after v.call e.change row → w.since ≡ (if is_news e.change e.before e.after shown then my_since w.wish.book else v.since) → w.callee ≡ (if is_news e.change e.before e.after shown then target_by w.wish.book w.wish.aim else v.callee) → e ≡ effect (row ∷ rows) → IsPlain s rows (run_state s rows) → IsPlain s (row ∷ rows) (run_state s (row ∷ rows)) → hearing_of (run_state s rows) row (row_reading (run_state s rows).story.bus_state row) ≡ hearing rows row → AreOfDevices (row ∷ rows) → HasInitiator (connection (row ∷ rows)) → IsInitiator s v.dev v.retries → shown ≡ events_shown s rows row → IsIntentOf s rows v → IsIntentOf s (row ∷ rows) w
+pub intent_goes_on : IsItemLaw → (s : ScenarioValue) (rows : List Row) (row : Row) (v w : IntentValue) (e : RowEffect) (shown : List Event) → w.dev ≡ v.dev → w.wish ≡ wish_after v.dev v.retries v.call v.wish e.change e.before e.after row.dev row.time shown → w.call ≡ call_after v.call e.change row → w.since ≡ (if is_news e.change e.before e.after shown then my_since w.wish.book else v.since) → w.callee ≡ (if is_news e.change e.before e.after shown then target_by w.wish.book w.wish.aim else v.callee) → e ≡ effect (row ∷ rows) → IsPlain s rows (run_state s rows) → IsPlain s (row ∷ rows) (run_state s (row ∷ rows)) → hearing_of (run_state s rows) row (row_reading (run_state s rows).story.bus_state row) ≡ hearing rows row → AreOfDevices (row ∷ rows) → HasInitiator (connection (row ∷ rows)) → IsInitiator s v.dev v.retries → shown ≡ events_of_row s rows row → IsIntentOf s rows v → IsIntentOf s (row ∷ rows) w
 intent_goes_on items s rows row v w e shown dev wish called since callee is p q heard d ends i told h =
     let few : retries_of s.hosts v.dev < 255 = subst (λ (n : ℕ). n < 255) i.retries_are i.few in
     let x = wish_goes_on items s rows row v.dev v.wish p q heard d i.is_one few i.below ends h.wish_is in
-    let y : wish_after v.dev (retries_of s.hosts v.dev) (call rows) v.wish (change_of rows row) (connection rows) (connection (row ∷ rows)) row.dev row.time (events_shown s rows row) ≡ w.wish =
+    let y : wish_after v.dev (retries_of s.hosts v.dev) (call rows) v.wish (change_of rows row) (connection rows) (connection (row ∷ rows)) row.dev row.time (events_of_row s rows row) ≡ w.wish =
     (λ j. wish_after v.dev (sym i.retries_are j) (sym h.call_is j) v.wish (sym is j).change (sym is j).before (sym is j).after row.dev row.time (sym told j)) ∙ sym wish in
     record {
       wish_is = subst (λ (z : ℕ). IsWishOf s z (row ∷ rows) w.wish) (sym dev) (subst (λ (z : Wish). IsWishOf s v.dev (row ∷ rows) z) y x);
@@ -98,7 +98,7 @@ no_news c (Some m) after h = go (rises c.own.bsy c.next.bsy) c.before.sel
     go false sel = refl
 
 pub intent_stays : IsItemLaw → (s : ScenarioValue) (rows : List Row) (row : Row) (v w : IntentValue) (e : RowEffect)
-    → w ≡ record v { call = call_after v.call e.change row } → e ≡ effect (row ∷ rows) → is_some (connection rows) ≡ true → [] ≡ events_shown s rows row
+    → w ≡ record v { call = call_after v.call e.change row } → e ≡ effect (row ∷ rows) → is_some (connection rows) ≡ true → [] ≡ events_of_row s rows row
     → IsPlain s rows (run_state s rows) → IsPlain s (row ∷ rows) (run_state s (row ∷ rows)) → hearing_of (run_state s rows) row (row_reading (run_state s rows).story.bus_state row) ≡ hearing rows row
     → AreOfDevices (row ∷ rows) → HasInitiator (connection (row ∷ rows)) → IsInitiator s v.dev v.retries → IsIntentOf s rows v → IsIntentOf s (row ∷ rows) w
 intent_stays items s rows row v w e same is stands none p q heard d ends i h =

@@ -22,7 +22,6 @@ mod WishRows
 mod Sendings
 mod Hosts
 mod ByteRuns
-mod CarriedLists
 mod HeldSteps
 mod OwnedLinks
 mod TransferSteps

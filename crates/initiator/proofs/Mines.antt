@@ -11,7 +11,7 @@ use Rattle.bus_base.specs.declared.Event.TheVariants as events
 use Rattle.scenario.specs.declared.value.CmdDef.{CmdDef}
 use Rattle.scenario.specs.Value.{ScenarioValue}
 use Rattle.bus_story.specs.Items.{Sent, process, command_item, sense_item, has_item, count_item, is_open}
-use Rattle.bus_story.specs.Story.{Story, Ending, by_status, by_abort, by_reset, story_with_over, story_with_end, story_with_ends, is_aborted, is_sense_stopped, story_after_event}
+use Rattle.bus_story.specs.Story.{Story, Ending, by_status, by_abort, by_reset, story_with_over, story_with_end, story_with_ends, is_aborted, is_sense_stopped, story_after_event, story_with_end_if}
 use Rattle.bus_due.specs.Wants.{own_command, own_commands}
 use Rattle.initiator.specs.declared.mine.Mine.{Mine}
 use Rattle.initiator.specs.Mines.{capped, mine_of, mines_of, with_sent, with_over, with_one_try, with_checked, with_status, is_check, sent_at, over_at, tried_at, mine_with_end, is_mine_aborted, is_my_sense_stopped, mine_after_event}
@@ -94,9 +94,7 @@ all_tried b n dev commands =
 
 unfoldable pub step : (CmdDef → Bool) → (CmdDef → Bool) → Ending → ℕ → CmdDef → Story → Story
 step drops stops e n c b =
-    if is_open b.sent n && drops c then story_with_end b (record { command = n; sense = false }) e
-    else if stops c && list_any (λ k. k == n) b.sent.checks then story_with_over b (sense_item n)
-    else b
+    story_with_end_if drops stops e n c b
 
 other_over : (b : Sent) (n : ℕ) (senses : Bool) (m : ℕ) (d : CmdDef) → (n == m) ≡ false → mine (record b { over = process (record { command = n; sense = senses }) ∷ b.over }) m d ≡ mine b m d
 other_over b n senses m d e = one_over b n senses m d ∙ ap (λ (q : Bool). if q then with_over senses (mine b m d) else mine b m d) e

@@ -1,7 +1,6 @@
 -- The bytes of data that each process moved change by a byte of data alone, and by a message taken back.
 use Rattle.std.proofs.Common.{ℕ, ◌≡◌, ◌+◌, ◌<◌, ◌≤◌, Bool, true, false, List, [], ◌∷◌, ◌∙◌, refl, sym, subst, arith, length, Option, Some, None}
 use Rattle.std.specs.Prelude.{if◌then◌else◌, not, ◌&&◌, ◌==◌, ◌++◌, ◌%◌, ⊤, is_some, is_none, nat_lt, slice_set}
-use Rattle.std.specs.List.{list_any}
 use Rattle.std.proofs.lemmas.Bool.Decides.{nat_tests}
 use Rattle.std.proofs.lemmas.List.{length-set, length-append}
 use Rattle.bus_base.specs.declared.ProcId.{ProcId}
@@ -15,14 +14,10 @@ use Rattle.bus_trace.specs.declared.Kind.TheVariants.{Drives, Fault}
 use Rattle.bus_trace.specs.declared.Row.{Row}
 use Rattle.bus_trace.specs.declared.changes.Change.{Change}
 use Rattle.bus_trace.specs.declared.connection.Connection.{Connection}
-use Rattle.bus_trace.specs.declared.selection.Call.{Call}
-use Rattle.bus_trace.specs.declared.selection.Calling.{Calling}
-use Rattle.bus_trace.specs.Changes.{rises, falls}
 use Rattle.bus_trace.specs.Terms.{receiver_of}
 use Rattle.msg_grammar.specs.declared.message.MsgOut.{MsgOut}
 use Rattle.msg_grammar.specs.declared.message.MsgIn.{MsgIn}
 use Rattle.msg_grammar.specs.declared.message.MsgIn.TheVariants as to_initiator
-use Rattle.scenario.specs.declared.value.CmdDef.{CmdDef}
 use Rattle.scenario.specs.Value.{ScenarioValue}
 use Rattle.disk_array.specs.Processes.{same_id}
 use Rattle.bus_phases.specs.declared.dialogue.Dialogue.{Dialogue}
@@ -31,23 +26,20 @@ use Rattle.msg_grammar.specs.Messages.{got_out, got_in}
 use Rattle.bus_phases.specs.Dialogue.{fresh_bytes}
 use Rattle.bus_story.specs.CarriedBytes.{Area, CarriedBytes, bytes_with, area_with, carried_of, with_carried, with_restored_pointers, carried_after_message, carried_after_fault}
 use Rattle.bus_story.specs.HistoryEvents.{carried_if}
-use Rattle.bus_story.specs.Items.{Item, process, abort, sense_item, is_open, count_item}
+use Rattle.bus_story.specs.Items.{Item, process, abort}
 use Rattle.bus_story.specs.Links.{Link, link_of, last_out, last_in, link_after_name}
-use Rattle.bus_story.specs.Story.{Story, Ending, by_status, by_abort, by_reset, story_with_over, story_with_end, story_with_ends, is_aborted, is_sense_stopped, marked_refused, marked_shown, story_after_event, story_after_events}
-use Rattle.bus_story.specs.TraceHistory.{aim_of, retries_of, is_counted, story_with_aim, story_without_answer, story_with_try, story_after_calling, story_after_calling_by, story_on_free_bus, story_with_restored, story_with_sent, story_after_connection, story_with_carried, story_after_out, story_after_message, story_after_name, story_after_in, story_after_byte, story_after_crossing, story_after_fault, story_in_connection, story_on_bus, story_by_change, is_parity_error, carried_after_message_if, carried_after_byte_if, carried_after_fault_if}
+use Rattle.bus_story.specs.Story.{Story, by_status, by_abort, by_reset, story_with_end, is_aborted, is_sense_stopped, marked_refused, marked_shown, story_after_event, story_after_events}
+use Rattle.bus_story.specs.TraceHistory.{aim_of, story_with_restored, story_with_sent, story_after_connection, story_with_carried, story_after_out, story_after_message, story_after_name, story_after_in, story_after_byte, story_after_crossing, story_after_fault, story_in_connection, story_on_bus, story_by_change, is_parity_error, carried_after_message_if, carried_after_byte_if, carried_after_fault_if}
 use Rattle.bus_due.specs.RunState.{item_of}
-use Rattle.bus_due.specs.RunSteps.{run_state}
+use Rattle.bus_due.specs.RunSteps.{run_state, events_of_row}
 use Rattle.bus_due.specs.Telling.{id_of}
 use Rattle.initiator.specs.Received.{undone_by, has_bytes_of}
-use Rattle.initiator.specs.Wishes.{events_shown}
-use Rattle.initiator.proofs.CarriedLists.{carried_id, carried_with}
-use Rattle.initiator.proofs.StoryEnds.{free_link}
-use Rattle.initiator.proofs.OwnedLinks.{begun_link, name_link, fault_link}
+use Rattle.bus_story.proofs.CarriedLists.{carried_id, carried_with}
+use Rattle.initiator.proofs.OwnedLinks.{begun_link, name_link}
 use Rattle.bus_base.proofs.Tests.{length_more}
-use Rattle.initiator.proofs.Mines.{step}
-use Rattle.bus_story.proofs.StorySteps.{byte_link, out_link, events_link, sent_carried}
+use Rattle.bus_story.proofs.StorySteps.{byte_link, out_link, events_link, sent_carried, free_carried, message_id, free_link, fault_link, ends_carried}
+use Rattle.bus_story.proofs.SameBytes.{bytes_are}
 use Rattle.disk_array.proofs.SeatLookups.{same_id_is}
-use Rattle.initiator.proofs.OutcomeReplies.{bytes_are}
 
 -- ---- no pointer stands past the bytes
 
@@ -125,16 +117,6 @@ connection_stays t byte b n = go n.reselected
     go : (q : Bool) → Stays t byte b.carried (if q then record b { link = Some (link_of n None) } else story_with_restored (story_with_sent (record b { link = Some (link_of n (aim_of b.aims n.initiator)) }) (aim_of b.aims n.initiator)) (aim_of b.aims n.initiator)).carried
     go true = stays t byte b.carried
     go false = selected (aim_of b.aims n.initiator)
-
-pub message_id : (k : CarriedBytes) (m : MsgIn) → (carried_after_message k m).id ≡ k.id
-message_id k to_initiator.SavePointer = refl
-message_id k to_initiator.RestorePointers = refl
-message_id k (to_initiator.Identify lun) = refl
-message_id k (to_initiator.SimpleTag n) = refl
-message_id k to_initiator.CommandComplete = refl
-message_id k to_initiator.Disconnect = refl
-message_id k (to_initiator.Sdtr a) = refl
-message_id k to_initiator.Reject = refl
 
 message_bytes : (k : CarriedBytes) (m : MsgIn) → (carried_after_message k m).moved.bytes ≡ k.moved.bytes
 message_bytes k to_initiator.SavePointer = refl
@@ -307,40 +289,6 @@ connected_moves s t b (Some l) d row reads h x = go d.crosses
     go true = crossing_moves s t b l d reads h x
     go false = fault_stays t _ b l row.kind
 
--- ---- on a free bus
-
-pub try_carried : (s : ScenarioValue) (b : Story) (d : ℕ) (item : Option Item) → (story_with_try s b d item).carried ≡ b.carried
-try_carried s b d None = refl
-try_carried s b d (Some item) = go (is_counted item && nat_lt (retries_of s.hosts d) (count_item (item ∷ b.sent.tries) item))
-  where
-    by_item : (i : Item) → (story_without_answer (record b { sent = record b.sent { tries = i ∷ b.sent.tries } }) i).carried ≡ b.carried
-    by_item (process id) = refl
-    by_item (abort k) = refl
-
-    go : (q : Bool) → (if q then story_without_answer (record b { sent = record b.sent { tries = item ∷ b.sent.tries } }) item else record b { sent = record b.sent { tries = item ∷ b.sent.tries } }).carried ≡ b.carried
-    go true = by_item item
-    go false = refl
-
-pub calling_carried : (s : ScenarioValue) (b : Story) (c : Option Call) → (story_after_calling s b c).carried ≡ b.carried
-calling_carried s b None = refl
-calling_carried s b (Some c) = by_calling c.calling
-  where
-    by_calling : (k : Option Calling) → (story_after_calling_by s b c.caller k).carried ≡ b.carried
-    by_calling None = refl
-    by_calling (Some k) = go (is_none k.answered && not k.reselects)
-      where
-        go : (q : Bool) → (if q then story_with_try s b c.caller (aim_of b.aims c.caller) else b).carried ≡ b.carried
-        go true = try_carried s b c.caller (aim_of b.aims c.caller)
-        go false = refl
-
-pub free_carried : (s : ScenarioValue) (b : Story) (d : RowReading) (row : Row) → (story_on_free_bus s b d row).carried ≡ b.carried
-free_carried s b d row = go (rises d.change.own.bsy d.change.next.bsy && not d.change.before.sel && is_none b.bus_state.connection) (falls d.change.before.sel d.change.after.sel)
-  where
-    go : (p q : Bool) → (if p then story_with_aim s b row else if q then story_after_calling s b b.bus_state.call else b).carried ≡ b.carried
-    go true q = refl
-    go false true = calling_carried s b b.bus_state.call
-    go false false = refl
-
 -- ---- a row before its events
 
 -- A byte of data crosses, and the connection stays.
@@ -385,16 +333,6 @@ change_moves s t b d row reads h x = go d.change.after.rst
     go false = on_bus b.bus_state.connection refl d.next
 
 -- ---- events
-
-ends_carried : (drops stops : CmdDef → Bool) (e : Ending) (n : ℕ) (commands : List CmdDef) (b : Story) → (story_with_ends drops stops e n commands b).carried ≡ b.carried
-unfolding step
-ends_carried drops stops e n [] b = refl
-ends_carried drops stops e n (c ∷ commands) b = ends_carried drops stops e (n + 1) commands (step drops stops e n c b) ∙ go (is_open b.sent n && drops c) (stops c && list_any (λ k. k == n) b.sent.checks)
-  where
-    go : (p q : Bool) → (if p then story_with_end b (record { command = n; sense = false }) e else if q then story_with_over b (sense_item n) else b).carried ≡ b.carried
-    go true q = refl
-    go false true = refl
-    go false false = refl
 
 same_stays : (t : Bool) (byte : ℕ) (all others : List CarriedBytes) → others ≡ all → Stays t byte all others
 same_stays t byte all others e = subst (λ (z : List CarriedBytes). Stays t byte all z) (sym e) (stays t byte all)
@@ -507,7 +445,7 @@ placed_are s (row ∷ rows) =
     let b : Story = (run_state s rows).story in
     let d : RowReading = row_reading b.bus_state row in
     let c : Story = story_by_change s b d row in
-    let shown : List Event = events_shown s rows row in
+    let shown : List Event = events_of_row s rows row in
     let before = placed_are s rows in
     let untested : false ≡ true → has_bytes_of b.carried (undone_by b.link d.out) ≡ true = λ z. no z in
     record {
@@ -527,4 +465,4 @@ row_moves s rows row h =
     let c : Story = story_by_change s b d row in
     followed true (if brings d then id_of (item_of b.link) else None) (d.change.after.data_bits % 256) b.carried c.carried _
     (change_moves s true b d row (reading_of b row) (λ z. h) (placed_are s rows).undo)
-    (events_stay s true (d.change.after.data_bits % 256) c (events_shown s rows row))
+    (events_stay s true (d.change.after.data_bits % 256) c (events_of_row s rows row))

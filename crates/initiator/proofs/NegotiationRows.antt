@@ -16,8 +16,7 @@ use Rattle.bus_story.specs.BusState.{RowReading, row_reading}
 use Rattle.bus_story.specs.TraceHistory.{aim_of}
 use Rattle.bus_due.specs.Plain.{IsPlain}
 use Rattle.bus_due.specs.RunState.{RunState}
-use Rattle.bus_due.specs.RunSteps.{run_state, is_for_process, negotiated_by_connection}
-use Rattle.initiator.specs.Wishes.{events_shown}
+use Rattle.bus_due.specs.RunSteps.{run_state, is_for_process, negotiated_by_connection, events_of_row}
 use Rattle.bus_due.specs.LastingState.{Negotiated, none_negotiated, has_negotiated, with_negotiated, pairs_without, negotiated_after_event, negotiated_after}
 use Rattle.initiator.specs.Negotiations.{NegotiationsValue, no_negotiations, had_in, had_by_connection, had_after_abort, had_after_event, had_after_events, negotiations_after, HasHad, IsNegotiationsOf, aims_at_process}
 use Rattle.bus_base.proofs.Tests.{put_at}
@@ -192,18 +191,18 @@ version_had v process None (Some n) = go n.reselected (n.initiator == v.dev) pro
 pub negotiations_start : (s : ScenarioValue) (dev : ℕ) → IsNegotiationsOf s [] (no_negotiations dev s.version)
 negotiations_start s dev = record { version_is = refl; kept = starts_kept dev s.version }
 
-pub negotiations_go_on : (s : ScenarioValue) (rows : List Row) (row : Row) (v : NegotiationsValue) (process : Bool) (before after : Option Connection) (shown : List Event) → IsPlain s rows (run_state s rows) → IsPlain s (row ∷ rows) (run_state s (row ∷ rows)) → before ≡ connection rows → after ≡ connection (row ∷ rows) → process ≡ aims_at_process s rows v.dev → shown ≡ events_shown s rows row → IsNegotiationsOf s rows v → IsNegotiationsOf s (row ∷ rows) (negotiations_after v process before after shown)
+pub negotiations_go_on : (s : ScenarioValue) (rows : List Row) (row : Row) (v : NegotiationsValue) (process : Bool) (before after : Option Connection) (shown : List Event) → IsPlain s rows (run_state s rows) → IsPlain s (row ∷ rows) (run_state s (row ∷ rows)) → before ≡ connection rows → after ≡ connection (row ∷ rows) → process ≡ aims_at_process s rows v.dev → shown ≡ events_of_row s rows row → IsNegotiationsOf s rows v → IsNegotiationsOf s (row ∷ rows) (negotiations_after v process before after shown)
 negotiations_go_on s rows row v process before after shown p q b a e told h =
     let k : RunState = run_state s rows in
     let d : RowReading = row_reading k.story.bus_state row in
     let x : HasHad (negotiated_by_connection k k.story.bus_state.connection d.next) (had_by_connection v process k.story.bus_state.connection d.next) = by_connection k v process k.story.bus_state.connection d.next e h.kept in
     let w : NegotiationsValue = had_by_connection v process k.story.bus_state.connection d.next in
     let same : w.version ≡ s.version = version_had v process k.story.bus_state.connection d.next ∙ h.version_is in
-    let y : HasHad (negotiated_after s.version (negotiated_by_connection k k.story.bus_state.connection d.next) (events_shown s rows row)) (had_after_events w (events_shown s rows row)) =
-    subst (λ (n : ℕ). HasHad (negotiated_after n (negotiated_by_connection k k.story.bus_state.connection d.next) (events_shown s rows row)) (had_after_events w (events_shown s rows row))) same (events_kept (negotiated_by_connection k k.story.bus_state.connection d.next) w (events_shown s rows row) x) in
+    let y : HasHad (negotiated_after s.version (negotiated_by_connection k k.story.bus_state.connection d.next) (events_of_row s rows row)) (had_after_events w (events_of_row s rows row)) =
+    subst (λ (n : ℕ). HasHad (negotiated_after n (negotiated_by_connection k k.story.bus_state.connection d.next) (events_of_row s rows row)) (had_after_events w (events_of_row s rows row))) same (events_kept (negotiated_by_connection k k.story.bus_state.connection d.next) w (events_of_row s rows row) x) in
     let first : k.story.bus_state.connection ≡ before = p.connection ∙ sym b in
     let last : d.next ≡ after = q.connection ∙ sym a in
-    let path : had_after_events w (events_shown s rows row) ≡ negotiations_after v process before after shown = λ i. had_after_events (had_by_connection v process (first i) (last i)) (sym told i) in
+    let path : had_after_events w (events_of_row s rows row) ≡ negotiations_after v process before after shown = λ i. had_after_events (had_by_connection v process (first i) (last i)) (sym told i) in
     record {
       version_is = version_stays (had_by_connection v process before after) shown ∙ version_had v process before after ∙ h.version_is;
       kept = subst (λ (z : NegotiationsValue). HasHad (run_state s (row ∷ rows)).negotiated z) path y;

@@ -13,26 +13,27 @@ use Rattle.bus_trace.specs.Terms.{connection}
 use Rattle.cdb_codec.specs.declared.status.TheConstants.{GOOD, CHECK_CONDITION}
 use Rattle.cdb_codec.specs.declared.sense.TheConstants.{ABORTED_COMMAND}
 use Rattle.cdb_codec.specs.Cdb.{command_of}
-use Rattle.scenario.specs.declared.value.HostDef.{HostDef}
 use Rattle.scenario.specs.declared.value.UnitDef.{UnitDef}
 use Rattle.scenario.specs.Value.{ScenarioValue}
 use Rattle.disk_array.specs.Processes.{Process, process_of}
 use Rattle.disk_array.specs.Contents.{Contents}
-use Rattle.disk_array.specs.Execution.{Reply, Execution, execution, is_request_sense, check_condition, queue_full, sense_of, commands_cleared}
-use Rattle.disk_array.specs.Units.{RunningProcess, UnitState, Nexus, Array, sense_of_nexus, senses_without, nexuses_without, is_held, unit_state_at, with_unit, guest_at, nexus_of, units_after_choice, starting_units}
-use Rattle.disk_array.specs.Steps.{process_count, with_guest, with_listed_reply, queue_step, accept_step_at, accept_step, refuse_step_at, refuse_step, context_at, with_contents, without_attention, units_with_reply, with_reply, running_process, after_execution, after_execution_at, run_step, is_waiting, has_ended, fail_step_of_new, fail_step, units_without, array_without, after_status, end_step_with, end_step, loss_step, kept_units, is_of_unit, has_tag, is_reset_pending, reset_attention, cleared_attention, reset_attentions, unit_reset_attentions, cleared_attentions, without_dropped, unit_processes, kept_nexuses, kept_senses, abort_step, reset_step, event_step, settled_array_if}
+use Rattle.disk_array.specs.Execution.{Reply, Execution, execution, is_request_sense, check_condition, queue_full, sense_of}
+use Rattle.disk_array.specs.Units.{RunningProcess, UnitState, Nexus, Array, nexuses_without, is_held, unit_state_at, with_unit, guest_at, nexus_of, units_after_choice, starting_units}
+use Rattle.disk_array.specs.Steps.{process_count, with_guest, with_listed_reply, queue_step, accept_step_at, accept_step, refuse_step_at, refuse_step, context_at, with_contents, without_attention, units_with_reply, with_reply, running_process, after_execution, after_execution_at, run_step, is_waiting, has_ended, fail_step_of_new, fail_step, units_without, array_without, after_status, end_step_with, end_step, loss_step, kept_units, is_of_unit, has_tag, without_dropped, unit_processes, kept_nexuses, kept_senses, abort_step, reset_step, event_step, settled_array_if}
 use Rattle.disk_array.specs.ArrayHistory.{array_step}
 use Rattle.bus_story.specs.HistoryEvents.{row_events_by}
 use Rattle.bus_story.specs.BusState.{row_reading}
 use Rattle.bus_due.specs.RunState.{or_start, array_of, RunState}
 use Rattle.bus_due.specs.RunSteps.{array_after_events, run_state}
-use Rattle.bus_due.specs.Wants.{current_of, since_of, seek_of, ready_among, ready_of}
+use Rattle.bus_due.specs.Wants.{since_of, seek_of, ready_among, ready_of}
 use Rattle.bus_dialogue.specs.Wants.{Ready, ready_in, ready_by}
 use Rattle.scsi_device.specs.NoUnits.{has_unit, HasNoUnit}
 use Rattle.initiator.specs.States.{IsNoTarget}
-use Rattle.bus_base.proofs.Tests.{and_first}
+use Rattle.bus_base.proofs.Tests.{and_first, or_none_first, or_none_second}
 use Rattle.disk_array.proofs.SeatEvents.{status_units}
 use Rattle.disk_array.proofs.SeatSteps.{choice_target}
+use Rattle.disk_array.specs.Seats.{current_of}
+use Rattle.disk_array.proofs.ArrayUnits.{cleared_units, unit_reset_units}
 
 -- ---- the units of a device
 
@@ -45,19 +46,11 @@ abbrev has_unit_state_if : Option Array → ℕ → Bool
 has_unit_state_if None dev = false
 has_unit_state_if (Some a) dev = has_unit_state a.units dev
 
-or_left : (a b : Bool) → (a || b) ≡ false → a ≡ false
-or_left false b h = refl
-or_left true b h = cc
-
-or_right : (a b : Bool) → (a || b) ≡ false → b ≡ false
-or_right false b h = h
-or_right true b h = cc
-
 found_no_unit : (units : List UnitState) (dev n : ℕ) → has_unit_state units dev ≡ false → unit_state_at units dev n ≡ None
 found_no_unit [] dev n h = refl
 found_no_unit (u ∷ units) dev n h =
-    (λ i. if or_left (u.target == dev) (has_unit_state units dev) h i && u.unit == n then Some u else unit_state_at units dev n)
-    ∙ found_no_unit units dev n (or_right (u.target == dev) (has_unit_state units dev) h)
+    (λ i. if or_none_first (u.target == dev) (has_unit_state units dev) h i && u.unit == n then Some u else unit_state_at units dev n)
+    ∙ found_no_unit units dev n (or_none_second (u.target == dev) (has_unit_state units dev) h)
 
 starting_targets : (s : ScenarioValue) (units : List UnitDef) (dev : ℕ) → has_unit_state (starting_units s units) dev ≡ has_unit units dev
 starting_targets s [] dev = refl
@@ -92,32 +85,6 @@ choice_targets holds [] dev = refl
 choice_targets holds (u ∷ units) dev = λ i. choice_target holds u i == dev || choice_targets holds units dev i
 
 -- ---- the attentions leave the units
-
-either_units : (x : Bool) (a b : Array) (units : List UnitState) → a.units ≡ units → b.units ≡ units → (if x then a else b).units ≡ units
-either_units true a b units h k = h
-either_units false a b units h k = k
-
-cleared_attention_units : (a : Array) (nexus : Nexus) → (cleared_attention a nexus).units ≡ a.units
-cleared_attention_units a nexus =
-    either_units (is_reset_pending (sense_of_nexus a.attentions nexus)) a
-    (record a { attentions = (nexus, commands_cleared) ∷ senses_without a.attentions nexus }) a.units refl refl
-
-pub cleared_units : (initiator : ℕ) (lost : List Process) (a : Array) → (cleared_attentions initiator lost a).units ≡ a.units
-cleared_units initiator [] a = refl
-cleared_units initiator (p ∷ lost) a =
-    cleared_units initiator lost (if p.initiator == initiator then a else cleared_attention a (nexus_of p))
-    ∙ either_units (p.initiator == initiator) a (cleared_attention a (nexus_of p)) a.units refl (cleared_attention_units a (nexus_of p))
-
-reset_units : (hosts : List HostDef) (target unit : ℕ) (a : Array) → (reset_attentions hosts target unit a).units ≡ a.units
-reset_units [] target unit a = refl
-reset_units (h ∷ hosts) target unit a =
-    reset_units hosts target unit (reset_attention a (record { initiator = h.dev; target = target; unit = unit }))
-
-pub unit_reset_units : (hosts : List HostDef) (units : List UnitState) (is_one : UnitState → Bool) (a : Array) → (unit_reset_attentions hosts units is_one a).units ≡ a.units
-unit_reset_units hosts [] is_one a = refl
-unit_reset_units hosts (u ∷ units) is_one a =
-    unit_reset_units hosts units is_one (if is_one u then reset_attentions hosts u.target u.unit a else a)
-    ∙ either_units (is_one u) (reset_attentions hosts u.target u.unit a) a a.units (reset_units hosts u.target u.unit a) refl
 
 without_attention_units : (a : Array) (reported : Bool) (nexus : Nexus) → (without_attention a reported nexus).units ≡ a.units
 without_attention_units a true nexus = refl

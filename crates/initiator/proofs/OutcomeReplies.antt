@@ -1,41 +1,31 @@
 -- The outcome of a command is what the rows tell, where what came to its initiator is the reply.
-use Rattle.std.proofs.Common.{ℕ, ◌≡◌, Bool, true, false, List, [], ◌∷◌, ◌∙◌, refl, Option, Some, None}
-use Rattle.std.specs.Prelude.{if◌then◌else◌, not, ◌&&◌, ◌||◌, ◌==◌}
-use Rattle.std.proofs.lemmas.Bool.{eqb-true}
+use Rattle.std.proofs.Common.{ℕ, ◌≡◌, Bool, true, false, List, ◌∙◌, refl, Option, Some, None}
+use Rattle.std.specs.Prelude.{if◌then◌else◌, not, ◌||◌, ◌==◌}
 use Rattle.cdb_codec.specs.declared.status.TheConstants.{GOOD, QUEUE_FULL}
 use Rattle.scenario.specs.Value.{ScenarioValue}
 use Rattle.bus_story.specs.Outcomes as told
 use Rattle.bus_story.specs.Outcomes.{ended_good, ended_check, ended_full, sense_in, has_end, reply_bytes, outcome_if, ending_of}
-use Rattle.bus_story.specs.Right.{same_bytes}
 use Rattle.bus_story.specs.Story.{Story}
+use Rattle.bus_story.specs.Items.{sense_id, command_id}
+use Rattle.bus_story.proofs.SameBytes.{bytes_are}
 use Rattle.initiator.specs.declared.endings.CommandEnd.{CommandEnd}
 use Rattle.initiator.specs.declared.endings.Ending.{Ending}
 use Rattle.initiator.specs.declared.endings.Ending.TheVariants as ends
 use Rattle.initiator.specs.declared.outcome.Outcome.TheVariants as outcomes
-use Rattle.initiator.specs.Endings.{told_ending_if, sense_of, IsEndOf}
+use Rattle.initiator.specs.Endings.{told_ending_if, IsEndOf}
 use Rattle.initiator.specs.Outcomes as own
-use Rattle.initiator.specs.Outcomes.{is_settled, told_outcome_if, is_good, command_of, is_reply_of, are_replies, settled_outcome, outcome_after}
+use Rattle.initiator.specs.Outcomes.{is_settled, told_outcome_if, is_good, is_reply_of, are_replies, settled_outcome, outcome_after}
 use Rattle.bus_base.proofs.Tests.{and_first, and_second}
-
-pub bytes_are : (a b : List ℕ) → same_bytes a b ≡ true → a ≡ b
-bytes_are [] [] h = refl
-bytes_are [] (y ∷ b) h = cc
-bytes_are (x ∷ a) [] h = cc
-bytes_are (x ∷ a) (y ∷ b) h = go (x == y) refl h (λ z. bytes_are a b z)
-  where
-    go : (q : Bool) → (x == y) ≡ q → (q && same_bytes a b) ≡ true → (same_bytes a b ≡ true → a ≡ b) → x ∷ a ≡ y ∷ b
-    go true e z r = λ i. eqb-true x y e i ∷ r z i
-    go false e z r = cc
 
 -- What is told of a command with this status.
 abbrev IsTold : ScenarioValue → Story → ℕ → ℕ → Bool → List ℕ → List ℕ → Type 0
 IsTold s b n status sensed bytes sense =
     told_outcome_if (Some (own.outcome_by_status status sensed bytes sense)) ≡ Some (told.outcome_by_status s b.history n status)
 
-status_told : (s : ScenarioValue) (b : Story) (n status : ℕ) (sensed : Bool) (bytes sense : List ℕ) → sensed ≡ has_end b.history (sense_of n) → ((status == GOOD) ≡ true → bytes ≡ reply_bytes s b.history (command_of n)) → (sensed ≡ true → sense ≡ reply_bytes s b.history (sense_of n)) → IsTold s b n status sensed bytes sense
+status_told : (s : ScenarioValue) (b : Story) (n status : ℕ) (sensed : Bool) (bytes sense : List ℕ) → sensed ≡ has_end b.history (sense_id n) → ((status == GOOD) ≡ true → bytes ≡ reply_bytes s b.history (command_id n)) → (sensed ≡ true → sense ≡ reply_bytes s b.history (sense_id n)) → IsTold s b n status sensed bytes sense
 status_told s b n status sensed bytes sense h good known = go (status == GOOD) refl (status == QUEUE_FULL)
   where
-    of_sense : (q : Bool) → sensed ≡ q → (if q then sense_in sense else None) ≡ (if q then sense_in (reply_bytes s b.history (sense_of n)) else None)
+    of_sense : (q : Bool) → sensed ≡ q → (if q then sense_in sense else None) ≡ (if q then sense_in (reply_bytes s b.history (sense_id n)) else None)
     of_sense true e = λ i. sense_in (known e i)
     of_sense false e = refl
 
@@ -44,9 +34,9 @@ status_told s b n status sensed bytes sense h good known = go (status == GOOD) r
     go false e true = refl
     go false e false =
         (λ i. Some (ended_check (of_sense sensed refl i)))
-        ∙ (λ i. Some (ended_check (if h i then sense_in (reply_bytes s b.history (sense_of n)) else None)))
+        ∙ (λ i. Some (ended_check (if h i then sense_in (reply_bytes s b.history (sense_id n)) else None)))
 
-ending_told : (s : ScenarioValue) (b : Story) (n : ℕ) (e : Option Ending) (sensed : Bool) (bytes sense : List ℕ) → sensed ≡ has_end b.history (sense_of n) → (is_good e ≡ true → bytes ≡ reply_bytes s b.history (command_of n)) → (sensed ≡ true → sense ≡ reply_bytes s b.history (sense_of n)) → told_outcome_if (own.outcome_if e sensed bytes sense) ≡ outcome_if s b.history n (told_ending_if e)
+ending_told : (s : ScenarioValue) (b : Story) (n : ℕ) (e : Option Ending) (sensed : Bool) (bytes sense : List ℕ) → sensed ≡ has_end b.history (sense_id n) → (is_good e ≡ true → bytes ≡ reply_bytes s b.history (command_id n)) → (sensed ≡ true → sense ≡ reply_bytes s b.history (sense_id n)) → told_outcome_if (own.outcome_if e sensed bytes sense) ≡ outcome_if s b.history n (told_ending_if e)
 ending_told s b n None sensed bytes sense h good known = refl
 ending_told s b n (Some (ends.Status status)) sensed bytes sense h good known = status_told s b n status sensed bytes sense h good known
 ending_told s b n (Some ends.Loss) sensed bytes sense h good known = refl
@@ -61,15 +51,15 @@ outcome_told s b n x over bytes sense h replies = go (is_settled x over)
     reply true t z e = z
     reply false t z e = cc
 
-    good : is_good x.ending ≡ true → bytes ≡ reply_bytes s b.history (command_of n)
+    good : is_good x.ending ≡ true → bytes ≡ reply_bytes s b.history (command_id n)
     good e =
-        bytes_are bytes (reply_bytes s b.history (command_of n))
-        (reply (is_good x.ending) (is_reply_of s b.history (command_of n) bytes) (and_first (not (is_good x.ending) || is_reply_of s b.history (command_of n) bytes) (not x.sense_ended || is_reply_of s b.history (sense_of n) sense) replies) e)
+        bytes_are bytes (reply_bytes s b.history (command_id n))
+        (reply (is_good x.ending) (is_reply_of s b.history (command_id n) bytes) (and_first (not (is_good x.ending) || is_reply_of s b.history (command_id n) bytes) (not x.sense_ended || is_reply_of s b.history (sense_id n) sense) replies) e)
 
-    known : x.sense_ended ≡ true → sense ≡ reply_bytes s b.history (sense_of n)
+    known : x.sense_ended ≡ true → sense ≡ reply_bytes s b.history (sense_id n)
     known e =
-        bytes_are sense (reply_bytes s b.history (sense_of n))
-        (reply x.sense_ended (is_reply_of s b.history (sense_of n) sense) (and_second (not (is_good x.ending) || is_reply_of s b.history (command_of n) bytes) (not x.sense_ended || is_reply_of s b.history (sense_of n) sense) replies) e)
+        bytes_are sense (reply_bytes s b.history (sense_id n))
+        (reply x.sense_ended (is_reply_of s b.history (sense_id n) sense) (and_second (not (is_good x.ending) || is_reply_of s b.history (command_id n) bytes) (not x.sense_ended || is_reply_of s b.history (sense_id n) sense) replies) e)
 
     ended : told_outcome_if (own.outcome_if x.ending x.sense_ended bytes sense) ≡ outcome_if s b.history n (ending_of b.ended n)
     ended = ending_told s b n x.ending x.sense_ended bytes sense h.sense_is good known ∙ (λ i. outcome_if s b.history n (h.ending_is i))

@@ -5,8 +5,6 @@ use Rattle.std.proofs.lemmas.Bool.{and_parts, ltb-true, eqb-true, eqb-false, eq-
 use Rattle.bus_base.specs.declared.Event.{Event}
 use Rattle.bus_base.specs.declared.Event.TheVariants as events
 use Rattle.bus_base.specs.declared.ProcId.{ProcId}
-use Rattle.bus_story.specs.Items.{tag_number_if}
-use Rattle.bus_story.specs.Links.{same_number}
 use Rattle.bus_reactions.specs.Reactions.{time_if}
 use Rattle.initiator.specs.declared.mine.Mine.{Mine}
 use Rattle.initiator.specs.declared.mine.OwnItem.TheVariants as own
@@ -16,7 +14,8 @@ use Rattle.initiator.specs.Mines.{is_open_mine, open_mines, is_done_mine, may_fo
 use Rattle.initiator.specs.Openings.{mine_at}
 use Rattle.initiator.specs.OwnLinks.{is_open_sense_of, named_in}
 use Rattle.initiator.specs.Wishes.{tries_in, target_in}
-use Rattle.bus_base.proofs.Tests.{and_false}
+use Rattle.bus_base.proofs.Tests.{and_false, none_between}
+use Rattle.disk_array.specs.Order.{same_number, tag_number}
 
 -- ---- where each stands
 
@@ -278,15 +277,10 @@ open_before_fresh (m ∷ xs) ys h = go (open_before_fresh xs ys h) (is_open_mine
     go r true = λ i. m ∷ r i
     go r false = r
 
--- The process that a target names.
-skipped : (a b : Bool) → (a && false && b) ≡ false
-skipped true b = refl
-skipped false b = refl
-
 name_skips : (m : Mine) (mines : List Mine) (target unit : ℕ) (tag : Option ℕ) → is_open_mine m ≡ false → is_open_sense_of m ≡ false → named_in (m ∷ mines) target unit tag ≡ named_in mines target unit tag
 name_skips m mines target unit tag no_command no_sense =
-    (λ i. if is_at_unit_of m target unit && no_command i && same_number (tag_number_if m.tag) tag then Some (own.Command m.number) else if is_at_unit_of m target unit && no_sense i && same_number None tag then Some (own.Sense m.number) else named_in mines target unit tag)
-    ∙ (λ i. if skipped (is_at_unit_of m target unit) (same_number (tag_number_if m.tag) tag) i then Some (own.Command m.number) else if skipped (is_at_unit_of m target unit) (same_number None tag) i then Some (own.Sense m.number) else named_in mines target unit tag)
+    (λ i. if is_at_unit_of m target unit && no_command i && same_number (tag_number m.tag) tag then Some (own.Command m.number) else if is_at_unit_of m target unit && no_sense i && same_number None tag then Some (own.Sense m.number) else named_in mines target unit tag)
+    ∙ (λ i. if none_between (is_at_unit_of m target unit) (same_number (tag_number m.tag) tag) i then Some (own.Command m.number) else if none_between (is_at_unit_of m target unit) (same_number None tag) i then Some (own.Sense m.number) else named_in mines target unit tag)
 
 pub named_after_past : (xs ys : List Mine) (target unit : ℕ) (tag : Option ℕ) → all_past xs ≡ true → named_in (xs ++ ys) target unit tag ≡ named_in ys target unit tag
 named_after_past [] ys target unit tag h = refl
@@ -303,7 +297,7 @@ fresh_unnamed (m ∷ ys) target unit tag h =
 pub named_before_fresh : (xs ys : List Mine) (target unit : ℕ) (tag : Option ℕ) → all_fresh ys ≡ true → named_in (xs ++ ys) target unit tag ≡ named_in xs target unit tag
 named_before_fresh [] ys target unit tag h = fresh_unnamed ys target unit tag h
 named_before_fresh (m ∷ xs) ys target unit tag h =
-    go (named_before_fresh xs ys target unit tag h) (is_at_unit_of m target unit && is_open_mine m && same_number (tag_number_if m.tag) tag) (is_at_unit_of m target unit && is_open_sense_of m && same_number None tag)
+    go (named_before_fresh xs ys target unit tag h) (is_at_unit_of m target unit && is_open_mine m && same_number (tag_number m.tag) tag) (is_at_unit_of m target unit && is_open_sense_of m && same_number None tag)
   where
     go : named_in (xs ++ ys) target unit tag ≡ named_in xs target unit tag → (p q : Bool) → (if p then Some (own.Command m.number) else if q then Some (own.Sense m.number) else named_in (xs ++ ys) target unit tag) ≡ (if p then Some (own.Command m.number) else if q then Some (own.Sense m.number) else named_in xs target unit tag)
     go r true q = refl

@@ -7,8 +7,6 @@ use Rattle.bus_base.specs.declared.ProcId.{ProcId}
 use Rattle.bus_base.specs.declared.Event.{Event}
 use Rattle.bus_base.specs.declared.Event.TheVariants as events
 use Rattle.bus_trace.specs.declared.Row.{Row}
-use Rattle.bus_trace.specs.declared.Kind.{Kind}
-use Rattle.bus_trace.specs.declared.Kind.TheVariants.{Drives, Fault}
 use Rattle.bus_trace.specs.declared.changes.Change.{Change}
 use Rattle.bus_trace.specs.declared.connection.Connection.{Connection}
 use Rattle.bus_trace.specs.declared.selection.Call.{Call}
@@ -20,20 +18,21 @@ use Rattle.cdb_codec.specs.declared.status.TheConstants.{CHECK_CONDITION}
 use Rattle.scenario.specs.declared.value.CmdDef.{CmdDef}
 use Rattle.scenario.specs.Value.{ScenarioValue}
 use Rattle.disk_array.specs.Processes.{command_at}
+use Rattle.disk_array.specs.Order.{same_number, tag_number}
 use Rattle.bus_story.specs.BusState.{RowReading, row_reading}
-use Rattle.bus_story.specs.Items.{Item, process, abort, Sent, command_item, sense_item, is_open, is_of_host, tag_number_if}
-use Rattle.bus_story.specs.Links.{Link, link_of, last_out, last_in, same_number, is_open_sense, named_item_from, link_after_name}
+use Rattle.bus_story.specs.Items.{Item, process, abort, Sent, command_item, sense_item, is_open, is_of_host}
+use Rattle.bus_story.specs.Links.{Link, link_of, last_out, last_in, is_open_sense, named_item_from, link_after_name}
 use Rattle.bus_story.specs.CarriedBytes.{CarriedBytes}
 use Rattle.bus_story.specs.Story.{Story, Ending, by_abort, by_reset, by_status, story_with_end, story_with_over, story_with_ends, is_aborted, is_sense_stopped, story_after_event, story_after_events}
 use Rattle.bus_story.specs.HistoryEvents.{carried_if}
-use Rattle.bus_story.specs.TraceHistory.{aim_of, is_parity_error, carried_after_message_if, carried_after_byte_if, carried_after_fault_if, story_with_restored, story_with_sent, story_after_connection, story_with_carried, story_after_out, story_after_message, story_after_name, story_after_in, story_after_byte, story_after_fault, story_after_crossing, story_in_connection, story_on_bus, story_by_change}
-use Rattle.bus_due.specs.RunSteps.{run_state}
+use Rattle.bus_story.specs.TraceHistory.{aim_of, is_parity_error, carried_after_message_if, carried_after_byte_if, story_with_restored, story_with_sent, story_after_connection, story_with_carried, story_after_out, story_after_message, story_after_name, story_after_in, story_after_byte, story_after_fault, story_after_crossing, story_in_connection, story_on_bus, story_by_change}
+use Rattle.bus_due.specs.RunSteps.{run_state, events_of_row}
 use Rattle.bus_due.specs.Plain.{AreOfDevices}
-use Rattle.initiator.specs.Wishes.{IsItemIf, AreAims, events_shown}
-use Rattle.initiator.proofs.CarriedLists.{carried_id}
+use Rattle.initiator.specs.Wishes.{IsItemIf, AreAims}
+use Rattle.bus_story.proofs.CarriedLists.{carried_id}
 use Rattle.initiator.proofs.WishRows.{aims_are}
 use Rattle.initiator.proofs.Mines.{step}
-use Rattle.bus_story.proofs.StorySteps.{restored_link, sent_link, byte_link, out_link, events_link, carried_link, event_link}
+use Rattle.bus_story.proofs.StorySteps.{restored_link, sent_link, byte_link, out_link, events_link, carried_link, event_link, fault_link}
 
 -- ---- what each device last entered arbitration for, whatever its number
 
@@ -93,8 +92,8 @@ named_own s b dev target unit tag k (c ∷ commands) h =
     pick e x false false = x
 
     go : (o : Bool) → (c.host == dev) ≡ o → IsItemIf s dev (named_item_from b dev target unit tag (k + 1) commands)
-        → IsItemIf s dev (if (o && c.target == target && c.unit == unit) && is_open b k && same_number (tag_number_if c.tag) tag then Some (command_item k) else if (o && c.target == target && c.unit == unit) && is_open_sense b k && same_number None tag then Some (sense_item k) else named_item_from b dev target unit tag (k + 1) commands)
-    go true e x = pick e x ((c.target == target && c.unit == unit) && is_open b k && same_number (tag_number_if c.tag) tag) ((c.target == target && c.unit == unit) && is_open_sense b k && same_number None tag)
+        → IsItemIf s dev (if (o && c.target == target && c.unit == unit) && is_open b k && same_number (tag_number c.tag) tag then Some (command_item k) else if (o && c.target == target && c.unit == unit) && is_open_sense b k && same_number None tag then Some (sense_item k) else named_item_from b dev target unit tag (k + 1) commands)
+    go true e x = pick e x ((c.target == target && c.unit == unit) && is_open b k && same_number (tag_number c.tag) tag) ((c.target == target && c.unit == unit) && is_open_sense b k && same_number None tag)
     go false e x = x
 
 named_first : (s : ScenarioValue) (b : Sent) (dev i target unit : ℕ) (tag : Option ℕ) → i ≡ dev → IsItemIf s dev (named_item_from b i target unit tag 1 s.commands)
@@ -128,10 +127,6 @@ message_link s b l m = carried_link (record b { link = Some l }) (carried_after_
 pub name_link : (s : ScenarioValue) (b : Story) (l next : Link) (m : MsgIn) → (story_after_name s b l next m).link ≡ Some (record next { last = last_in m; before = l.last; undo = carried_if b l.item })
 name_link s b l next m =
     message_link s (if is_none l.item then story_with_restored b next.item else b) (record next { last = last_in m; before = l.last; undo = carried_if b l.item }) m
-
-pub fault_link : (b : Story) (l : Link) (k : Kind) → (story_after_fault b l k).link ≡ b.link
-fault_link b l (Drives lines) = refl
-fault_link b l (Fault bit) = carried_link b (carried_after_fault_if (carried_if b l.item) b.bus_state.crossed)
 
 owned_by : (s : ScenarioValue) (dev : ℕ) (x : Option Link) (l : Link) → x ≡ Some l → IsOwned s dev l → IsOwnedIf s dev x
 owned_by s dev x l e h = subst (λ (y : Option Link). IsOwnedIf s dev y) (sym e) h
@@ -222,5 +217,5 @@ links_are s [] h = tt
 links_are s (row ∷ rows) h =
     let b : Story = (run_state s rows).story in
     let d : RowReading = row_reading b.bus_state row in
-    subst (λ (x : Option Link). IsOwnedOn s d.next x) (sym (events_link s (story_by_change s b d row) (events_shown s rows row)))
+    subst (λ (x : Option Link). IsOwnedOn s d.next x) (sym (events_link s (story_by_change s b d row) (events_of_row s rows row)))
     (change_owned s b row (aims_are s rows h.1) (links_are s rows h.1))

@@ -21,9 +21,10 @@ use Rattle.initiator.specs.Books.{BookValue}
 use Rattle.initiator.specs.Commands.{is_past, is_fresh, all_past, all_fresh}
 use Rattle.initiator.specs.Endings.{ended_so, with_sense_end, end_at, ends_with, ends_with_sense, is_named, ends_of_mines, ends_after_event, ends_after_events, ends_after, ends_after_from, have_ended, told_ending_if, AreEndingsOf}
 use Rattle.initiator.specs.Mines.{mine_of, mines_of}
-use Rattle.initiator.proofs.EndingRows.{with_at, with_sense_at, mines_from}
+use Rattle.initiator.proofs.EndingRows.{with_at, with_sense_at}
 use Rattle.initiator.proofs.OwnCommands.{fresh_parts}
 use Rattle.initiator.proofs.StoryEnds.{are_ended}
+use Rattle.initiator.proofs.Mines.{mines_from}
 
 -- ---- of none of which nothing has been sent
 

@@ -12,6 +12,7 @@ use Rattle.initiator.specs.declared.mine.Mine.{Mine}
 use Rattle.initiator.specs.Mines.{mine_of, mines_of}
 use Rattle.initiator.specs.Books.{is_sense_due, my_sense, has_number, queue_with, queue_from}
 use Rattle.bus_base.proofs.Tests.{or_false, length_more}
+use Rattle.bus_dialogue.specs.PhaseBytes.{one_if}
 
 -- ---- which sense comes first
 
@@ -68,15 +69,11 @@ kept_first (Some n) b c h = refl
 
 -- ---- there is room: the numbers in it are different, and each is below this one
 
-abbrev bit : Bool → ℕ
-bit true = 1
-bit false = 0
-
 abbrev count_in : ℕ → List ℕ → ℕ
 count_in zero queue = 0
-count_in (suc b) queue = bit (list_any (λ k. k == b) queue) + count_in b queue
+count_in (suc b) queue = one_if (list_any (λ k. k == b) queue) + count_in b queue
 
-small : (q : Bool) → bit q ≤ 1
+small : (q : Bool) → one_if q ≤ 1
 small true = omega arith
 small false = omega arith
 
@@ -89,7 +86,7 @@ missing zero n queue h e = omega (arith, h)
 missing (suc b) n queue h e =
     elim (cases_eq n b) [
       | inl x ↦
-          let none : bit (list_any (λ k. k == b) queue) ≡ 0 = ap (λ (z : ℕ). bit (list_any (λ k. k == z) queue)) (sym x) ∙ ap (λ (q : Bool). bit q) e in
+          let none : one_if (list_any (λ k. k == b) queue) ≡ 0 = ap (λ (z : ℕ). one_if (list_any (λ k. k == z) queue)) (sym x) ∙ ap (λ (q : Bool). one_if q) e in
           omega (arith, none, at_most b queue)
       | inr x ↦ omega (arith, small (list_any (λ k. k == b) queue), missing b n queue (omega (arith, h, x)) e)
     ]
@@ -105,7 +102,7 @@ stays : (b n : ℕ) (queue : List ℕ) → b ≤ n → count_in b (queue ++ n �
 stays zero n queue h = refl
 stays (suc b) n queue h =
     let other : list_any (λ k. k == b) (queue ++ n ∷ []) ≡ list_any (λ k. k == b) queue = any_with queue n b ∙ (λ i. list_any (λ k. k == b) queue || ne_eqb n b (λ z. omega (arith, z, h)) i) ∙ or_false (list_any (λ k. k == b) queue) in
-    λ i. bit (other i) + stays b n queue (omega (arith, h)) i
+    λ i. one_if (other i) + stays b n queue (omega (arith, h)) i
 
 grows : (b n : ℕ) (queue : List ℕ) → n < b → list_any (λ k. k == n) queue ≡ false → count_in b (queue ++ n ∷ []) ≡ count_in b queue + 1
 grows zero n queue h e = omega (arith, h)
@@ -114,12 +111,12 @@ grows (suc b) n queue h e =
       | inl x ↦
           let none : list_any (λ k. k == b) queue ≡ false = ap (λ (z : ℕ). list_any (λ k. k == z) queue) (sym x) ∙ e in
           let now : list_any (λ k. k == b) (queue ++ n ∷ []) ≡ true = any_with queue n b ∙ (λ i. none i || eq-eqb n b x i) in
-          let was : bit (list_any (λ k. k == b) queue) ≡ 0 = ap (λ (q : Bool). bit q) none in
-          let is : bit (list_any (λ k. k == b) (queue ++ n ∷ [])) ≡ 1 = ap (λ (q : Bool). bit q) now in
+          let was : one_if (list_any (λ k. k == b) queue) ≡ 0 = ap (λ (q : Bool). one_if q) none in
+          let is : one_if (list_any (λ k. k == b) (queue ++ n ∷ [])) ≡ 1 = ap (λ (q : Bool). one_if q) now in
           omega (arith, was, is, stays b n queue (omega (arith, x)))
       | inr x ↦
           let other : list_any (λ k. k == b) (queue ++ n ∷ []) ≡ list_any (λ k. k == b) queue = any_with queue n b ∙ (λ i. list_any (λ k. k == b) queue || ne_eqb n b x i) ∙ or_false (list_any (λ k. k == b) queue) in
-          let same : bit (list_any (λ k. k == b) (queue ++ n ∷ [])) ≡ bit (list_any (λ k. k == b) queue) = ap (λ (q : Bool). bit q) other in
+          let same : one_if (list_any (λ k. k == b) (queue ++ n ∷ [])) ≡ one_if (list_any (λ k. k == b) queue) = ap (λ (q : Bool). one_if q) other in
           omega (arith, same, grows b n queue (omega (arith, h, x)) e)
     ]
 

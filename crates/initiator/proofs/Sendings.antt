@@ -6,10 +6,11 @@ use Rattle.bus_base.specs.declared.ProcId.{ProcId}
 use Rattle.bus_trace.specs.LineSet.{LineSet}
 use Rattle.bus_trace.specs.Phases.{is_message_out, is_command}
 use Rattle.scenario.specs.declared.value.CmdDef.{CmdDef}
-use Rattle.scenario.specs.Needs.{sent_of}
+use Rattle.scenario.specs.Needs.{sent_of, sent_count}
 use Rattle.scenario.specs.declared.value.Tag.TheVariants as tags
 use Rattle.scenario.specs.Value.{ScenarioValue}
 use Rattle.disk_array.specs.Processes.{payload_bytes, command_at, sense_block, process_by, process_if}
+use Rattle.disk_array.proofs.SeatLookups.{never_first}
 use Rattle.bus_story.specs.Items.{Item, process, abort, is_of_host}
 use Rattle.bus_dialogue.specs.Exchange.{Speech, next_word}
 use Rattle.bus_dialogue.specs.Sending.{byte_to_send}
@@ -19,19 +20,15 @@ use Rattle.bus_due.specs.Telling.{id_of}
 use Rattle.scsi_device.specs.Lines.{IsCommandLine}
 use Rattle.scsi_device.proofs.Places.{held_place}
 use Rattle.scsi_device.proofs.SentBytes.{sent_few}
-use Rattle.initiator.specs.OwnBytes.{CommandBytesValue, no_bytes, sense_bytes, sent_count, bytes_of_command, bytes_if_own, bytes_of_commands, own_bytes, sending_from}
+use Rattle.initiator.specs.OwnBytes.{CommandBytesValue, no_bytes, sense_bytes, bytes_of_command, bytes_if_own, bytes_of_commands, own_bytes, sending_from}
 use Rattle.initiator.specs.States.{AreSameBytes}
 use Rattle.initiator.specs.Transfers.{active_of}
 use Rattle.initiator.specs.Wishes.{IsItemIf}
 
 -- ---- the bytes of a command of its own
 
-no_command : (commands : List CmdDef) (c : CmdDef) → command_at commands zero ≡ Some c → ⊥
-no_command [] c e = cc
-no_command (d ∷ commands) c e = cc
-
 bytes_at : (s : ScenarioValue) (dev : ℕ) (commands : List CmdDef) (n : ℕ) (c : CmdDef) → command_at commands n ≡ Some c → (c.host == dev) ≡ true → slice_index_or (no_bytes ∷ bytes_of_commands s dev commands) n no_bytes ≡ bytes_of_command s c
-bytes_at s dev commands zero c e own = absurd (no_command commands c e)
+bytes_at s dev commands zero c e own = absurd (never_first commands c e)
 bytes_at s dev [] (suc n) c e own = cc
 bytes_at s dev (d ∷ commands) (suc zero) c e own =
     let same : d ≡ c = some_is d c e in

@@ -3,12 +3,12 @@ use Rattle.std.proofs.Common.{ℕ, ◌≡◌, ◌∙◌, refl, sym, Bool, true, 
 use Rattle.std.specs.Prelude.{if◌then◌else◌, ◌==◌}
 use Rattle.std.proofs.lemmas.Bool.{eqb-true}
 use Rattle.scenario.specs.declared.value.HostDef.{HostDef}
-use Rattle.bus_trace.specs.Changes.{change_of}
 use Rattle.bus_story.specs.TraceHistory.{aim_of}
 use Rattle.bus_due.specs.Defs
 use Rattle.bus_trace.specs.declared.Row.{Row}
 use Rattle.bus_trace.specs.declared.connection.Connection.{Connection}
-use Rattle.bus_trace.specs.Terms.{call, connection, connection_after}
+use Rattle.bus_trace.specs.Terms.{connection}
+use Rattle.bus_trace.proofs.Connections.{connection_stays}
 use Rattle.scenario.specs.Value.{ScenarioValue}
 use Rattle.bus_story.specs.BusState.{RowReading, row_reading}
 use Rattle.bus_dialogue.specs.Exchange.{Speech, no_speech, speech_of}
@@ -36,14 +36,6 @@ speech_begins s rows row n p q x y =
     let d : RowReading = row_reading k.story.bus_state row in
     λ i. (exchange_after s k row d ((p.connection ∙ x) i) ((q.connection ∙ y) i) (leaving_of s k ((p.connection ∙ x) i))).speech
 
--- In a connection of its own that goes on, it was so before the row.
-went_on : (rows : List Row) (row : Row) (m n : Connection) → connection rows ≡ Some m → connection (row ∷ rows) ≡ Some n → m ≡ n
-went_on rows row m n x y = go (change_of rows row).after.bsy ((λ i. connection_after (sym x i) (call rows) (change_of rows row) row) ∙ y)
-  where
-    go : (b : Bool) → (if b then Some m else None) ≡ Some n → m ≡ n
-    go true e = cc
-    go false e = cc
-
 pub speeches_go_on : (s : ScenarioValue) (rows : List Row) (row : Row) (h : HostDef) (opening : List ℕ) (p : Speech) → IsPlain s rows (run_state s rows) → IsPlain s (row ∷ rows) (run_state s (row ∷ rows)) → hearing_of (run_state s rows) row (row_reading (run_state s rows).story.bus_state row) ≡ hearing rows row → host_of s h.dev ≡ Some h → IsOpeningOf s rows row h.dev opening → IsSpeechOf s rows h.dev p
     → (before after : Option Connection) → before ≡ connection rows → after ≡ connection (row ∷ rows) → IsSpeechOf s (row ∷ rows) h.dev (speech_by h opening (hearing rows row) before after p)
 speeches_go_on s rows row h opening p plain next heard host first old before None b a n own = (let bad : None ≡ Some n = a ∙ own.stands in cc)
@@ -64,7 +56,7 @@ speeches_go_on s rows row h opening p plain next heard host first old None (Some
 speeches_go_on s rows row h opening p plain next heard host first old (Some m) (Some k) b a n own =
     let same : k ≡ n = (let e : Some k ≡ Some n = a ∙ own.stands in cc) in
     let mine : (k.initiator == h.dev) ≡ true = (λ i. (same i).initiator == h.dev) ∙ own.own in
-    let stood : m ≡ k = went_on rows row m k (sym b) (sym a) in
+    let stood : m ≡ k = connection_stays rows row m k (sym b) (sym a) in
     let ours : (m.initiator == h.dev) ≡ true = (λ i. (stood i).initiator == h.dev) ∙ mine in
     let known : p ≡ speech_at s rows = old m (record { stands = sym b; own = ours }) in
     let line : host_of s k.initiator ≡ Some h = (λ i. host_of s (eqb-true k.initiator h.dev mine i)) ∙ host in

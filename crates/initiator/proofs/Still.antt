@@ -15,9 +15,10 @@ use Rattle.bus_dialogue.specs.declared.exchange.Hearing.{Hearing}
 use Rattle.bus_dialogue.specs.Exchange.{Speech}
 use Rattle.bus_dialogue.specs.Hearing.{hearing}
 use Rattle.bus_dialogue.specs.Speaking.{speech_in_phase, speech_with_byte, speech_after}
+use Rattle.bus_dialogue.specs.Events.{is_empty}
 use Rattle.bus_due.specs.Plain.{IsPlain, AreOfDevices}
 use Rattle.bus_due.specs.RunState.{item_of}
-use Rattle.bus_due.specs.RunSteps.{run_state}
+use Rattle.bus_due.specs.RunSteps.{run_state, events_of_row}
 use Rattle.bus_due.specs.Sights.{hearing_of}
 use Rattle.bus_due.specs.Telling.{id_of}
 use Rattle.initiator.specs.declared.endings.CommandEnd.{CommandEnd}
@@ -27,13 +28,12 @@ use Rattle.initiator.specs.declared.own_link.OwnLink.{OwnLink}
 use Rattle.initiator.specs.Books.{my_book}
 use Rattle.initiator.specs.Endings.{AreEndingsOf}
 use Rattle.initiator.specs.Hosts.{HostValue, IsHostAfter, HasHeard, hears_nothing}
-use Rattle.initiator.specs.Intents.{IntentValue, IsIntentOf, is_empty}
+use Rattle.initiator.specs.Intents.{IntentValue, IsIntentOf}
 use Rattle.initiator.specs.Negotiations.{aims_at_process}
 use Rattle.initiator.specs.OwnLinks.{own_link}
 use Rattle.initiator.specs.Received.{BufferPairValue, AreReceived, received_after}
 use Rattle.initiator.specs.Speeches.{speech_by, IsSpeechOf, IsOpeningOf}
 use Rattle.initiator.specs.Transfers.{TransfersValue, transfers_after, transfers_after_crossing, transfers_in_link, transfers_on_bus, IsTransfersOf}
-use Rattle.initiator.specs.Wishes.{events_shown}
 use Rattle.scsi_device.specs.Itself.{ItselfValue, IsItselfOf}
 use Rattle.initiator.proofs.EndingRows.{endings_stay}
 use Rattle.initiator.proofs.Hosts.{host_goes_on}
@@ -42,13 +42,9 @@ use Rattle.initiator.proofs.ReceivedRows.{quiet, received_goes_on}
 use Rattle.initiator.proofs.Speeches.{speeches_go_on}
 use Rattle.initiator.proofs.TransferRows.{transfers_go_on}
 use Rattle.std.proofs.lemmas.Bool.{or_right, or_left}
-use Rattle.bus_base.proofs.Tests.{and_second}
+use Rattle.bus_base.proofs.Tests.{and_second, not_first}
 
 -- ---- what the test says
-
-no_rst : (r y : Bool) → (not r && y) ≡ true → r ≡ false
-no_rst true y e = cc
-no_rst false y e = refl
 
 no_byte : (r a b c d : Bool) → (not r && ((not a && not b) || not (c || d))) ≡ true → (a || b) ≡ true → c ≡ false
 no_byte true a b c d e x = cc
@@ -87,7 +83,7 @@ still_link mines h (Some l) v e = λ i. if e i then transfers_after_crossing min
 
 still_transfers : (mines : List Mine) (aim : Option OwnItem) (h : Hearing) (m n : Connection) (v : TransfersValue) → hears_nothing v.dev h (Some m) (Some n) ≡ true → transfers_after mines aim h (Some m) (Some n) v ≡ v
 still_transfers mines aim h m n v e =
-    (λ i. if no_rst h.change.after.rst _ e i then record v { link = None } else transfers_on_bus mines aim h (Some m) (Some n) v)
+    (λ i. if not_first h.change.after.rst _ e i then record v { link = None } else transfers_on_bus mines aim h (Some m) (Some n) v)
     ∙ go (n.initiator == v.dev) refl
   where
     go : (q : Bool) → (n.initiator == v.dev) ≡ q → (if q then transfers_in_link mines h v.link v else v) ≡ v
@@ -107,7 +103,7 @@ still_received dev w m n l v place e = go (m.initiator == dev) refl
 -- ---- the rows
 
 pub still_heard : (s : ScenarioValue) (rows : List Row) (row : Row) (v : HostValue) (w : Hearing) (before after : Option Connection) (shown : List Event) → IsPlain s rows (run_state s rows) → IsPlain s (row ∷ rows) (run_state s (row ∷ rows)) → hearing_of (run_state s rows) row (row_reading (run_state s rows).story.bus_state row) ≡ hearing rows row
-    → AreOfDevices (row ∷ rows) → w ≡ hearing rows row → before ≡ connection rows → after ≡ connection (row ∷ rows) → shown ≡ events_shown s rows row → (is_empty shown && hears_nothing v.def.dev w before after) ≡ true → IsHostAfter s rows v → HasHeard s rows row v
+    → AreOfDevices (row ∷ rows) → w ≡ hearing rows row → before ≡ connection rows → after ≡ connection (row ∷ rows) → shown ≡ events_of_row s rows row → (is_empty shown && hears_nothing v.def.dev w before after) ≡ true → IsHostAfter s rows v → HasHeard s rows row v
 still_heard s rows row v w before after (x ∷ shown) p q heard d told b a events e h = cc
 still_heard s rows row v w None after [] p q heard d told b a events e h = cc
 still_heard s rows row v w (Some m) None [] p q heard d told b a events e h = cc
@@ -137,7 +133,7 @@ still_heard s rows row v w (Some m) (Some n) [] p q heard d told b a events e h 
 
 -- A row in a connection that shows no event, and that it has heard.
 pub linked_goes_on : (s : ScenarioValue) (rows : List Row) (row : Row) (v m : HostValue) (itself : ItselfValue) (intent : IntentValue) → m.def ≡ v.def → m.bytes ≡ v.bytes → m.endings ≡ v.endings → IsPlain s rows (run_state s rows)
-    → is_some (connection rows) ≡ true → [] ≡ events_shown s rows row
+    → is_some (connection rows) ≡ true → [] ≡ events_of_row s rows row
     → itself.dev ≡ v.itself.dev → intent.dev ≡ v.intent.dev → intent.retries ≡ v.intent.retries → IsItselfOf s (row ∷ rows) itself → IsIntentOf s (row ∷ rows) intent
     → IsHostAfter s rows v → HasHeard s rows row m → IsHostAfter s (row ∷ rows) (record m { itself = itself; intent = intent })
 linked_goes_on s rows row v m itself intent def bytes ends p stands none itself_dev intent_dev retries itself_is intent_is h w =
@@ -145,10 +141,6 @@ linked_goes_on s rows row v m itself intent def bytes ends p stands none itself_
     (subst (λ (z : List CommandEnd). AreEndingsOf s (row ∷ rows) v.def.dev z) (sym ends) (endings_stay s rows row v.def.dev v.endings p stands none h.endings_are)) h w
 
 -- ---- what the tests say of the rows
-
-pub empty_is : (shown : List Event) → is_empty shown ≡ true → shown ≡ []
-empty_is [] e = refl
-empty_is (x ∷ shown) e = cc
 
 -- In a connection of others a row tells nothing while RST is false.
 pub others_tell_nothing : (dev : ℕ) (w : Hearing) (before after : Option Connection) (m n : Connection) → before ≡ Some m → after ≡ Some n → (m.initiator == dev) ≡ false → (n.initiator == dev) ≡ false → w.change.after.rst ≡ false → hears_nothing dev w before after ≡ true

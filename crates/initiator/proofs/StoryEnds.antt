@@ -27,12 +27,11 @@ use Rattle.bus_story.specs.Links.{Link, link_of, last_out, last_in, link_after_n
 use Rattle.bus_story.specs.Outcomes.{ending_of}
 use Rattle.bus_story.specs.Story.{Story, Ending, by_status, by_loss, by_abort, by_reset, unanswered, is_ended, with_ending, story_with_over, story_with_end, story_with_ends, is_aborted, is_sense_stopped, story_after_event, story_after_events}
 use Rattle.bus_story.specs.TraceHistory.{aim_of, retries_of, is_counted, story_with_aim, story_without_answer, story_with_try, story_after_calling, story_after_calling_by, story_on_free_bus, story_with_restored, story_with_sent, story_after_connection, story_with_carried, story_after_out, story_after_message, story_after_name, story_after_in, story_after_byte, story_after_crossing, story_after_fault, story_in_connection, story_on_bus, story_by_change, is_parity_error, carried_after_message_if, carried_after_byte_if, carried_after_fault_if}
-use Rattle.bus_due.specs.RunSteps.{run_state}
-use Rattle.initiator.specs.Intents.{is_empty}
-use Rattle.initiator.specs.Wishes.{events_shown}
+use Rattle.bus_due.specs.RunSteps.{run_state, events_of_row}
 use Rattle.initiator.proofs.Wishes.{IsCaller}
 use Rattle.initiator.proofs.Mines.{step}
-use Rattle.bus_story.proofs.StorySteps.{events_link}
+use Rattle.bus_story.proofs.StorySteps.{events_link, free_link}
+use Rattle.bus_dialogue.specs.Events.{is_empty}
 
 -- ---- the first ending stays
 
@@ -203,11 +202,6 @@ ends_at drops stops e commands b zero h =
     ∙ (λ i. ended_if (has_item b.sent.sent (command_item 0) && drops_if drops (no_first commands i)) (ending_of b.ended 0) e)
 ends_at drops stops e commands b (suc j) h = ends_from drops stops e 1 commands b j (suc j) (omega arith) h
 
-ends_sent : (drops stops : CmdDef → Bool) (e : Ending) (k : ℕ) (commands : List CmdDef) (b : Story) → (story_with_ends drops stops e k commands b).sent.sent ≡ b.sent.sent
-unfolding step
-ends_sent drops stops e k [] b = refl
-ends_sent drops stops e k (c ∷ commands) b = ends_sent drops stops e (k + 1) commands (step drops stops e k c b) ∙ step_sent drops stops e k c b
-
 -- ---- an event
 
 pub event_keeps : (s : ScenarioValue) (b : Story) (e : Event) → AreEnded b → AreEnded (story_after_event s b e)
@@ -223,20 +217,6 @@ event_keeps s b (events.End id status) h = go (not id.sense && status == CHECK_C
 event_keeps s b (events.Lost id) h = end_keeps b id by_loss h
 event_keeps s b (events.Aborted host target unit what) h = ends_keep (is_aborted host target unit what) (is_sense_stopped host target unit what) by_abort 1 s.commands b h
 event_keeps s b (events.Reset dev) h = ends_keep (λ c. true) (λ c. true) by_reset 1 s.commands b h
-
-pub event_sent : (s : ScenarioValue) (b : Story) (e : Event) → (story_after_event s b e).sent.sent ≡ b.sent.sent
-event_sent s b (events.Accept id) = refl
-event_sent s b (events.Refuse id) = refl
-event_sent s b (events.Run id) = refl
-event_sent s b (events.Fail id code) = refl
-event_sent s b (events.End id status) = go (not id.sense && status == CHECK_CONDITION)
-  where
-    go : (q : Bool) → (if q then record (story_with_end b id (by_status status)) { sent = record (story_with_end b id (by_status status)).sent { checks = b.sent.checks ++ id.command ∷ [] } } else story_with_end b id (by_status status)).sent.sent ≡ b.sent.sent
-    go true = refl
-    go false = refl
-event_sent s b (events.Lost id) = refl
-event_sent s b (events.Aborted host target unit what) = ends_sent (is_aborted host target unit what) (is_sense_stopped host target unit what) by_abort 1 s.commands b
-event_sent s b (events.Reset dev) = ends_sent (λ c. true) (λ c. true) by_reset 1 s.commands b
 
 -- The ending of a command after an event, by what it was, whether it is sent, and which command it is.
 abbrev pub ending_after : Event → Option CmdDef → Bool → ℕ → Option Ending → Option Ending
@@ -263,10 +243,6 @@ event_ends s b (events.Reset dev) n h = ends_at (λ c. true) (λ c. true) by_res
 pub events_keep : (s : ScenarioValue) (b : Story) (shown : List Event) → AreEnded b → AreEnded (story_after_events s b shown)
 events_keep s b [] h = h
 events_keep s b (e ∷ shown) h = event_keeps s (story_after_events s b shown) e (events_keep s b shown h)
-
-pub events_sent : (s : ScenarioValue) (b : Story) (shown : List Event) → (story_after_events s b shown).sent.sent ≡ b.sent.sent
-events_sent s b [] = refl
-events_sent s b (e ∷ shown) = event_sent s (story_after_events s b shown) e ∙ events_sent s b shown
 
 -- ---- what leaves endings
 
@@ -402,18 +378,6 @@ try_keeps s b d (Some item) h = go (is_counted item && nat_lt (retries_of s.host
     go true = by_item item
     go false = record { over = λ n. h.over n }
 
-try_link : (s : ScenarioValue) (b : Story) (d : ℕ) (item : Option Item) → (story_with_try s b d item).link ≡ b.link
-try_link s b d None = refl
-try_link s b d (Some item) = go (is_counted item && nat_lt (retries_of s.hosts d) (count_item (item ∷ b.sent.tries) item))
-  where
-    by_item : (i : Item) → (story_without_answer (record b { sent = record b.sent { tries = i ∷ b.sent.tries } }) i).link ≡ b.link
-    by_item (process id) = refl
-    by_item (abort k) = refl
-
-    go : (q : Bool) → (if q then story_without_answer (record b { sent = record b.sent { tries = item ∷ b.sent.tries } }) item else record b { sent = record b.sent { tries = item ∷ b.sent.tries } }).link ≡ b.link
-    go true = by_item item
-    go false = refl
-
 calling_calls : (s : ScenarioValue) (b : Story) (n : ℕ) (c : Option Call) → IsCaller c → Calls b (story_after_calling s b c) n
 calling_calls s b n None lt = same refl
 calling_calls s b n (Some c) lt = by_calling c.calling
@@ -437,18 +401,6 @@ calling_keeps s b (Some c) h = by_calling c.calling
         go : (q : Bool) → AreEnded (if q then story_with_try s b c.caller (aim_of b.aims c.caller) else b)
         go true = try_keeps s b c.caller (aim_of b.aims c.caller) h
         go false = h
-
-calling_link : (s : ScenarioValue) (b : Story) (c : Option Call) → (story_after_calling s b c).link ≡ b.link
-calling_link s b None = refl
-calling_link s b (Some c) = by_calling c.calling
-  where
-    by_calling : (k : Option Calling) → (story_after_calling_by s b c.caller k).link ≡ b.link
-    by_calling None = refl
-    by_calling (Some k) = go (is_none k.answered && not k.reselects)
-      where
-        go : (q : Bool) → (if q then story_with_try s b c.caller (aim_of b.aims c.caller) else b).link ≡ b.link
-        go true = try_link s b c.caller (aim_of b.aims c.caller)
-        go false = refl
 
 -- ---- a row before its events
 
@@ -475,14 +427,6 @@ free_keeps s b d row h = go (rises d.change.own.bsy d.change.next.bsy && not d.c
     go true q = record { over = λ n. h.over n }
     go false true = calling_keeps s b b.bus_state.call h
     go false false = h
-
-pub free_link : (s : ScenarioValue) (b : Story) (d : RowReading) (row : Row) → (story_on_free_bus s b d row).link ≡ b.link
-free_link s b d row = go (rises d.change.own.bsy d.change.next.bsy && not d.change.before.sel && is_none b.bus_state.connection) (falls d.change.before.sel d.change.after.sel)
-  where
-    go : (p q : Bool) → (if p then story_with_aim s b row else if q then story_after_calling s b b.bus_state.call else b).link ≡ b.link
-    go true q = refl
-    go false true = calling_link s b b.bus_state.call
-    go false false = refl
 
 pub change_calls : (s : ScenarioValue) (b : Story) (n : ℕ) (d : RowReading) (row : Row) → IsCaller b.bus_state.call → Calls b (story_by_change s b d row) n
 change_calls s b n d row lt = go d.change.after.rst
@@ -556,12 +500,12 @@ links_stand s [] h = refl
 links_stand s (row ∷ rows) h =
     let b : Story = (run_state s rows).story in
     let d : RowReading = row_reading b.bus_state row in
-    events_link s (story_by_change s b d row) (events_shown s rows row) ∙ change_link s b d row (links_stand s rows) h
+    events_link s (story_by_change s b d row) (events_of_row s rows row) ∙ change_link s b d row (links_stand s rows) h
 
 pub are_ended : (s : ScenarioValue) (rows : List Row) → AreEnded (run_state s rows).story
 are_ended s [] = record { over = λ n. refl }
 are_ended s (row ∷ rows) =
     let b : Story = (run_state s rows).story in
     let d : RowReading = row_reading b.bus_state row in
-    let x = events_keep s (story_by_change s b d row) (events_shown s rows row) (change_keeps s b d row (are_ended s rows)) in
+    let x = events_keep s (story_by_change s b d row) (events_of_row s rows row) (change_keeps s b d row (are_ended s rows)) in
     record { over = λ n. x.over n }

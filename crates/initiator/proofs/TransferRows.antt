@@ -27,8 +27,9 @@ use Rattle.bus_story.specs.HistoryEvents.{carried_if, is_complete, is_completion
 use Rattle.bus_story.specs.TraceHistory.{aim_of, is_parity_error, carried_after_message_if, carried_after_byte_if, story_with_aim, story_after_calling_by, story_after_calling, story_on_free_bus, story_with_restored, story_with_sent, story_after_connection, story_with_carried, story_after_out, story_after_message, story_after_name, story_after_in, story_after_byte, story_after_fault, story_after_crossing, story_in_connection, story_on_bus, story_by_change}
 use Rattle.bus_dialogue.specs.declared.exchange.Hearing.{Hearing}
 use Rattle.bus_dialogue.specs.Hearing.{hearing}
+use Rattle.bus_dialogue.specs.Events.{event_if}
 use Rattle.bus_due.specs.RunState.{RunState, item_of}
-use Rattle.bus_due.specs.RunSteps.{run_state}
+use Rattle.bus_due.specs.RunSteps.{run_state, events_of_row}
 use Rattle.bus_due.specs.Sights.{hearing_of}
 use Rattle.bus_due.specs.Plain.{IsPlain, AreOfDevices}
 use Rattle.bus_due.specs.Telling.{id_of, initiator_events}
@@ -41,21 +42,18 @@ use Rattle.initiator.specs.declared.own_link.LastMessage.TheVariants as latest
 use Rattle.initiator.specs.declared.own_link.OwnLink.{OwnLink}
 use Rattle.initiator.specs.Books.{BookValue, my_book, item_if}
 use Rattle.initiator.specs.Mines.{mines_of}
-use Rattle.initiator.specs.Wishes.{IsItemIf, AreAims, events_shown}
+use Rattle.initiator.specs.Wishes.{IsItemIf, AreAims}
 use Rattle.initiator.specs.States.{IsOwnConnection}
 use Rattle.initiator.specs.HeldPointers.{restored_if, AreHeldOf}
 use Rattle.initiator.specs.OwnLinks.{process_in, new_link, last_of, IsLinkIf, own_link}
-use Rattle.initiator.specs.Transfers.{TransfersValue, transfers_begun, transfers_in_link, transfers_after_crossing, transfers_on_bus, transfers_after, process_of_link, active_at, is_last_complete, takes_complete, end_of, completion_in, IsTransfersOf, no_transfers, active_of, event_if}
+use Rattle.initiator.specs.Transfers.{TransfersValue, transfers_begun, transfers_in_link, transfers_after_crossing, transfers_on_bus, transfers_after, process_of_link, active_at, is_last_complete, takes_complete, end_of, completion_in, IsTransfersOf, no_transfers, active_of}
 use Rattle.initiator.proofs.Foreign.{not_both}
-use Rattle.initiator.proofs.CarriedLists.{carried_id}
+use Rattle.bus_story.proofs.CarriedLists.{carried_id}
 use Rattle.initiator.proofs.HeldSteps.{held_apart, held_stays, held_starts}
 use Rattle.initiator.proofs.OwnedLinks.{IsCarriedOf, IsOwned, IsOwnedIf, IsOwnedOn, carried_own, named, begun_link, aim_own, same_connection, ends_left, end_left, links_are}
 use Rattle.initiator.proofs.TransferSteps.{IsGoneOn, restored_held, byte_id, fault_held, linked, connected_goes_on}
 use Rattle.initiator.proofs.WishRows.{aims_are}
-use Rattle.initiator.proofs.MovedBytes.{calling_carried, free_carried, message_id}
-use Rattle.bus_story.proofs.StorySteps.{events_link, sent_carried}
-
--- ---- a free bus carries nothing
+use Rattle.bus_story.proofs.StorySteps.{events_link, sent_carried, calling_carried, free_carried, message_id}
 
 -- ---- a connection of its own begins
 
@@ -296,10 +294,10 @@ transfers_go_on s rows row v w book aim h before after is p q heard d told b a b
     (λ i. transfers_after book.mines aim ((heard ∙ sym told) i) ((p.connection ∙ sym b) i) ((q.connection ∙ sym a) i) v) ∙ sym is in
     let y : IsHeldOn s v.dev r.next c w = subst (λ (z : TransfersValue). IsHeldOn s v.dev r.next c z) path x in
     let same : w.dev ≡ v.dev = ap (λ (z : TransfersValue). z.dev) is ∙ transfers_dev book.mines aim h before after v in
-    let held : AreHeldOf s v.dev (run_state s (row ∷ rows)).story.carried w.held = events_held s v.dev c w.held (events_shown s rows row) y.held in
+    let held : AreHeldOf s v.dev (run_state s (row ∷ rows)).story.carried w.held = events_held s v.dev c w.held (events_of_row s rows row) y.held in
     let link : IsLinkIf v.dev (own_link v.dev (connection (row ∷ rows)) (run_state s (row ∷ rows)).story.link) w.link =
     subst (λ (z : Option Connection). IsLinkIf v.dev (own_link v.dev z (run_state s (row ∷ rows)).story.link) w.link) q.connection
-    (subst (λ (z : Option Link). IsLinkIf v.dev (own_link v.dev r.next z) w.link) (sym (events_link s c (events_shown s rows row))) y.link) in
+    (subst (λ (z : Option Link). IsLinkIf v.dev (own_link v.dev r.next z) w.link) (sym (events_link s c (events_of_row s rows row))) y.link) in
     record {
       held_are = subst (λ (z : ℕ). AreHeldOf s z (run_state s (row ∷ rows)).story.carried w.held) (sym same) held;
       link_is = subst (λ (z : ℕ). IsLinkIf z (own_link z (connection (row ∷ rows)) (run_state s (row ∷ rows)).story.link) w.link) (sym same) link;

@@ -13,9 +13,10 @@ use Rattle.msg_grammar.specs.declared.message.MsgIn.TheVariants as to_initiator
 use Rattle.scenario.specs.declared.value.CmdDef.{CmdDef}
 use Rattle.scenario.specs.Value.{ScenarioValue}
 use Rattle.disk_array.specs.Processes.{command_at}
+use Rattle.disk_array.specs.Order.{same_number, tag_number}
 use Rattle.bus_story.specs.BusState.{RowReading}
-use Rattle.bus_story.specs.Items.{Item, process, abort, Sent, command_item, sense_item, is_open, is_of_host, tag_number_if}
-use Rattle.bus_story.specs.Links.{Link, last_out, last_in, same_number, is_open_sense, named_item_from, link_after_name}
+use Rattle.bus_story.specs.Items.{Item, process, abort, Sent, command_item, sense_item, is_open, is_of_host}
+use Rattle.bus_story.specs.Links.{Link, last_out, last_in, is_open_sense, named_item_from, link_after_name}
 use Rattle.bus_story.specs.CarriedBytes.{CarriedBytes, carried_of, carried_after_byte, carried_after_fault}
 use Rattle.bus_story.specs.Story.{Story}
 use Rattle.bus_story.specs.HistoryEvents.{carried_if}
@@ -34,12 +35,11 @@ use Rattle.initiator.specs.HeldPointers.{restored_if, message_if, byte_if, AreHe
 use Rattle.initiator.specs.OwnLinks.{process_in, named_in, link_with_name, last_after_out, last_after_in, undo_of, undone, last_of, IsUndoIf, IsLinkOf, IsLinkIf}
 use Rattle.initiator.specs.Transfers.{TransfersValue, transfers_after_out, transfers_after_name, transfers_after_byte, transfers_after_crossing, transfers_in_link}
 use Rattle.bus_dialogue.specs.declared.exchange.Hearing.{Hearing}
-use Rattle.initiator.proofs.CarriedLists.{carried_id}
+use Rattle.bus_story.proofs.CarriedLists.{carried_id}
 use Rattle.initiator.proofs.HeldSteps.{held_restore, held_message, held_byte, held_fault, held_on, held_stays}
-use Rattle.initiator.proofs.OwnedLinks.{IsCarriedOf, IsOwned, IsOwnedIf, IsNamed, named, name_link, fault_link}
+use Rattle.initiator.proofs.OwnedLinks.{IsCarriedOf, IsOwned, IsOwnedIf, IsNamed, named, name_link}
 use Rattle.initiator.proofs.Mines.{mines_from}
-use Rattle.bus_story.proofs.StorySteps.{out_link}
-use Rattle.initiator.proofs.MovedBytes.{message_id}
+use Rattle.bus_story.proofs.StorySteps.{out_link, message_id, fault_link}
 
 -- ---- the process that a target names
 
@@ -54,8 +54,8 @@ named_is b dev target unit tag k (c ∷ commands) = go (named_is b dev target un
     pick r false false = r
 
     go : item_if (named_in (mines_from b dev (k + 1) commands) target unit tag) ≡ named_item_from b dev target unit tag (k + 1) commands → (o : Bool)
-        → item_if (named_in (map (mine_of b.checks) (if o then own_command b k c ∷ own_commands b dev (k + 1) commands else own_commands b dev (k + 1) commands)) target unit tag) ≡ (if (o && c.target == target && c.unit == unit) && is_open b k && same_number (tag_number_if c.tag) tag then Some (command_item k) else if (o && c.target == target && c.unit == unit) && is_open_sense b k && same_number None tag then Some (sense_item k) else named_item_from b dev target unit tag (k + 1) commands)
-    go r true = pick r ((c.target == target && c.unit == unit) && is_open b k && same_number (tag_number_if c.tag) tag) ((c.target == target && c.unit == unit) && is_open_sense b k && same_number None tag)
+        → item_if (named_in (map (mine_of b.checks) (if o then own_command b k c ∷ own_commands b dev (k + 1) commands else own_commands b dev (k + 1) commands)) target unit tag) ≡ (if (o && c.target == target && c.unit == unit) && is_open b k && same_number (tag_number c.tag) tag then Some (command_item k) else if (o && c.target == target && c.unit == unit) && is_open_sense b k && same_number None tag then Some (sense_item k) else named_item_from b dev target unit tag (k + 1) commands)
+    go r true = pick r ((c.target == target && c.unit == unit) && is_open b k && same_number (tag_number c.tag) tag) ((c.target == target && c.unit == unit) && is_open_sense b k && same_number None tag)
     go r false = r
 
 -- What a message names, at both.

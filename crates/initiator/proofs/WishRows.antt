@@ -1,60 +1,29 @@
 -- What an initiator wants goes on row by row.
-use Rattle.std.proofs.Common.{ℕ, suc, zero, ◌≡◌, ◌+◌, ◌<◌, Bool, true, false, List, [], ◌∷◌, ◌∙◌, refl, sym, subst, Option, Some, None}
-use Rattle.std.specs.Prelude.{if◌then◌else◌, not, ◌&&◌, ◌==◌, is_none, replicate, ◌++◌}
-use Rattle.std.specs.List.{list_any}
+use Rattle.std.proofs.Common.{ℕ, suc, zero, ◌≡◌, ◌<◌, Bool, true, false, List, [], ◌∷◌, ◌∙◌, refl, sym, subst, Option, Some, None}
+use Rattle.std.specs.Prelude.{if◌then◌else◌, not, ◌&&◌, is_none, replicate}
 use Rattle.bus_base.specs.declared.Event.{Event}
-use Rattle.bus_base.specs.declared.Event.TheVariants as events
 use Rattle.bus_trace.specs.declared.Row.{Row}
 use Rattle.bus_trace.specs.declared.connection.Connection.{Connection}
 use Rattle.bus_trace.specs.declared.selection.Call.{Call}
 use Rattle.bus_trace.specs.Changes.{rises, falls, change_of}
 use Rattle.bus_trace.specs.Terms.{call, call_goes_on, connection}
-use Rattle.scenario.specs.declared.value.CmdDef.{CmdDef}
 use Rattle.scenario.specs.Value.{ScenarioValue}
 use Rattle.bus_story.specs.BusState.{RowReading, row_reading}
-use Rattle.bus_story.specs.Items.{Item, sense_item, is_open}
-use Rattle.bus_story.specs.Story.{Story, Ending, by_abort, by_reset, by_status, story_with_end, story_with_over, story_with_ends, is_aborted, is_sense_stopped, story_after_event, story_after_events}
-use Rattle.bus_story.specs.TraceHistory.{aim_of, is_host, retries_of, story_with_aim, story_after_calling, story_on_free_bus, story_on_bus, story_by_change}
+use Rattle.bus_story.specs.Items.{Item}
+use Rattle.bus_story.specs.Story.{Story, story_after_events}
+use Rattle.bus_story.specs.TraceHistory.{aim_of, retries_of, story_with_aim, story_after_calling, story_on_free_bus, story_on_bus, story_by_change}
+use Rattle.bus_story.proofs.StorySteps.{events_aims, calling_aims, begun_aims}
 use Rattle.bus_dialogue.specs.Hearing.{hearing}
-use Rattle.bus_due.specs.RunSteps.{run_state}
+use Rattle.bus_due.specs.RunSteps.{run_state, events_of_row}
 use Rattle.bus_due.specs.Sights.{hearing_of}
 use Rattle.bus_due.specs.Plain.{IsPlain, AreOfDevices}
-use Rattle.cdb_codec.specs.declared.status.TheConstants.{CHECK_CONDITION}
 use Rattle.initiator.specs.Books.{my_book, book_after_event}
-use Rattle.initiator.specs.Wishes.{IsItemIf, Wish, IsWishBy, IsWishOf, AreAims, wish_by_change, book_after_events, wish_after, events_shown}
+use Rattle.initiator.specs.Wishes.{IsItemIf, Wish, IsWishBy, IsWishOf, AreAims, wish_by_change, book_after_events, wish_after}
 use Rattle.initiator.proofs.BookSteps.{book_after}
-use Rattle.initiator.proofs.Wishes.{IsItemLaw, IsCaller, HasInitiator, entered, calling_aims, connection_aims, kept_connected, change_wish}
-use Rattle.initiator.proofs.Mines.{step}
+use Rattle.initiator.proofs.Wishes.{IsItemLaw, IsCaller, HasInitiator, entered, kept_connected, change_wish}
+use Rattle.disk_array.specs.Seats.{is_initiator}
 
 -- ---- events
-
-ends_aims : (drops stops : CmdDef → Bool) (e : Ending) (n : ℕ) (commands : List CmdDef) (b : Story) → (story_with_ends drops stops e n commands b).aims ≡ b.aims
-unfolding step
-ends_aims drops stops e n [] b = refl
-ends_aims drops stops e n (c ∷ commands) b = ends_aims drops stops e (n + 1) commands (step drops stops e n c b) ∙ go (is_open b.sent n && drops c) (stops c && list_any (λ k. k == n) b.sent.checks)
-  where
-    go : (p q : Bool) → (if p then story_with_end b (record { command = n; sense = false }) e else if q then story_with_over b (sense_item n) else b).aims ≡ b.aims
-    go true q = refl
-    go false true = refl
-    go false false = refl
-
-event_aims : (s : ScenarioValue) (b : Story) (e : Event) → (story_after_event s b e).aims ≡ b.aims
-event_aims s b (events.Accept id) = refl
-event_aims s b (events.Refuse id) = refl
-event_aims s b (events.Run id) = refl
-event_aims s b (events.Fail id code) = refl
-event_aims s b (events.Lost id) = refl
-event_aims s b (events.Aborted host target unit what) = ends_aims (is_aborted host target unit what) (is_sense_stopped host target unit what) by_abort 1 s.commands b
-event_aims s b (events.Reset d) = ends_aims (λ c. true) (λ c. true) by_reset 1 s.commands b
-event_aims s b (events.End id status) = go (not id.sense && status == CHECK_CONDITION)
-  where
-    go : (q : Bool) → (if q then record (story_with_end b id (by_status status)) { sent = record (story_with_end b id (by_status status)).sent { checks = b.sent.checks ++ id.command ∷ [] } } else story_with_end b id (by_status status)).aims ≡ b.aims
-    go true = refl
-    go false = refl
-
-events_aims : (s : ScenarioValue) (b : Story) (shown : List Event) → (story_after_events s b shown).aims ≡ b.aims
-events_aims s b [] = refl
-events_aims s b (e ∷ shown) = event_aims s (story_after_events s b shown) e ∙ events_aims s b shown
 
 events_book : (s : ScenarioValue) (b : Story) (dev : ℕ) (shown : List Event) → my_book s (story_after_events s b shown).sent dev ≡ book_after_events (my_book s b.sent dev) shown
 events_book s b dev [] = refl
@@ -75,7 +44,7 @@ change_aims s b d row lt a = go d.change.after.rst
   where
     on_bus : (m n : Option Connection) → AreAims s (story_on_bus s b m n d row).aims
     on_bus None None = free_aims s b d row lt a
-    on_bus None (Some n) = subst (λ (x : List (Option Item)). AreAims s x) (sym (connection_aims b n)) a
+    on_bus None (Some n) = subst (λ (x : List (Option Item)). AreAims s x) (sym (begun_aims b n)) a
     on_bus (Some m) None = a
     on_bus (Some m) (Some n) = subst (λ (x : List (Option Item)). AreAims s x) (sym (kept_connected s b b.link d row).aims) a
 
@@ -99,7 +68,7 @@ aims_are s [] h = record { eight = refl; own_items = λ d lt. subst (λ (x : Opt
 aims_are s (row ∷ rows) h =
     let b : Story = (run_state s rows).story in
     let d : RowReading = row_reading b.bus_state row in
-    subst (λ (x : List (Option Item)). AreAims s x) (sym (events_aims s (story_by_change s b d row) (events_shown s rows row)))
+    subst (λ (x : List (Option Item)). AreAims s x) (sym (events_aims s (story_by_change s b d row) (events_of_row s rows row)))
     (change_aims s b d row h.0 (aims_are s rows h.1))
 
 -- ---- callers
@@ -116,11 +85,11 @@ callers_are (row ∷ rows) h = go (not (change_of rows row).after.sel) (rises (c
 
 -- ---- one row more
 
-pub wish_goes_on : IsItemLaw → (s : ScenarioValue) (rows : List Row) (row : Row) (dev : ℕ) (w : Wish) → IsPlain s rows (run_state s rows) → IsPlain s (row ∷ rows) (run_state s (row ∷ rows)) → hearing_of (run_state s rows) row (row_reading (run_state s rows).story.bus_state row) ≡ hearing rows row → AreOfDevices (row ∷ rows) → is_host s.hosts dev ≡ true → retries_of s.hosts dev < 255 → dev < 8 → HasInitiator (connection (row ∷ rows)) → IsWishOf s dev rows w → IsWishOf s dev (row ∷ rows) (wish_after dev (retries_of s.hosts dev) (call rows) w (change_of rows row) (connection rows) (connection (row ∷ rows)) row.dev row.time (events_shown s rows row))
+pub wish_goes_on : IsItemLaw → (s : ScenarioValue) (rows : List Row) (row : Row) (dev : ℕ) (w : Wish) → IsPlain s rows (run_state s rows) → IsPlain s (row ∷ rows) (run_state s (row ∷ rows)) → hearing_of (run_state s rows) row (row_reading (run_state s rows).story.bus_state row) ≡ hearing rows row → AreOfDevices (row ∷ rows) → is_initiator s.hosts dev ≡ true → retries_of s.hosts dev < 255 → dev < 8 → HasInitiator (connection (row ∷ rows)) → IsWishOf s dev rows w → IsWishOf s dev (row ∷ rows) (wish_after dev (retries_of s.hosts dev) (call rows) w (change_of rows row) (connection rows) (connection (row ∷ rows)) row.dev row.time (events_of_row s rows row))
 wish_goes_on items s rows row dev w p q heard d host few lt ends h =
     let b : Story = (run_state s rows).story in
     let r : RowReading = row_reading b.bus_state row in
-    let shown : List Event = events_shown s rows row in
+    let shown : List Event = events_of_row s rows row in
     let c : Story = story_by_change s b r row in
     let plain : Wish = wish_by_change dev (retries_of s.hosts dev) (call rows) w (change_of rows row) (connection rows) (connection (row ∷ rows)) row.dev row.time in
     let known : wish_by_change dev (retries_of s.hosts dev) b.bus_state.call w r.change b.bus_state.connection r.next row.dev row.time ≡ plain =

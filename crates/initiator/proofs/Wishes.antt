@@ -1,7 +1,7 @@
 -- What an initiator wants goes on by what each row does.
 use Rattle.std.proofs.Common.{inl, inr, ℕ, suc, zero, ◌≡◌, ◌≢◌, ◌<◌, Bool, true, false, List, [], ◌∷◌, ◌∙◌, refl, sym, ap, subst, arith, Option, Some, None, length, length-set}
 use Rattle.std.specs.Prelude.{if◌then◌else◌, not, ◌&&◌, ◌==◌, slice_set, slice_index_or, is_some, is_none, nat_lt, ⊤}
-use Rattle.std.proofs.lemmas.Bool.{cases_eq, eq-eqb, eqb-true}
+use Rattle.std.proofs.lemmas.Bool.{eqb-false, cases_eq, eq-eqb, eqb-true}
 use Rattle.std.proofs.lemmas.Bool.Decides.{nat_tests}
 use Rattle.std.proofs.lemmas.Grind.{common_steps, elements}
 use Rattle.bus_trace.specs.declared.Row.{Row}
@@ -13,7 +13,7 @@ use Rattle.scenario.specs.Value.{ScenarioValue}
 use Rattle.bus_story.specs.BusState.{RowReading}
 use Rattle.bus_story.specs.Items.{Item, process, abort, command_item, Sent, count_item, item_at}
 use Rattle.bus_story.specs.Story.{Story}
-use Rattle.bus_story.specs.TraceHistory.{aim_of, is_host, retries_of, is_counted, story_without_answer, story_with_try, story_after_calling, story_after_calling_by, story_with_restored, story_with_sent, story_after_connection, story_with_carried, story_after_out, story_after_message, story_after_name, story_after_in, story_after_byte, story_after_crossing, story_after_fault, story_in_connection, story_with_aim, story_on_free_bus, story_on_bus, story_by_change, is_parity_error, carried_after_message_if, carried_after_byte_if, carried_after_fault_if}
+use Rattle.bus_story.specs.TraceHistory.{aim_of, retries_of, is_counted, story_without_answer, story_with_try, story_after_calling, story_after_calling_by, story_with_restored, story_with_sent, story_after_connection, story_with_carried, story_after_out, story_after_message, story_after_name, story_after_in, story_after_byte, story_after_crossing, story_after_fault, story_in_connection, story_with_aim, story_on_free_bus, story_on_bus, story_by_change, is_parity_error, carried_after_message_if, carried_after_byte_if, carried_after_fault_if}
 use Rattle.bus_story.specs.HistoryEvents.{carried_if}
 use Rattle.bus_story.specs.CarriedBytes.{CarriedBytes}
 use Rattle.msg_grammar.specs.declared.message.MsgOut.{MsgOut}
@@ -31,7 +31,8 @@ use Rattle.bus_due.specs.Wants.{book_of}
 use Rattle.initiator.proofs.Books.{item_is}
 use Rattle.initiator.proofs.BookSteps.{book_sent, book_over, book_try, book_abort_sent, book_abort_over, book_abort_try, book_sense_try}
 use Rattle.initiator.proofs.Foreign.{others_sent, others_over, others_try, own_item, tries_are, abort_tries_are}
-use Rattle.bus_story.proofs.StorySteps.{restored_aims, sent_aims, restored_sent}
+use Rattle.bus_story.proofs.StorySteps.{restored_aims, sent_aims, restored_sent, calling_aims}
+use Rattle.disk_array.specs.Seats.{is_initiator}
 
 -- ---- what each device last entered arbitration for
 
@@ -101,31 +102,6 @@ others_tried s b d dev (Some item) ne h =
     go true = (λ i. my_book s (without_answer_over (record b { sent = record b.sent { tries = item ∷ b.sent.tries } }) item i) dev) ∙ others_over s (record b.sent { tries = item ∷ b.sent.tries }) d dev item ne h
     go false = refl
 
--- What a device last entered arbitration for stays.
-try_aims : (s : ScenarioValue) (b : Story) (d : ℕ) (item : Option Item) → (story_with_try s b d item).aims ≡ b.aims
-try_aims s b d None = refl
-try_aims s b d (Some item) = go (is_counted item && nat_lt (retries_of s.hosts d) (count_item (item ∷ b.sent.tries) item))
-  where
-    of_item : (b : Story) (item : Item) → (story_without_answer b item).aims ≡ b.aims
-    of_item b (process id) = refl
-    of_item b (abort k) = refl
-
-    go : (q : Bool) → (if q then story_without_answer (record b { sent = record b.sent { tries = item ∷ b.sent.tries } }) item else record b { sent = record b.sent { tries = item ∷ b.sent.tries } }).aims ≡ b.aims
-    go true = of_item (record b { sent = record b.sent { tries = item ∷ b.sent.tries } }) item
-    go false = refl
-
-pub calling_aims : (s : ScenarioValue) (b : Story) (c : Option Call) → (story_after_calling s b c).aims ≡ b.aims
-calling_aims s b None = refl
-calling_aims s b (Some c) = by_calling c.calling
-  where
-    by_calling : (k : Option Calling) → (story_after_calling_by s b c.caller k).aims ≡ b.aims
-    by_calling None = refl
-    by_calling (Some k) = go (is_none k.answered && not k.reselects)
-      where
-        go : (q : Bool) → (if q then story_with_try s b c.caller (aim_of b.aims c.caller) else b).aims ≡ b.aims
-        go true = try_aims s b c.caller (aim_of b.aims c.caller)
-        go false = refl
-
 -- The caller of a call is a device of the bus.
 abbrev pub IsCaller : Option Call → Type 0
 IsCaller None = ⊤
@@ -185,12 +161,12 @@ item_if_host : (s : ScenarioValue) (b : Sent) (d time : ℕ) (q : Bool) → IsIt
 item_if_host s b d time true = own_item s b d time
 item_if_host s b d time false = tt
 
-pub entered : (s : ScenarioValue) (aims : List (Option Item)) (b : Sent) (d time : ℕ) → AreAims s aims → d < 8 → AreAims s (slice_set aims d (if is_host s.hosts d then item_at s b d time else None))
+pub entered : (s : ScenarioValue) (aims : List (Option Item)) (b : Sent) (d time : ℕ) → AreAims s aims → d < 8 → AreAims s (slice_set aims d (if is_initiator s.hosts d then item_at s b d time else None))
 entered s aims b d time a lt = record {
   eight = length-set _ _ _ ∙ a.eight;
   own_items = λ e below. elim (cases_eq d e) [
-    | inl same ↦ subst (λ (z : ℕ). IsItemIf s z (aim_of (slice_set aims d (if is_host s.hosts d then item_at s b d time else None)) z)) same
-        (subst (λ (z : Option Item). IsItemIf s d z) (sym (aim_set aims d _ a.eight lt)) (item_if_host s b d time (is_host s.hosts d)))
+    | inl same ↦ subst (λ (z : ℕ). IsItemIf s z (aim_of (slice_set aims d (if is_initiator s.hosts d then item_at s b d time else None)) z)) same
+        (subst (λ (z : Option Item). IsItemIf s d z) (sym (aim_set aims d _ a.eight lt)) (item_if_host s b d time (is_initiator s.hosts d)))
     | inr ne ↦ subst (λ (z : Option Item). IsItemIf s e z) (sym (aim_other aims d e _ ne)) (a.own_items e below)
   ];
 }
@@ -198,13 +174,13 @@ entered s aims b d time a lt = record {
 abbrev pub IsItemLaw : Type 0
 IsItemLaw = (s : ScenarioValue) (sent : Sent) (dev time : ℕ) → item_at s sent dev time ≡ item_by (book_of s sent dev) time
 
-entry_own : IsItemLaw → (s : ScenarioValue) (b : Story) (dev time : ℕ) (w : Wish) → is_host s.hosts dev ≡ true → AreAims s b.aims → dev < 8 → IsWishBy s dev b w → item_if (my_item w.book time) ≡ aim_of (slice_set b.aims dev (if is_host s.hosts dev then item_at s b.sent dev time else None)) dev
+entry_own : IsItemLaw → (s : ScenarioValue) (b : Story) (dev time : ℕ) (w : Wish) → is_initiator s.hosts dev ≡ true → AreAims s b.aims → dev < 8 → IsWishBy s dev b w → item_if (my_item w.book time) ≡ aim_of (slice_set b.aims dev (if is_initiator s.hosts dev then item_at s b.sent dev time else None)) dev
 entry_own items s b dev time w host a lt h =
     (λ i. item_if (my_item (h.book_is i) time))
     ∙ item_is s b.sent dev time
     ∙ sym (items s b.sent dev time)
     ∙ (λ i. if sym host i then item_at s b.sent dev time else None)
-    ∙ sym (aim_set b.aims dev (if is_host s.hosts dev then item_at s b.sent dev time else None) a.eight lt)
+    ∙ sym (aim_set b.aims dev (if is_initiator s.hosts dev then item_at s b.sent dev time else None) a.eight lt)
 
 -- ---- a connection begins
 
@@ -217,12 +193,6 @@ sends s b dev (Some (own.Abort n)) = book_abort_sent s b.sent dev n
 others_send : (s : ScenarioValue) (b : Story) (d dev : ℕ) (item : Option Item) → d ≢ dev → IsItemIf s d item → my_book s (story_with_sent b item).sent dev ≡ my_book s b.sent dev
 others_send s b d dev None ne h = refl
 others_send s b d dev (Some item) ne h = others_sent s b.sent d dev item ne h
-
-unequal : (x y : ℕ) → (x == y) ≡ false → x ≢ y
-unequal x y e z = no (sym e ∙ eq-eqb x y z)
-  where
-    no : false ≡ true → ⊥
-    no q = cc
 
 connection_wish : (s : ScenarioValue) (b : Story) (dev : ℕ) (w : Wish) (n : Connection) → AreAims s b.aims → n.initiator < 8 → IsWishBy s dev b w → IsWishBy s dev (story_after_connection b n) (wish_after_connection dev w n)
 connection_wish s b dev w n a lt h = go n.reselected (n.initiator == dev) refl
@@ -242,16 +212,9 @@ connection_wish s b dev w n a lt h = go n.reselected (n.initiator == dev) refl
     go false false e =
         let c : Story = record b { link = Some (link_of n (aim_of b.aims n.initiator)) } in
         record {
-          book_is = h.book_is ∙ sym (others_send s c n.initiator dev (aim_of b.aims n.initiator) (unequal n.initiator dev e) (a.own_items n.initiator lt)) ∙ (λ i. my_book s (sym (restored_sent (story_with_sent c (aim_of b.aims n.initiator)) (aim_of b.aims n.initiator)) i) dev);
+          book_is = h.book_is ∙ sym (others_send s c n.initiator dev (aim_of b.aims n.initiator) (eqb-false n.initiator dev e) (a.own_items n.initiator lt)) ∙ (λ i. my_book s (sym (restored_sent (story_with_sent c (aim_of b.aims n.initiator)) (aim_of b.aims n.initiator)) i) dev);
           aim_is = h.aim_is ∙ (λ i. aim_of ((sym (sent_aims c (aim_of b.aims n.initiator)) ∙ sym (restored_aims (story_with_sent c (aim_of b.aims n.initiator)) (aim_of b.aims n.initiator))) i) dev);
         }
-
-pub connection_aims : (b : Story) (n : Connection) → (story_after_connection b n).aims ≡ b.aims
-connection_aims b n = go n.reselected
-  where
-    go : (p : Bool) → (if p then record b { link = Some (link_of n None) } else story_with_restored (story_with_sent (record b { link = Some (link_of n (aim_of b.aims n.initiator)) }) (aim_of b.aims n.initiator)) (aim_of b.aims n.initiator)).aims ≡ b.aims
-    go true = refl
-    go false = restored_aims (story_with_sent (record b { link = Some (link_of n (aim_of b.aims n.initiator)) }) (aim_of b.aims n.initiator)) (aim_of b.aims n.initiator) ∙ sent_aims (record b { link = Some (link_of n (aim_of b.aims n.initiator)) }) (aim_of b.aims n.initiator)
 
 -- ---- in a connection nothing is sent, and no device enters arbitration
 
@@ -329,7 +292,7 @@ abbrev pub HasInitiator : Option Connection → Type 0
 HasInitiator None = ⊤
 HasInitiator (Some n) = n.initiator < 8
 
-free_wish : IsItemLaw → (s : ScenarioValue) (b : Story) (dev : ℕ) (w : Wish) (d : RowReading) (row : Row) → is_host s.hosts dev ≡ true → retries_of s.hosts dev < 255 → AreAims s b.aims → dev < 8 → row.dev < 8 → IsCaller b.bus_state.call → IsWishBy s dev b w → b.bus_state.connection ≡ None → IsWishBy s dev (story_on_free_bus s b d row) (wish_on_free_bus dev (retries_of s.hosts dev) b.bus_state.call w d.change None row.dev row.time)
+free_wish : IsItemLaw → (s : ScenarioValue) (b : Story) (dev : ℕ) (w : Wish) (d : RowReading) (row : Row) → is_initiator s.hosts dev ≡ true → retries_of s.hosts dev < 255 → AreAims s b.aims → dev < 8 → row.dev < 8 → IsCaller b.bus_state.call → IsWishBy s dev b w → b.bus_state.connection ≡ None → IsWishBy s dev (story_on_free_bus s b d row) (wish_on_free_bus dev (retries_of s.hosts dev) b.bus_state.call w d.change None row.dev row.time)
 free_wish items s b dev w d row host few a lt rlt ok h e =
     subst (λ (q : Bool). IsWishBy s dev (if q then story_with_aim s b row else if falls d.change.before.sel d.change.after.sel then story_after_calling s b b.bus_state.call else b) (wish_on_free_bus dev (retries_of s.hosts dev) b.bus_state.call w d.change None row.dev row.time))
     (λ i. rises d.change.own.bsy d.change.next.bsy && not d.change.before.sel && is_none (sym e i))
@@ -338,11 +301,11 @@ free_wish items s b dev w d row host few a lt rlt ok h e =
     entry : (q : Bool) → (row.dev == dev) ≡ q → IsWishBy s dev (story_with_aim s b row) (if q then record w { aim = my_item w.book row.time } else w)
     entry true x = record {
       book_is = h.book_is;
-      aim_is = entry_own items s b dev row.time w host a lt h ∙ (λ i. aim_of (slice_set b.aims (sym (eqb-true row.dev dev x) i) (if is_host s.hosts (sym (eqb-true row.dev dev x) i) then item_at s b.sent (sym (eqb-true row.dev dev x) i) row.time else None)) dev);
+      aim_is = entry_own items s b dev row.time w host a lt h ∙ (λ i. aim_of (slice_set b.aims (sym (eqb-true row.dev dev x) i) (if is_initiator s.hosts (sym (eqb-true row.dev dev x) i) then item_at s b.sent (sym (eqb-true row.dev dev x) i) row.time else None)) dev);
     }
     entry false x = record {
       book_is = h.book_is;
-      aim_is = h.aim_is ∙ sym (aim_other b.aims row.dev dev (if is_host s.hosts row.dev then item_at s b.sent row.dev row.time else None) (unequal row.dev dev x));
+      aim_is = h.aim_is ∙ sym (aim_other b.aims row.dev dev (if is_initiator s.hosts row.dev then item_at s b.sent row.dev row.time else None) (eqb-false row.dev dev x));
     }
 
     calling : IsWishBy s dev (story_after_calling s b b.bus_state.call) (if is_call_in_vain dev b.bus_state.call then record w { book = book_after_try (retries_of s.hosts dev) w.book w.aim } else w)
@@ -360,7 +323,7 @@ free_wish items s b dev w d row host few a lt rlt ok h e =
     go false true = calling
     go false false = h
 
-pub change_wish : IsItemLaw → (s : ScenarioValue) (b : Story) (dev : ℕ) (w : Wish) (d : RowReading) (row : Row) → is_host s.hosts dev ≡ true → retries_of s.hosts dev < 255 → AreAims s b.aims → dev < 8 → row.dev < 8 → IsCaller b.bus_state.call → HasInitiator d.next → IsWishBy s dev b w → IsWishBy s dev (story_by_change s b d row) (wish_by_change dev (retries_of s.hosts dev) b.bus_state.call w d.change b.bus_state.connection d.next row.dev row.time)
+pub change_wish : IsItemLaw → (s : ScenarioValue) (b : Story) (dev : ℕ) (w : Wish) (d : RowReading) (row : Row) → is_initiator s.hosts dev ≡ true → retries_of s.hosts dev < 255 → AreAims s b.aims → dev < 8 → row.dev < 8 → IsCaller b.bus_state.call → HasInitiator d.next → IsWishBy s dev b w → IsWishBy s dev (story_by_change s b d row) (wish_by_change dev (retries_of s.hosts dev) b.bus_state.call w d.change b.bus_state.connection d.next row.dev row.time)
 change_wish items s b dev w d row host few a lt rlt ok ends h = go d.change.after.rst
   where
     on_bus : (m n : Option Connection) → b.bus_state.connection ≡ m → HasInitiator n → IsWishBy s dev (story_on_bus s b m n d row) (wish_on_bus dev (retries_of s.hosts dev) b.bus_state.call w d.change m n row.dev row.time)

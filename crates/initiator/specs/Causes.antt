@@ -7,7 +7,7 @@ use Rattle.bus_base.specs.declared.Event.TheVariants as events
 use Rattle.scenario.specs.declared.value.CmdDef.{CmdDef}
 use Rattle.disk_array.specs.Processes.{same_id}
 use Rattle.bus_story.specs.Story.{is_aborted, is_sense_stopped}
-use Rattle.initiator.specs.Endings.{sense_of}
+use Rattle.bus_story.specs.Items.{sense_id}
 
 -- ---- an event
 
@@ -53,4 +53,4 @@ has_sense_abort history c = list_any (λ e. is_sense_abort c e) history
 
 -- The automatic REQUEST SENSE of this command, the n-th, was stopped: lost, or by a reset, or by an abort.
 abbrev pub has_sense_stop : List Event → ℕ → CmdDef → Bool
-has_sense_stop history n c = has_loss history (sense_of n) || (has_bus_reset history || has_sense_abort history c)
+has_sense_stop history n c = has_loss history (sense_id n) || (has_bus_reset history || has_sense_abort history c)

@@ -12,9 +12,9 @@ use Rattle.bus_reactions.specs.Linking.{link_due, sample_time}
 use Rattle.bus_reactions.specs.Ends as hand
 use Rattle.bus_reactions.specs.Reset.{with_reset}
 use Rattle.bus_dialogue.specs.Ends.{answering_by}
-use Rattle.bus_due.specs.Connected.{is_receiving}
 use Rattle.scsi_device.specs.Told.{Told, pace_of, flip_by}
 use Rattle.initiator.specs.States.{InitiatorState}
+use Rattle.bus_rules.specs.Order.{is_of_device}
 
 abbrev pub myself_by : HostDef → Told → InitiatorState → Myself
 myself_by h t i = record { dev = h.dev; latency = h.latency; own = t.lines; since = i.own.row }
@@ -45,7 +45,7 @@ plain_by h t i =
 
 -- It samples a byte that crossed to it in the last row first.
 abbrev pub hand_by : HostDef → Told → Option FaultDef → InitiatorState → Option Due
-hand_by h t f i = hand.sample_due (is_receiving t.receiver h.dev) t.last (flip_by f t.last) (plain_by h t i)
+hand_by h t f i = hand.sample_due (is_of_device t.receiver h.dev) t.last (flip_by f t.last) (plain_by h t i)
 
 abbrev pub connected_by : HostDef → Told → Option FaultDef → InitiatorState → Connection → Option Due
 connected_by h t f i n = if n.initiator == h.dev then hand_by h t f i else None

@@ -10,6 +10,7 @@ use Rattle.disk_array.specs.Processes.{command_at}
 use Rattle.bus_story.specs.Story as told
 use Rattle.bus_story.specs.Story.{Story, by_status, by_loss, by_reset, by_abort, unanswered}
 use Rattle.bus_story.specs.Outcomes.{ending_of, has_end}
+use Rattle.bus_story.specs.Items.{sense_id}
 use Rattle.bus_due.specs.RunSteps.{run_state}
 use Rattle.initiator.specs.declared.endings.CommandEnd.{CommandEnd}
 use Rattle.initiator.specs.declared.endings.Ending.{Ending}
@@ -19,8 +20,8 @@ use Rattle.initiator.specs.declared.mine.OwnItem.{OwnItem}
 use Rattle.initiator.specs.declared.mine.OwnItem.TheVariants as own
 use Rattle.initiator.specs.Mines.{is_mine_aborted}
 use Rattle.initiator.specs.Books.{BookValue}
-use Rattle.initiator.specs.Intents.{is_empty}
 use Rattle.initiator.specs.Openings.{mine_at}
+use Rattle.bus_dialogue.specs.Events.{is_empty}
 
 -- ---- one command
 
@@ -115,13 +116,10 @@ abbrev pub told_ending_if : Option Ending → Option told.Ending
 told_ending_if None = None
 told_ending_if (Some e) = Some (told_ending e)
 
-abbrev pub sense_of : ℕ → ProcId
-sense_of n = record { command = n; sense = true }
-
 -- So the command of this number ended, and so its automatic REQUEST SENSE.
 pub record IsEndOf (b : Story) (n : ℕ) (x : CommandEnd) : Type 0 where
   pub ending_is : told_ending_if x.ending ≡ ending_of b.ended n
-  pub sense_is : x.sense_ended ≡ has_end b.history (sense_of n)
+  pub sense_is : x.sense_ended ≡ has_end b.history (sense_id n)
 
 -- So each command of this initiator's own ended after these rows.
 pub record AreEndingsOf (s : ScenarioValue) (rows : List Row) (dev : ℕ) (v : List CommandEnd) : Type 0 where

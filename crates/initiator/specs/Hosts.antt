@@ -1,7 +1,6 @@
 -- An initiator of a scenario: its line, and what it knows after some rows.
 use Rattle.std.specs.Prelude.{ℕ, ◌≡◌, ◌==◌, ◌&&◌, ◌||◌, not, Bool, true, false, List, ◌∷◌, Option, Some, None}
 use Rattle.std.specs.List.{list_all}
-use Rattle.bus_base.specs.declared.ProcId.{ProcId}
 use Rattle.bus_due.specs.RunSteps.{run_state}
 use Rattle.initiator.specs.declared.mine.MyAbort.{MyAbort}
 use Rattle.initiator.specs.Mines.{my_aborts}
@@ -77,11 +76,6 @@ hears_nothing dev h (Some m) (Some n) =
 -- No connection stands of which this device is the target.
 abbrev pub IsNeverCalled : List Row → ℕ → Type 0
 IsNeverCalled rows dev = (n : Connection) → connection rows ≡ Some n → (n.target == dev) ≡ false
-
--- Of no process the command is 0.
-abbrev pub process_or_none : Option ProcId → ProcId
-process_or_none None = record { command = 0; sense = false }
-process_or_none (Some id) = id
 
 -- Each abort line of this initiator is sent, or dropped.
 abbrev pub are_aborts_done : ScenarioValue → List Row → ℕ → Bool

@@ -1,5 +1,5 @@
 -- What an initiator wants of the bus after some rows, and since when.
-use Rattle.std.specs.Prelude.{ℕ, ◌≡◌, ◌<◌, Bool, true, false, not, ◌&&◌, ◌||◌, List, [], ◌∷◌, Option, Some, None, is_some, is_none}
+use Rattle.std.specs.Prelude.{ℕ, ◌≡◌, ◌<◌, Bool, true, false, not, ◌&&◌, ◌||◌, List, Option, Some, None, is_some, is_none}
 use Rattle.bus_base.specs.declared.Event.{Event}
 use Rattle.bus_trace.specs.declared.Row.{Row}
 use Rattle.bus_trace.specs.declared.changes.Change.{Change}
@@ -9,11 +9,13 @@ use Rattle.bus_trace.specs.Changes.{falls}
 use Rattle.bus_trace.specs.Terms.{call}
 use Rattle.bus_lines.specs.declared.effect.RowEffect.{RowEffect}
 use Rattle.scenario.specs.Value.{ScenarioValue}
-use Rattle.bus_story.specs.TraceHistory.{is_host, retries_of}
+use Rattle.bus_story.specs.TraceHistory.{retries_of}
 use Rattle.initiator.specs.declared.mine.OwnItem.{OwnItem}
 use Rattle.initiator.specs.declared.mine.OwnItem.TheVariants as own
 use Rattle.initiator.specs.Books.{my_since}
 use Rattle.initiator.specs.Wishes.{Wish, IsWishOf, is_entry, target_by, wish_after}
+use Rattle.bus_dialogue.specs.Events.{is_empty}
+use Rattle.disk_array.specs.Seats.{is_initiator}
 
 pub record IntentValue : Type 0 where
   pub dev : ℕ
@@ -28,7 +30,7 @@ pub record IntentValue : Type 0 where
 -- The scenario has this initiator.
 pub record IsInitiator (s : ScenarioValue) (dev retries : ℕ) : Type 0 where
   pub below : dev < 8
-  pub is_one : is_host s.hosts dev ≡ true
+  pub is_one : is_initiator s.hosts dev ≡ true
   pub retries_are : retries ≡ retries_of s.hosts dev
   pub few : retries < 255
 
@@ -40,10 +42,6 @@ pub record IsIntentOf (s : ScenarioValue) (rows : List Row) (v : IntentValue) : 
 
 -- A row may change what it wants: it shows events, a connection begins, or SEL falls on a free bus, or a device enters
 -- arbitration.
-abbrev pub is_empty : List Event → Bool
-is_empty [] = true
-is_empty (e ∷ shown) = false
-
 abbrev pub is_news : Change → Option Connection → Option Connection → List Event → Bool
 is_news c before after shown =
     is_entry c before || not (is_empty shown) || (is_none before && (is_some after || falls c.before.sel c.after.sel))

@@ -10,7 +10,8 @@ use Rattle.cdb_codec.specs.declared.status.TheConstants.{CHECK_CONDITION}
 use Rattle.scenario.specs.declared.value.CmdDef.{CmdDef}
 use Rattle.scenario.specs.declared.value.AbortDef.{AbortDef}
 use Rattle.disk_array.specs.Steps.{has_tag}
-use Rattle.bus_story.specs.Items.{abort, tag_number_if, is_tag_clash, Sent, is_done, count_item}
+use Rattle.disk_array.specs.Order.{tag_number}
+use Rattle.bus_story.specs.Items.{abort, is_tag_clash, Sent, is_done, count_item}
 use Rattle.bus_reactions.specs.Reactions.{sooner_time, time_if}
 use Rattle.bus_dialogue.specs.Wants.{OwnCommand}
 use Rattle.bus_due.specs.Wants.{own_commands}
@@ -73,7 +74,7 @@ open_mines [] = []
 open_mines (m ∷ mines) = if is_open_mine m then m ∷ open_mines mines else open_mines mines
 
 abbrev pub is_clash_of : Mine → Mine → Bool
-is_clash_of m d = (m.target == d.target && m.unit == d.unit) && is_tag_clash (tag_number_if m.tag) (tag_number_if d.tag)
+is_clash_of m d = (m.target == d.target && m.unit == d.unit) && is_tag_clash (tag_number m.tag) (tag_number d.tag)
 
 abbrev pub may_follow_mines : ℕ → ℕ → List Mine → Mine → Bool
 may_follow_mines most time now m =

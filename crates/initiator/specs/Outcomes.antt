@@ -8,13 +8,13 @@ use Rattle.bus_story.specs.Outcomes as told
 use Rattle.bus_story.specs.Outcomes.{ended_good, ended_check, ended_full, ended_unanswered, ended_lost, ended_reset, ended_aborted, sense_in, reply_bytes, outcome_of}
 use Rattle.bus_story.specs.Right.{same_bytes}
 use Rattle.bus_story.specs.Story.{Story}
+use Rattle.bus_story.specs.Items.{sense_id, command_id}
 use Rattle.initiator.specs.declared.mine.Mine.{Mine}
 use Rattle.initiator.specs.declared.endings.CommandEnd.{CommandEnd}
 use Rattle.initiator.specs.declared.endings.Ending.{Ending}
 use Rattle.initiator.specs.declared.endings.Ending.TheVariants as ends
 use Rattle.initiator.specs.declared.outcome.Outcome.{Outcome}
 use Rattle.initiator.specs.declared.outcome.Outcome.TheVariants as outcomes
-use Rattle.initiator.specs.Endings.{sense_of}
 
 -- ---- whether it is known
 
@@ -76,16 +76,13 @@ is_good None = false
 is_good (Some (ends.Status status)) = status == GOOD
 is_good (Some _) = false
 
-abbrev pub command_of : ℕ → ProcId
-command_of n = record { command = n; sense = false }
-
 abbrev pub is_reply_of : ScenarioValue → List Event → ProcId → List ℕ → Bool
 is_reply_of s history id bytes = same_bytes bytes (reply_bytes s history id)
 
 -- What came is the reply: of a command that ended GOOD, and of an automatic REQUEST SENSE that ended.
 abbrev pub are_replies : ScenarioValue → Story → ℕ → CommandEnd → List ℕ → List ℕ → Bool
 are_replies s b n x bytes sense =
-    (not (is_good x.ending) || is_reply_of s b.history (command_of n) bytes) && (not x.sense_ended || is_reply_of s b.history (sense_of n) sense)
+    (not (is_good x.ending) || is_reply_of s b.history (command_id n) bytes) && (not x.sense_ended || is_reply_of s b.history (sense_id n) sense)
 
 -- The outcome that the rows tell, once it is settled.
 abbrev pub settled_outcome : ScenarioValue → Story → ℕ → CommandEnd → Bool → Option told.Outcome

@@ -1,8 +1,8 @@
 -- The bytes that an initiator sends of its own processes: their command descriptor blocks, and their data.
-use Rattle.std.specs.Prelude.{ℕ, ◌-◌, ◌==◌, ◌^◌, min, List, [], ◌∷◌, Option, Some, None, slice_index_or, if◌then◌else◌}
+use Rattle.std.specs.Prelude.{ℕ, ◌==◌, List, [], ◌∷◌, Option, Some, None, slice_index_or, if◌then◌else◌}
 use Rattle.bus_base.specs.declared.ProcId.{ProcId}
 use Rattle.scenario.specs.declared.value.CmdDef.{CmdDef}
-use Rattle.scenario.specs.Needs.{sent_of}
+use Rattle.scenario.specs.Needs.{sent_count}
 use Rattle.scenario.specs.Value.{ScenarioValue}
 use Rattle.disk_array.specs.Processes.{payload_bytes, sense_block}
 use Rattle.io_pointers.specs.declared.pointers.Place.{Place}
@@ -18,10 +18,6 @@ no_bytes = record { cdb = []; sent = [] }
 -- Of an automatic REQUEST SENSE.
 abbrev pub sense_bytes : CommandBytesValue
 sense_bytes = record { cdb = sense_block; sent = [] }
-
--- How many bytes a command sends, as far as a u32 counts them.
-abbrev pub sent_count : ScenarioValue → CmdDef → ℕ
-sent_count s c = min (sent_of s c) (2 ^ 32 - 1)
 
 abbrev pub bytes_of_command : ScenarioValue → CmdDef → CommandBytesValue
 bytes_of_command s c = record { cdb = c.cdb; sent = payload_bytes c.payload (sent_count s c) }

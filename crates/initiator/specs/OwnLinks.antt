@@ -6,9 +6,8 @@ use Rattle.msg_grammar.specs.declared.message.MsgOut.{MsgOut}
 use Rattle.msg_grammar.specs.declared.message.MsgOut.TheVariants as to_target
 use Rattle.msg_grammar.specs.declared.message.MsgIn.{MsgIn}
 use Rattle.msg_grammar.specs.declared.message.MsgIn.TheVariants as to_initiator
-use Rattle.bus_story.specs.Items.{tag_number_if}
 use Rattle.bus_story.specs.Links as links
-use Rattle.bus_story.specs.Links.{Link, same_number}
+use Rattle.bus_story.specs.Links.{Link}
 use Rattle.bus_story.specs.CarriedBytes.{CarriedBytes}
 use Rattle.initiator.specs.declared.mine.Mine.{Mine}
 use Rattle.initiator.specs.declared.mine.OwnItem.{OwnItem}
@@ -21,6 +20,7 @@ use Rattle.initiator.specs.declared.own_link.OwnLink.{OwnLink}
 use Rattle.initiator.specs.Books.{item_if}
 use Rattle.initiator.specs.Mines.{is_open_mine, is_at_unit_of}
 use Rattle.initiator.specs.HeldPointers.{held_at, with_held, IsHeldOf}
+use Rattle.disk_array.specs.Order.{same_number, tag_number}
 
 -- A command or an automatic REQUEST SENSE; an abort is none.
 abbrev pub process_in : Option OwnItem → Option ProcId
@@ -38,7 +38,7 @@ is_open_sense_of m = m.sense_sent && not m.sense_over
 abbrev pub named_in : List Mine → ℕ → ℕ → Option ℕ → Option OwnItem
 named_in [] target unit tag = None
 named_in (m ∷ mines) target unit tag =
-    if is_at_unit_of m target unit && is_open_mine m && same_number (tag_number_if m.tag) tag then Some (own.Command m.number)
+    if is_at_unit_of m target unit && is_open_mine m && same_number (tag_number m.tag) tag then Some (own.Command m.number)
     else if is_at_unit_of m target unit && is_open_sense_of m && same_number None tag then Some (own.Sense m.number)
     else named_in mines target unit tag
 

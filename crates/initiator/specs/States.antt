@@ -6,7 +6,7 @@ use Rattle.bus_trace.specs.declared.Row.{Row}
 use Rattle.bus_trace.specs.declared.connection.Connection.{Connection}
 use Rattle.scenario.specs.declared.value.HostDef.{HostDef}
 use Rattle.scenario.specs.Value.{ScenarioValue}
-use Rattle.bus_story.specs.TraceHistory.{is_host, aim_of}
+use Rattle.bus_story.specs.TraceHistory.{aim_of}
 use Rattle.bus_dialogue.specs.Exchange.{Speech}
 use Rattle.bus_dialogue.specs.Sending.{Sending, byte_to_send}
 use Rattle.bus_due.specs.Own.{Own, own_of}
@@ -20,6 +20,7 @@ use Rattle.scsi_device.specs.Itself.{ItselfValue}
 use Rattle.initiator.specs.Intents.{IntentValue}
 use Rattle.initiator.specs.OwnBytes.{CommandBytesValue, sending_from}
 use Rattle.initiator.specs.Transfers.{TransfersValue, process_of_link, active_at}
+use Rattle.disk_array.specs.Seats.{is_initiator}
 
 -- ---- what it knows itself
 
@@ -59,7 +60,7 @@ pub record IsInitiatorOf (s : ScenarioValue) (rows : List Row) (h : HostDef) (i 
 pub record IsHostOf (s : ScenarioValue) (h : HostDef) : Type 0 where
   pub below : h.dev < 8
   pub host_is : host_of s h.dev ≡ Some h
-  pub is_one : is_host s.hosts h.dev ≡ true
+  pub is_one : is_initiator s.hosts h.dev ≡ true
   pub no_target : target_def_of s h.dev ≡ None
 
 -- No process is ready at it, and it is the target of no connection.

@@ -1,5 +1,5 @@
 -- What an initiator holds of its own connection and of its own processes, and what each row does to that.
-use Rattle.std.specs.Prelude.{ℕ, ◌%◌, Bool, true, false, not, ◌&&◌, ◌==◌, List, [], ◌∷◌, Option, Some, None, is_none, replicate, if◌then◌else◌}
+use Rattle.std.specs.Prelude.{ℕ, ◌%◌, Bool, true, false, not, ◌&&◌, ◌==◌, List, Option, Some, None, is_none, replicate, if◌then◌else◌}
 use Rattle.bus_base.specs.declared.ProcId.{ProcId}
 use Rattle.bus_base.specs.declared.Event.{Event}
 use Rattle.bus_base.specs.declared.Event.TheVariants as events
@@ -129,7 +129,3 @@ no_transfers dev count = record { dev = dev; held = replicate count no_pair; lin
 abbrev pub active_of : RunState → Option ProcId → Place
 active_of k None = at_start
 active_of k (Some id) = capped_place (pointers_of (carried_here k id)).active
-
-abbrev pub event_if : Option Event → List Event
-event_if None = []
-event_if (Some e) = e ∷ []

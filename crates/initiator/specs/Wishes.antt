@@ -11,8 +11,7 @@ use Rattle.bus_trace.specs.Changes.{rises, falls}
 use Rattle.scenario.specs.declared.value.AbortDef.{AbortDef}
 use Rattle.scenario.specs.Value.{ScenarioValue}
 use Rattle.disk_array.specs.Processes.{command_at}
-use Rattle.bus_story.specs.BusState.{row_reading}
-use Rattle.bus_story.specs.HistoryEvents.{abort_line_at, row_events_by}
+use Rattle.bus_story.specs.HistoryEvents.{abort_line_at}
 use Rattle.bus_story.specs.Items.{Item, process, abort, is_of_host}
 use Rattle.bus_story.specs.Story.{Story}
 use Rattle.bus_story.specs.TraceHistory.{aim_of}
@@ -154,8 +153,3 @@ wish_after dev retries called w c before after row_dev time shown =
 -- After these rows.
 abbrev pub IsWishOf : ScenarioValue → ℕ → List Row → Wish → Type 0
 IsWishOf s dev rows w = IsWishBy s dev (run_state s rows).story w
-
--- The events that a row shows after these rows, the newest first.
-abbrev pub events_shown : ScenarioValue → List Row → Row → List Event
-events_shown s rows row =
-    row_events_by s (run_state s rows).story (row_reading (run_state s rows).story.bus_state row) row

@@ -4,16 +4,13 @@ ghost use Rattle.bus_trace.specs.declared.Row.{Row};
 ghost use Rattle.scenario.specs.declared.value.CmdDef.{CmdDef};
 ghost use Rattle.scenario.specs.Value.{ScenarioValue};
 ghost use Rattle.disk_array.specs.Processes.{command_at};
-ghost use Rattle.bus_story.specs.Items.{command_item, sense_item, has_item, count_item};
+ghost use Rattle.bus_story.specs.Items.{command_item, sense_item, has_item, count_item, sense_id, command_id};
 ghost use Rattle.bus_story.specs.Outcomes.{ending_of, has_end};
 ghost use Rattle.bus_story.specs.Story.{by_status, by_loss, by_reset, by_abort, unanswered};
 ghost use Rattle.bus_story.specs.TraceHistory.{retries_of};
 ghost use Rattle.bus_due.specs.Plain.{AreOfDevices};
 ghost use Rattle.bus_due.specs.RunSteps.{run_state};
 ghost use Rattle.initiator.specs.Causes.{has_status, has_loss, has_bus_reset, has_command_abort, has_sense_stop};
-ghost use Rattle.initiator.specs.Endings.{sense_of};
-ghost use Rattle.initiator.specs.Outcomes.{command_of};
-
 /// How a command ended has its cause in what the rows tell, lawful or not: the history has its end with that status
 /// (`status`), its loss (`loss`), a reset (`reset`) or an abort that concerns it (`abort`), or its initiator called for
 /// it in vain more often than it tries again (`unanswered`). Where its automatic REQUEST SENSE is over without an end,
@@ -22,10 +19,10 @@ ghost use Rattle.initiator.specs.Outcomes.{command_of};
 pub fn endings_have_causes()
     ensures status { (s : ScenarioValue) (rows : List Row) (n status : ℕ)
         → ending_of (run_state s rows).story.ended n ≡ Some (by_status status)
-        → has_status (run_state s rows).story.history (command_of n) status ≡ true }
+        → has_status (run_state s rows).story.history (command_id n) status ≡ true }
     ensures loss { (s : ScenarioValue) (rows : List Row) (n : ℕ)
         → ending_of (run_state s rows).story.ended n ≡ Some by_loss
-        → has_loss (run_state s rows).story.history (command_of n) ≡ true }
+        → has_loss (run_state s rows).story.history (command_id n) ≡ true }
     ensures reset { (s : ScenarioValue) (rows : List Row) (n : ℕ)
         → ending_of (run_state s rows).story.ended n ≡ Some by_reset
         → has_bus_reset (run_state s rows).story.history ≡ true }
@@ -37,6 +34,6 @@ pub fn endings_have_causes()
         → nat_lt (retries_of s.hosts c.host) (count_item (run_state s rows).story.sent.tries (command_item n)) ≡ true }
     ensures stopped { (s : ScenarioValue) (rows : List Row) (n : ℕ) (c : CmdDef) → command_at s.commands n ≡ Some c
         → has_item (run_state s rows).story.sent.over (sense_item n) ≡ true
-        → has_end (run_state s rows).story.history (sense_of n) ≡ false
+        → has_end (run_state s rows).story.history (sense_id n) ≡ false
         → has_sense_stop (run_state s rows).story.history n c ≡ true }
 {}

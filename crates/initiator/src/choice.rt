@@ -1,37 +1,25 @@
 // What an initiator sends next, and since when it wants to, by its own commands and aborts.
 ghost use Rattle.std.specs.Prelude.{◌≡◌, ◌≤◌, true, length, take};
 ghost use Rattle.std.specs.List.{list_any};
-ghost use Rattle.bus_story.specs.Items.{tag_number_if, is_tag_clash};
+ghost use Rattle.bus_story.specs.Items.{is_tag_clash};
 ghost use Rattle.bus_reactions.specs.Reactions.{time_if};
 ghost use Rattle.initiator.specs.Mines.{open_mines, is_open_mine, is_done_mine, is_clash_of, may_follow_mines, mines_since, mine_by, my_aborts_since, my_abort_by};
 ghost use Rattle.initiator.specs.Books.{my_sense};
 ghost use Rattle.initiator.specs.Checks.{none_due};
+ghost use Rattle.disk_array.specs.Order.{tag_number};
 
 use crate::commands::Commands;
+use crate::marks::is_open_mine;
 use crate::mine::{Mine, MyAbort};
 use bus_base::Ns;
+use disk_array::tag_number;
 use scenario::Tag;
 use scsi_device::sooner_time;
-
-fn is_open(mine: &Mine) -> bool
-    ensures { result ≡ is_open_mine mine.now }
-{
-    mine.sent && !mine.over
-}
 
 fn is_done(mine: &Mine) -> bool
     ensures { result ≡ is_done_mine mine.now }
 {
     mine.sent || mine.over
-}
-
-fn tag_number(tag: Tag) -> Option<u8>
-    ensures { result ≡ tag_number_if tag }
-{
-    match tag {
-        Tag::Untagged => None,
-        Tag::Simple(number) | Tag::Ordered(number) | Tag::Head(number) => Some(number),
-    }
 }
 
 fn is_tag_clash(a: Option<u8>, b: Option<u8>) -> bool
@@ -57,7 +45,7 @@ fn open_count(mines: &[Mine]) -> usize
 {
     let mut count = 0;
     for mine in mines {
-        if is_open(mine) {
+        if is_open_mine(mine) {
             count += 1;
         }
     }
@@ -68,7 +56,7 @@ fn has_clash(mines: &[Mine], mine: &Mine) -> bool
     ensures { result ≡ list_any (λ d. is_clash_of mine.now d) (open_mines mines.now) }
 {
     for other in mines {
-        if is_open(other) && is_clash(mine, other) {
+        if is_open_mine(other) && is_clash(mine, other) {
             return true;
         }
     }

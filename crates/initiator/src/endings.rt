@@ -6,11 +6,10 @@ ghost use Rattle.scenario.specs.Value.{ScenarioValue};
 ghost use Rattle.disk_array.specs.Processes.{command_at};
 ghost use Rattle.bus_story.specs.TraceHistory.{aim_of};
 ghost use Rattle.bus_due.specs.Plain.{AreOfDevices};
-ghost use Rattle.bus_due.specs.RunSteps.{run_state};
+ghost use Rattle.bus_due.specs.RunSteps.{run_state, events_of_row};
 ghost use Rattle.initiator.specs.Books.{my_book, item_if};
 ghost use Rattle.initiator.specs.Commands.{all_past};
 ghost use Rattle.initiator.specs.Intents.{IsIntentOf};
-ghost use Rattle.initiator.specs.Wishes.{events_shown};
 ghost use Rattle.initiator.specs.Endings.{no_end, ended_so, end_at, ends_with, ends_with_sense, ends_after_end, ends_after_loss, is_named, ends_of_mines, ends_after_event, ends_after_events, is_over, ends_after_calling, ends_after_from, IsEndOf, AreEndingsOf};
 
 use crate::book::Book;
@@ -237,7 +236,7 @@ impl Endings {
         ensures trace { (s : ScenarioValue) (rows : List Row) (row : Row) (dev : ℕ) → AreOfDevices (row ∷ rows)
             → book.now ≡ my_book s (run_state s (row ∷ rows)).story.sent dev
             → all_past (take past (my_book s (run_state s rows).story.sent dev).mines) ≡ true
-            → item_if aim ≡ aim_of (run_state s rows).story.aims dev → shown.now ≡ events_shown s rows row
+            → item_if aim ≡ aim_of (run_state s rows).story.aims dev → shown.now ≡ events_of_row s rows row
             → AreEndingsOf s rows dev self.old → AreEndingsOf s (row ∷ rows) dev self.new }
     {
         kept_is_plain();
@@ -258,7 +257,7 @@ pub fn see_endings(
         → IsIntentOf s (row ∷ rows) intent.now
         → all_past (take past (my_book s (run_state s rows).story.sent intent.now.dev).mines) ≡ true
         → item_if aim ≡ aim_of (run_state s rows).story.aims intent.now.dev
-        → shown.now ≡ events_shown s rows row → AreEndingsOf s rows intent.now.dev endings.old
+        → shown.now ≡ events_of_row s rows row → AreEndingsOf s rows intent.now.dev endings.old
         → AreEndingsOf s (row ∷ rows) intent.now.dev endings.new }
 {
     endings.see(intent.book(), past, aim, shown);

@@ -5,6 +5,7 @@ ghost use Rattle.io_pointers.specs.Pointers.{place_in, with_restored, with_saved
 ghost use Rattle.initiator.specs.HeldPointers.{nothing_held, held_restored, held_after_message, advanced_within, status_after, held_after_byte, no_pair, half_of, with_half, held_at, with_held, restored_if, message_if, byte_if};
 
 use bus_base::ProcId;
+use bus_story::is_status_phase;
 use bus_trace::{Lines, is_command, is_data};
 use io_pointers::{Area, Pointers};
 use msg_grammar::MsgIn;
@@ -25,12 +26,6 @@ pub struct HeldPair {
     pub command: Held,
     /// Of the automatic REQUEST SENSE.
     pub sense: Held,
-}
-
-fn is_status_phase(lines: Lines) -> bool
-    ensures { result ≡ is_status_phase lines }
-{
-    !lines.msg() && lines.cd() && lines.io()
 }
 
 fn place_in(pointers: Pointers, area: Area) -> u32

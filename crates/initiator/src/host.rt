@@ -8,10 +8,11 @@ ghost use Rattle.bus_lines.specs.BusView.{IsBusViewOf};
 ghost use Rattle.bus_lines.specs.Timely.{IsTimely, IsBefore};
 ghost use Rattle.bus_dialogue.specs.Hearing.{hearing as hearing_in};
 ghost use Rattle.bus_dialogue.specs.Observer.{IsObserverOf};
+ghost use Rattle.bus_dialogue.specs.Events.{is_empty, event_if};
 ghost use Rattle.bus_due.specs.Defs.{host_of};
 ghost use Rattle.bus_due.specs.Next.{due};
 ghost use Rattle.bus_due.specs.Plain.{AreOfDevices};
-ghost use Rattle.bus_due.specs.RunSteps.{run_state};
+ghost use Rattle.bus_due.specs.RunSteps.{run_state, events_of_row};
 ghost use Rattle.scenario.specs.Value.{ScenarioValue};
 ghost use Rattle.scenario.specs.Writing.{Obeys};
 ghost use Rattle.scsi_device.specs.Lines.{FitsBus, IsHostLine, AreUnits};
@@ -19,10 +20,10 @@ ghost use Rattle.scsi_device.specs.Told.{first_fault};
 ghost use Rattle.bus_trace.specs.declared.connection.Connection.{Connection};
 ghost use Rattle.bus_story.specs.BusState.{row_reading};
 ghost use Rattle.bus_due.specs.RunState.{item_of};
-ghost use Rattle.bus_due.specs.Telling.{id_of, initiator_events};
+ghost use Rattle.bus_due.specs.Telling.{id_of, initiator_events, id_or_none};
 ghost use Rattle.scsi_device.specs.Acts.{act_of};
 ghost use Rattle.scsi_device.specs.Itself.{IsItselfOf};
-ghost use Rattle.initiator.specs.Hosts.{IsHostAfter, HasHeard, IsNeverCalled, is_of_others, hears_nothing, process_or_none, are_aborts_done};
+ghost use Rattle.initiator.specs.Hosts.{IsHostAfter, HasHeard, IsNeverCalled, is_of_others, hears_nothing, are_aborts_done};
 ghost use Rattle.scenario.specs.declared.value.CmdDef.{CmdDef};
 ghost use Rattle.disk_array.specs.Processes.{command_at};
 ghost use Rattle.initiator.specs.Books.{my_book};
@@ -34,9 +35,8 @@ ghost use Rattle.initiator.specs.OwnLinks.{own_link};
 ghost use Rattle.initiator.specs.Received.{pair_at, received_taken};
 ghost use Rattle.initiator.specs.Speeches.{IsOpeningOf};
 ghost use Rattle.initiator.specs.States.{IsOwnConnection};
-ghost use Rattle.initiator.specs.Intents.{IsIntentOf, is_empty};
-ghost use Rattle.initiator.specs.Transfers.{IsTransfersOf, event_if};
-ghost use Rattle.initiator.specs.Wishes.{events_shown};
+ghost use Rattle.initiator.specs.Intents.{IsIntentOf};
+ghost use Rattle.initiator.specs.Transfers.{IsTransfersOf};
 
 use crate::due::{Knowledge, initiator_next};
 use crate::endings::{Endings, see_endings};
@@ -55,7 +55,7 @@ use bus_due::{hearings_are_plain, kept_is_plain};
 use bus_lines::{BusView, RowEffect};
 use bus_reactions::Due;
 use bus_trace::{Connection, Row, changes_phase};
-use scenario::{FaultDef, HostDef, Scenario};
+use scenario::{FaultDef, HostDef, Scenario, host_line};
 use scsi_device::{Act, Itself, scenarios_fit_the_bus};
 use std::alloc::Global;
 use std::marker::Model;
@@ -170,18 +170,6 @@ fn see_transfers(
     transfers.see(intent.book(), intent.aim(), hearing, before, after);
 }
 
-// The line of this initiator.
-fn host_line(hosts: &[HostDef], dev: Dev) -> Option<HostDef>
-    ensures { result ≡ find (λ (h : HostDef). h.dev == dev) hosts.now }
-{
-    for def in hosts {
-        if def.dev == dev {
-            return Some(*def);
-        }
-    }
-    None
-}
-
 impl Host {
     // Of this line of the scenario.
     fn of_line(alloc: Global, scenario: &Scenario, def: HostDef) -> Result<Host, NoMemory>
@@ -262,7 +250,7 @@ impl Host {
         ensures endings { self.new.endings ≡ self.old.endings }
         ensures bytes { self.new.bytes ≡ self.old.bytes }
         ensures trace { (s : ScenarioValue) (rows : List Row) (row : Row) → FitsBus s
-            → IsObserverOf (row ∷ rows) observer.now → AreOfDevices (row ∷ rows) → shown.now ≡ events_shown s rows row
+            → IsObserverOf (row ∷ rows) observer.now → AreOfDevices (row ∷ rows) → shown.now ≡ events_of_row s rows row
             → IsHostAfter s rows self.old → HasHeard s rows row self.new }
     {
         scenarios_fit_the_bus();
@@ -302,7 +290,7 @@ impl Host {
         ensures endings { self.new.endings ≡ self.old.endings }
         ensures bytes { self.new.bytes ≡ self.old.bytes }
         ensures trace { (s : ScenarioValue) (rows : List Row) (row : Row) → FitsBus s
-            → IsObserverOf (row ∷ rows) observer.now → AreOfDevices (row ∷ rows) → shown.now ≡ events_shown s rows row
+            → IsObserverOf (row ∷ rows) observer.now → AreOfDevices (row ∷ rows) → shown.now ≡ events_of_row s rows row
             → IsHostAfter s rows self.old → HasHeard s rows row self.new }
     {
         kept_is_plain();
@@ -321,8 +309,8 @@ impl Host {
         requires timely { IsTimely (2 ^ 63) observer.now.view }
         ensures def { self.new.def ≡ self.old.def }
         ensures trace { (s : ScenarioValue) (rows : List Row) → FitsBus s → IsObserverOf (row.now ∷ rows) observer.now
-            → AreOfDevices (row.now ∷ rows) → shown.now ≡ events_shown s rows row.now
-            → is_some (connection rows) ≡ true → events_shown s rows row.now ≡ []
+            → AreOfDevices (row.now ∷ rows) → shown.now ≡ events_of_row s rows row.now
+            → is_some (connection rows) ≡ true → events_of_row s rows row.now ≡ []
             → IsHostAfter s rows self.old → IsHostAfter s (row.now ∷ rows) self.new }
     {
         kept_is_plain();
@@ -339,7 +327,7 @@ impl Host {
         requires timely { IsTimely (2 ^ 63) observer.now.view }
         ensures def { self.new.def ≡ self.old.def }
         ensures trace { (s : ScenarioValue) (rows : List Row) → FitsBus s → IsObserverOf (row.now ∷ rows) observer.now
-            → AreOfDevices (row.now ∷ rows) → shown.now ≡ events_shown s rows row.now
+            → AreOfDevices (row.now ∷ rows) → shown.now ≡ events_of_row s rows row.now
             → IsHostAfter s rows self.old → IsHostAfter s (row.now ∷ rows) self.new }
     {
         let view = observer.view();
@@ -357,7 +345,7 @@ impl Host {
         requires timely { IsTimely (2 ^ 63) observer.now.view }
         ensures def { self.new.def ≡ self.old.def }
         ensures trace { (s : ScenarioValue) (rows : List Row) → FitsBus s → IsObserverOf (row.now ∷ rows) observer.now
-            → AreOfDevices (row.now ∷ rows) → shown.now ≡ events_shown s rows row.now
+            → AreOfDevices (row.now ∷ rows) → shown.now ≡ events_of_row s rows row.now
             → IsHostAfter s rows self.old → IsHostAfter s (row.now ∷ rows) self.new }
     {
         if is_linked(observer.view().effect(), shown) {
@@ -376,7 +364,7 @@ impl Host {
             → IsObserverOf (row.now ∷ rows) observer.now → AreOfDevices (row.now ∷ rows)
             → connection rows ≡ Some m → connection (row.now ∷ rows) ≡ Some n
             → (m.initiator == self.old.def.dev) ≡ false → (n.initiator == self.old.def.dev) ≡ false
-            → (bus (row.now ∷ rows)).rst ≡ false → row.now.dev ≢ self.old.def.dev → events_shown s rows row.now ≡ []
+            → (bus (row.now ∷ rows)).rst ≡ false → row.now.dev ≢ self.old.def.dev → events_of_row s rows row.now ≡ []
             → IsHostAfter s rows self.old → IsHostAfter s (row.now ∷ rows) self.new }
     {
         kept_is_plain();
@@ -438,11 +426,11 @@ impl Host {
     /// The process of the connection in which it stands; its command is 0 where it stands in none, or knows of no
     /// process there.
     pub fn process(&self) -> ProcId
-        ensures rows { (s : ScenarioValue) (rows : List Row) → IsHostAfter s rows self.now → result ≡ process_or_none
+        ensures rows { (s : ScenarioValue) (rows : List Row) → IsHostAfter s rows self.now → result ≡ id_or_none
             (id_of (item_of (own_link self.now.def.dev (connection rows) (run_state s rows).story.link))) }
         ensures trace { (s : ScenarioValue) (rows : List Row) (n : Connection) → IsHostAfter s rows self.now
             → IsOwnConnection rows self.now.def.dev n
-            → result ≡ process_or_none (id_of (item_of (run_state s rows).story.link)) }
+            → result ≡ id_or_none (id_of (item_of (run_state s rows).story.link)) }
     {
         match self.transfers.process() {
             Some(id) => id,

@@ -6,10 +6,10 @@ ghost use Rattle.bus_trace.specs.declared.rows.Row.{Row};
 ghost use Rattle.bus_lines.specs.BusView.{IsBusViewOf};
 ghost use Rattle.scenario.specs.Value.{ScenarioValue};
 ghost use Rattle.bus_due.specs.Plain.{AreOfDevices};
-ghost use Rattle.bus_due.specs.RunSteps.{run_state};
+ghost use Rattle.bus_due.specs.RunSteps.{run_state, events_of_row};
 ghost use Rattle.bus_due.specs.Wants.{item_want_time, target_of};
 ghost use Rattle.bus_story.specs.TraceHistory.{aim_of};
-ghost use Rattle.initiator.specs.Wishes.{events_shown, target_by};
+ghost use Rattle.initiator.specs.Wishes.{target_by};
 ghost use Rattle.initiator.specs.Intents.{IsInitiator, IsIntentOf, is_news, news_in, wish_next, is_for_own_process};
 ghost use Rattle.initiator.specs.Negotiations.{aims_at_process};
 ghost use Rattle.initiator.specs.Openings.{opening_by};
@@ -204,7 +204,7 @@ impl Intent {
         ensures retries { self.new.retries ≡ self.old.retries }
         ensures trace { (s : ScenarioValue) (rows : List Row) → IsBusViewOf (row.now ∷ rows) view.now
             → AreOfDevices (row.now ∷ rows) → IsInitiator s self.old.dev self.old.retries
-            → shown.now ≡ events_shown s rows row.now
+            → shown.now ≡ events_of_row s rows row.now
             → IsIntentOf s rows self.old → IsIntentOf s (row.now ∷ rows) self.new }
     {
         kept_is_plain();
@@ -221,7 +221,7 @@ impl Intent {
         ensures retries { self.new.retries ≡ self.old.retries }
         ensures trace { (s : ScenarioValue) (rows : List Row) → IsBusViewOf (row.now ∷ rows) view.now
             → AreOfDevices (row.now ∷ rows) → IsInitiator s self.old.dev self.old.retries
-            → is_some (connection rows) ≡ true → events_shown s rows row.now ≡ []
+            → is_some (connection rows) ≡ true → events_of_row s rows row.now ≡ []
             → IsIntentOf s rows self.old → IsIntentOf s (row.now ∷ rows) self.new }
     {
         kept_is_plain();

@@ -1,7 +1,7 @@
 // What is done to the commands and aborts of an initiator.
 ghost use Rattle.std.specs.Prelude.{◌≡◌, map};
 ghost use Rattle.disk_array.specs.Steps.{has_tag};
-ghost use Rattle.initiator.specs.Mines.{with_sent, with_over, with_one_try, with_checked, with_status, is_check, sent_at, over_at, tried_at, mine_with_end, is_at_unit_of, is_mine_aborted, is_my_sense_stopped, mine_after_end, mine_after_event};
+ghost use Rattle.initiator.specs.Mines.{is_open_mine, with_sent, with_over, with_one_try, with_checked, with_status, is_check, sent_at, over_at, tried_at, mine_with_end, is_at_unit_of, is_mine_aborted, is_my_sense_stopped, mine_after_end, mine_after_event};
 ghost use Rattle.bus_base.specs.declared.Event.TheVariants.{End};
 ghost use Rattle.initiator.specs.Books.{done_at, abort_tried_at};
 
@@ -9,6 +9,13 @@ use crate::mine::{Mine, MyAbort};
 use bus_base::{AbortKind, Dev, Event, ProcId};
 use cdb_codec::CHECK_CONDITION;
 use scenario::Tag;
+
+/// Whether a command was sent, and is not over.
+pub fn is_open_mine(mine: &Mine) -> bool
+    ensures { result ≡ is_open_mine mine.now }
+{
+    mine.sent && !mine.over
+}
 
 fn with_sent(sense: bool, mine: Mine) -> Mine
     ensures { result ≡ with_sent sense mine }

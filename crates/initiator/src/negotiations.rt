@@ -5,8 +5,7 @@ ghost use Rattle.bus_trace.specs.Terms.{connection};
 ghost use Rattle.scenario.specs.Value.{ScenarioValue};
 ghost use Rattle.bus_due.specs.LastingState.{has_negotiated};
 ghost use Rattle.bus_due.specs.Plain.{AreOfDevices};
-ghost use Rattle.bus_due.specs.RunSteps.{run_state};
-ghost use Rattle.initiator.specs.Wishes.{events_shown};
+ghost use Rattle.bus_due.specs.RunSteps.{run_state, events_of_row};
 ghost use Rattle.initiator.specs.Negotiations.{no_negotiations, had_by_connection, had_after_event, had_after_events, negotiations_after, IsNegotiationsOf, aims_at_process};
 
 use bus_base::{AbortKind, Dev, Event};
@@ -111,7 +110,7 @@ impl Negotiations {
         ensures exact { self.new ≡ negotiations_after self.old process before after shown.now }
         ensures trace { (s : ScenarioValue) (rows : List Row) (row : Row) → AreOfDevices (row ∷ rows)
             → before ≡ connection rows → after ≡ connection (row ∷ rows)
-            → process ≡ aims_at_process s rows self.old.dev → shown.now ≡ events_shown s rows row
+            → process ≡ aims_at_process s rows self.old.dev → shown.now ≡ events_of_row s rows row
             → IsNegotiationsOf s rows self.old → IsNegotiationsOf s (row ∷ rows) self.new }
     {
         kept_is_plain();

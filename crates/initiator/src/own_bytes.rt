@@ -1,12 +1,12 @@
 // The bytes that an initiator sends of its own commands.
 ghost use Rattle.std.specs.Prelude.{◌≡◌, ◌-◌, ◌^◌, min, ◌∷◌, [], slice_index_or, IfOk};
-ghost use Rattle.scenario.specs.Needs.{sent_of, is_write};
+ghost use Rattle.scenario.specs.Needs.{sent_of, is_write, sent_count};
 ghost use Rattle.disk_array.specs.Processes.{bytes_from, payload_bytes, sense_block};
-ghost use Rattle.initiator.specs.OwnBytes.{no_bytes, sense_bytes, sent_count, bytes_of_command, bytes_if_own, bytes_of_commands, own_bytes, bytes_of};
+ghost use Rattle.initiator.specs.OwnBytes.{no_bytes, sense_bytes, bytes_of_command, bytes_if_own, bytes_of_commands, own_bytes, bytes_of};
 
 use bus_base::{Dev, NoMemory, ProcId};
 use cdb_codec::{CdbFault, Command, REQUEST_SENSE, SENSE_LEN, from_cdb};
-use scenario::{CmdDef, Payload, Scenario, need};
+use scenario::{CmdDef, Payload, Scenario, need, sent_count};
 use std::alloc::Global;
 use std::marker::Model;
 
@@ -47,27 +47,6 @@ impl CommandBytes {
         ensures { result.now ≡ self.now.sent }
     {
         self.sent.as_slice()
-    }
-}
-
-/// Whether it is a write without fault.
-pub fn is_write(command: Result<Command, CdbFault>) -> bool
-    ensures { result ≡ is_write command }
-{
-    match command {
-        Ok(Command::Write6 { .. } | Command::Write10 { .. }) => true,
-        _ => false,
-    }
-}
-
-#[tactic(auto, unfolding(scenario::specs::Needs::sent_of))]
-fn sent_count(scenario: &Scenario, def: &CmdDef) -> u32
-    ensures { result ≡ sent_count scenario.now def.now }
-{
-    if is_write(from_cdb(def.cdb.as_slice())) {
-        need(scenario, def)
-    } else {
-        0
     }
 }
 

@@ -1,15 +1,15 @@
 //! What an initiator knows of its own connection (ANSI X3.131-1994, 6.6).
 ghost use Rattle.std.specs.Prelude.{◌≡◌, Some, None};
-ghost use Rattle.bus_story.specs.Items.{tag_number_if};
-ghost use Rattle.bus_story.specs.Links.{same_number};
 ghost use Rattle.initiator.specs.OwnLinks.{process_in, is_open_sense_of, named_in, link_with_name, last_after_out, last_after_in, new_link, undo_of, undone};
 ghost use Rattle.initiator.specs.Mines.{is_open_mine};
+ghost use Rattle.disk_array.specs.Order.{same_number, tag_number};
 
 use crate::book::Book;
 use crate::held::{Held, HeldPair, held_at, set_held};
-use crate::marks::is_at_unit;
+use crate::marks::{is_at_unit, is_open_mine};
 use crate::mine::{Mine, OwnItem};
 use bus_base::{Dev, ProcId};
+use disk_array::tag_number;
 use msg_grammar::{MsgIn, MsgOut};
 use scenario::Tag;
 
@@ -69,15 +69,6 @@ pub fn process_in(item: Option<OwnItem>) -> Option<ProcId>
     }
 }
 
-fn tag_number(tag: Tag) -> Option<u8>
-    ensures { result ≡ tag_number_if tag }
-{
-    match tag {
-        Tag::Untagged => None,
-        Tag::Simple(number) | Tag::Ordered(number) | Tag::Head(number) => Some(number),
-    }
-}
-
 fn same_number(a: Option<u8>, b: Option<u8>) -> bool
     ensures { result ≡ same_number a b }
 {
@@ -86,12 +77,6 @@ fn same_number(a: Option<u8>, b: Option<u8>) -> bool
         (Some(a), Some(b)) => a == b,
         (None, Some(_)) | (Some(_), None) => false,
     }
-}
-
-fn is_open_mine(mine: &Mine) -> bool
-    ensures { result ≡ is_open_mine mine.now }
-{
-    mine.sent && !mine.over
 }
 
 fn is_open_sense(mine: &Mine) -> bool

@@ -14,14 +14,13 @@ ghost use Rattle.initiator.specs.OwnLinks.{own_link};
 ghost use Rattle.initiator.specs.Transfers.{active_of, IsTransfersOf};
 ghost use Rattle.initiator.specs.Received.{empty_buffer, buffer_with, no_buffers, half_of, pair_with, pair_at, buffer_at, received_with, received_taken, data_room, room_of, buffers_if_own, nothing_received, brings_data, received_after, moved_of, AreReceived, undoes_no_byte};
 
-use crate::own_bytes::is_write;
 use crate::transfers::Transfers;
 use bus_base::{Dev, NoMemory, Octets, ProcId};
 use bus_dialogue::Hearing;
 use bus_due::{hearings_are_plain, kept_is_plain};
 use bus_trace::{Connection, is_data};
 use cdb_codec::{SENSE_LEN, from_cdb};
-use scenario::{CmdDef, Scenario, need};
+use scenario::{CmdDef, Scenario, is_write, need};
 use std::alloc::Global;
 use std::marker::Model;
 use std::mem::replace;

@@ -7,6 +7,7 @@ ghost use Rattle.scenario.specs.Value.{ScenarioValue};
 ghost use Rattle.bus_story.specs.BusState.{row_reading};
 ghost use Rattle.bus_story.specs.TraceHistory.{aim_of, is_parity_error};
 ghost use Rattle.bus_dialogue.specs.Hearing.{hearing as hearing_in};
+ghost use Rattle.bus_dialogue.specs.Events.{event_if};
 ghost use Rattle.bus_due.specs.Plain.{AreOfDevices};
 ghost use Rattle.bus_due.specs.RunState.{item_of};
 ghost use Rattle.bus_due.specs.RunSteps.{run_state};
@@ -15,7 +16,7 @@ ghost use Rattle.initiator.specs.Books.{my_book, item_if};
 ghost use Rattle.initiator.specs.States.{IsOwnConnection};
 ghost use Rattle.initiator.specs.HeldPointers.{restored_if};
 ghost use Rattle.initiator.specs.OwnLinks.{process_in, undone, own_link};
-ghost use Rattle.initiator.specs.Transfers.{transfers_begun, transfers_after_out, transfers_after_name, transfers_after_in, transfers_after_byte, transfers_after_crossing, transfers_in_link, transfers_on_bus, transfers_after, process_of_link, active_at, is_last_complete, takes_complete, end_of, completion_in, IsTransfersOf, no_transfers, active_of, event_if};
+ghost use Rattle.initiator.specs.Transfers.{transfers_begun, transfers_after_out, transfers_after_name, transfers_after_in, transfers_after_byte, transfers_after_crossing, transfers_in_link, transfers_on_bus, transfers_after, process_of_link, active_at, is_last_complete, takes_complete, end_of, completion_in, IsTransfersOf, no_transfers, active_of};
 
 use crate::book::Book;
 use crate::held::{HeldPair, carry, hear, held_at, restore};
@@ -24,6 +25,7 @@ use crate::own_link::{LastMessage, OwnLink, bring_back, process_in, undo_of};
 use bus_base::{Dev, Event, NoMemory, ProcId};
 use bus_dialogue::Hearing;
 use bus_due::{hearings_are_plain, kept_is_plain};
+use bus_story::is_parity_error;
 use bus_trace::{Change, Connection, is_message_in, rises};
 use io_pointers::{Place, Pointers};
 use msg_grammar::{MsgIn, MsgOut};
@@ -46,15 +48,6 @@ impl Model for Transfers {
     ghost Value = { TransfersValue };
 
     ghost view = { λ a. record { dev = a.dev; held = a.held.items; link = a.link } };
-}
-
-fn is_parity_error(message: MsgOut) -> bool
-    ensures { result ≡ is_parity_error message }
-{
-    match message {
-        MsgOut::ParityError => true,
-        _ => false,
-    }
 }
 
 fn is_last_complete(last: LastMessage) -> bool

@@ -34,7 +34,7 @@ use Rattle.bus_due.specs.Defs.{host_of}
 use Rattle.bus_due.specs.RunState.{bus_of}
 use Rattle.bus_due.specs.RunSteps.{run_state}
 use Rattle.bus_due.specs.Sights.{sight_of, flip_of, serving_at, sending_of}
-use Rattle.bus_due.specs.Connected.{is_receiver, is_receiving, end_due, initiator_end_due, target_end_due}
+use Rattle.bus_due.specs.Connected.{is_receiver, end_due, initiator_end_due, target_end_due}
 use Rattle.bus_due.specs.Due.{self_of, stage_due}
 use Rattle.bus_due.specs.Plain.{AreOfDevices, crossed, crossed_if}
 use Rattle.bus_due.specs.Least.{IsLeast}
@@ -132,7 +132,7 @@ by_receiver n (Some m) c dev call row e z = go c.after.bsy e
   where
     or_not : (x : Option ℕ) → receiver_in m c ≡ x → is_receiver m (crossed_if (is_some x) c) dev ≡ true → is_of_device x dev ≡ true
     or_not None f y = absurd cc
-    or_not (Some d) f y = sym (ap (λ (x : Option ℕ). is_receiving x dev) f) ∙ y
+    or_not (Some d) f y = sym (ap (λ (x : Option ℕ). is_of_device x dev) f) ∙ y
 
     go : (q : Bool) → (if q then Some m else None) ≡ Some n → is_of_device (receiver_in m c) dev ≡ true
     go true y = or_not (receiver_in m c) refl (ap (λ (x : Connection). is_receiver x (crossed_if (is_some (receiver_in m c)) c) dev) (same_Some m n y) ∙ z)

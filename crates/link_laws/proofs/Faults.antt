@@ -28,7 +28,7 @@ use Rattle.bus_laws.proofs.Rows.{fault_change, stands_by, own_time_fault}
 use Rattle.link_laws.specs.Books.{KeepsBooksIn}
 use Rattle.link_laws.specs.Phases.{ends, fits_duty, InPhase, HasDriven, shaking_time, Shaking}
 use Rattle.link_laws.specs.LinkStages.{LinkStage, when_selected, when_settling, when_turning, when_offering, when_shaking}
-use Rattle.link_laws.proofs.Moves.{terms_after, same_line, same_self, no_rise}
+use Rattle.link_laws.proofs.Moves.{terms_after, same_line, no_rise}
 use Rattle.link_laws.proofs.LinkSeen.{around, obeys_linked}
 use Rattle.link_laws.proofs.FaultObeys.{fault_obeys_in, fault_obeys_out}
 use Rattle.link_laws.proofs.Goes.{NextLinked}
@@ -36,10 +36,11 @@ use Rattle.std.specs.Prelude.{nat_lt, max}
 use Rattle.bus_trace.specs.declared.agreements.TransferTimes.{TransferTimes}
 use Rattle.bus_trace.specs.Agreements.{times_of}
 use Rattle.bus_trace.specs.Terms.{when}
+use Rattle.bus_trace.proofs.Sets.{same_self}
 use Rattle.bus_phases.specs.Phases.{pulses, no_pulses, count_after}
 use Rattle.bus_lines.specs.declared.handshakes.Request.{Request}
 use Rattle.bus_lines.specs.Handshakes.{strikes, strikes_last, first_of, time_of, room_by}
-use Rattle.bus_lines.proofs.Early.{struck_length}
+use Rattle.bus_lines.proofs.Early.{struck_length, struck_same}
 use Rattle.bus_reactions.specs.Target.{bits_if}
 use Rattle.bus_dialogue.specs.Ends.{lag_by}
 use Rattle.bus_due.specs.Defs.{host_of}
@@ -267,10 +268,6 @@ target_stays true req ack y h a b z off run bits lat =
     (max b (h.last_req + z.hold) + lat)
 target_stays false req ack y h a b z off run bits lat = refl
 
-requests_stay : (io : Bool) (h : Handshakes) → (strikes_if io h).requests ≡ h.requests
-requests_stay true h = refl
-requests_stay false h = refl
-
 initiator_stays : (io ack atn : Bool) (x : ℕ) (h : Handshakes) (a b : ℕ) (z : TransferTimes) (lag raised g g' lat : ℕ) → (io ≡ false → ack ≡ true) → initiator_next io ack atn x (strikes_if io h) a b z lag raised g' lat ≡ initiator_next io ack atn x h a b z lag raised g lat
 initiator_stays true ack atn x h a b z lag raised g g' lat f =
     let long = struck_length h.waiting in
@@ -297,7 +294,7 @@ ahead_stays s p n io req ack atn x y d bit always lt out h a =
       target = λ lat there.
           subst (NoSooner t) (sym (target_next_is s p row n _ io req ack y lat (strikes_if io (handshakes p)) (line_times p).req (line_times p).ack dr eh er ea w.agreements_are
           ∙ target_stays io req ack y (handshakes p) (line_times p).req (line_times p).ack (times_here p) (offset_here p) (run_count s p n) _ lat
-          ∙ ap (λ (k : ℕ). target_next io req ack y (handshakes p) (line_times p).req (line_times p).ack (times_here p) (offset_here p) (run_count s p n) (bits_if (nat_lt k (run_count s p n)) (byte_in_run s p n k)) lat) (requests_stay io (handshakes p)))) (a.target lat there);
+          ∙ ap (λ (k : ℕ). target_next io req ack y (handshakes p) (line_times p).req (line_times p).ack (times_here p) (offset_here p) (run_count s p n) (bits_if (nat_lt k (run_count s p n)) (byte_in_run s p n k)) lat) (struck_same io (handshakes p)))) (a.target lat there);
       initiator = λ lat there.
           subst (NoSooner t) (sym (initiator_next_is s p row n io ack atn x lat (strikes_if io (handshakes p)) (line_times p).ack (line_times p).atn (own_of p n.initiator).ack (given_here s q) eh ea en eo refl w.agreements_are
           ∙ initiator_stays io ack atn x (handshakes p) (line_times p).ack (line_times p).atn (times_here p) (lag_by (host_of s n.initiator)) (own_of p n.initiator).ack (given_here s p) (given_here s q) lat out)) (a.initiator lat there);

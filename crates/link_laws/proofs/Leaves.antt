@@ -35,7 +35,7 @@ may_leave msg cd io atn (Some phase) =
 abbrev Passes : (Option Phase → Bool) → Leaving → Type 0
 Passes f l = f l.to ≡ true
 
-recovers : (f : Option Phase → Bool) (def : Option TargetDef) (t : Task) (a b : Leaving) → Passes f a → Passes f b → Passes f (recovery def t a b)
+pub recovers : (f : Option Phase → Bool) (def : Option TargetDef) (t : Task) (a b : Leaving) → Passes f a → Passes f b → Passes f (recovery def t a b)
 recovers f def t a b h k = go t.in_hold (nat_lt t.recoveries (recovery_limit def))
   where
     go : (q r : Bool) → f (if q then a else if r then record a { counts = true } else b).to ≡ true

@@ -1,7 +1,7 @@
 -- A row of one end of a connection: what it leaves on the bus, and of the terms of the rules.
 use Rattle.std.proofs.Common.{ℕ, ◌≡◌, ◌≢◌, ◌<◌, ◌%◌, Bool, true, false, not, ◌&&◌, ◌||◌, List, ◌∷◌, ◌∙◌, refl, sym, ap, Some, None}
 use Rattle.std.specs.Prelude.{◌+◌, if◌then◌else◌, max, is_some, nat_le}
-use Rattle.bus_trace.specs.LineSet.{LineSet, none, union, same, data_of}
+use Rattle.bus_trace.specs.LineSet.{LineSet, none, union, data_of}
 use Rattle.bus_trace.specs.declared.Row.{Row}
 use Rattle.bus_trace.specs.declared.line_times.LineTimes.{LineTimes}
 use Rattle.bus_trace.specs.declared.connection.Connection.{Connection}
@@ -11,6 +11,7 @@ use Rattle.bus_trace.specs.Phases.{changes_phase}
 use Rattle.bus_trace.specs.Terms.{connection, is_fault, receiver, receiver_in, receiver_of, when}
 use Rattle.bus_trace.specs.Trace.{drives, bus, since, newer, newer_line, line_times, times_after, phase_time}
 use Rattle.bus_trace.proofs.Buses.{bus_two}
+use Rattle.bus_trace.proofs.Sets.{same_self}
 use Rattle.bus_phases.specs.declared.attention.Duty.TheVariants as duties
 use Rattle.bus_phases.specs.declared.dialogue.Dialogue.{Dialogue}
 use Rattle.bus_phases.specs.Phases.{pulses, pulses_after, pulses_on, no_pulses, count_after, duty, duty_after, duty_if_held, duty_left, turned, turned_after, is_attention_held}
@@ -111,10 +112,6 @@ terms_of p row n e f o l h m = terms_after p row n (change_to (connected_bus e) 
 pub same_line : (q : Bool) (was t : ℕ) → newer_line q q was t ≡ was
 same_line true was t = refl
 same_line false was t = refl
-
-pub same_self : (q : Bool) → same q q ≡ true
-same_self true = refl
-same_self false = refl
 
 pub no_rise : (q : Bool) → rises q q ≡ false
 no_rise true = refl

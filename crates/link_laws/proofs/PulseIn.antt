@@ -19,6 +19,7 @@ use Rattle.bus_rules.specs.Messages.{is_owed}
 use Rattle.bus_rules.specs.Transfer.{is_after}
 use Rattle.bus_lines.specs.declared.handshakes.Request.{Request}
 use Rattle.bus_lines.specs.Handshakes.{Handshakes, handshakes, asked, answered, answered_if, asked_if, opened, first_of, time_of, room_by}
+use Rattle.bus_lines.proofs.Early.{push_length}
 use Rattle.scenario.specs.Value.{ScenarioValue}
 use Rattle.bus_story.specs.Samples.{latency_of}
 use Rattle.bus_dialogue.specs.Ends.{lag_by}
@@ -34,7 +35,7 @@ use Rattle.link_laws.proofs.Goes.{turn_test, receives_if, data_by}
 use Rattle.link_laws.proofs.Shakes.{target_row, initiator_row, or_asks}
 use Rattle.link_laws.proofs.PulseObeys.{byte_change_obeys, req_pulse_in, MayAnswer, ack_pulse_in, ack_end_in}
 use Rattle.link_laws.proofs.PulseRows.{NextPulsing, PulseHere, later_target_in, later_initiator_in, data_row, target_next_is, initiator_next_is, own_ack_other, own_ack_own, pulsing_goes, fresh_next, same_latency, data_stands, room_same, room_now}
-use Rattle.link_laws.proofs.PulseSteps.{more_asked, one_more, req_rises_facts, ack_rises_facts, ack_falls_facts, still_facts, opened_is, first_stays, first_new, one_less, target_after, none_no_sooner, some_no_sooner, of_no_sooner}
+use Rattle.link_laws.proofs.PulseSteps.{more_asked, req_rises_facts, ack_rises_facts, ack_falls_facts, still_facts, opened_is, first_stays, first_new, one_less, target_after, none_no_sooner, some_no_sooner, of_no_sooner}
 use Rattle.std.proofs.lemmas.Bool.{lt-ltb, ltb-true, le-leb}
 use Rattle.bus_base.proofs.Tests.{or_true}
 
@@ -42,7 +43,7 @@ use Rattle.bus_base.proofs.Tests.{or_true}
 
 -- A request more waits; the oldest of them is the same, or it is the new one.
 pub waits_more : (t : ℕ) (w : List Request) → length w < 255 → (not (length (opened t w) == 0)) ≡ true
-waits_more t w h = ap (λ (k : List Request). not (length k == 0)) (opened_is t w h) ∙ ap (λ (k : ℕ). not (k == 0)) (one_more w (record { time = t; struck = false })) ∙ some_more (length w)
+waits_more t w h = ap (λ (k : List Request). not (length k == 0)) (opened_is t w h) ∙ ap (λ (k : ℕ). not (k == 0)) (push_length w (record { time = t; struck = false })) ∙ some_more (length w)
   where
     some_more : (a : ℕ) → not (a + 1 == 0) ≡ true
     some_more a = grind (arith, nat_tests)

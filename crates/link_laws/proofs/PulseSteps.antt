@@ -7,6 +7,7 @@ use Rattle.bus_base.specs.Faults.{counted_on}
 use Rattle.bus_trace.specs.Agreements.{times_of, times_or_slow, fast_times, slow_times}
 use Rattle.bus_lines.specs.declared.handshakes.Request.{Request}
 use Rattle.bus_lines.specs.Handshakes.{Handshakes, opened, asked, answered, no_handshakes, first_of, or_now}
+use Rattle.bus_lines.proofs.Early.{push_length}
 use Rattle.link_laws.specs.Pulses.{Reached, PulseFacts, target_time, NoSooner}
 use Rattle.bus_base.proofs.Tests.{next_some}
 
@@ -18,10 +19,6 @@ pub more_asked : (r run : ℕ) → nat_lt r run ≡ true → run < 2 ^ 64 → r 
 more_asked r run e short = let less = ltb-true r run e in omega arith
 
 -- ---- the requests that wait
-
-pub one_more : (w : List Request) (r : Request) → length (w ++ r ∷ []) ≡ length w + 1
-one_more [] r = refl
-one_more (q ∷ w) r = let u = one_more w r in omega arith
 
 pub opened_is : (t : ℕ) (w : List Request) → length w < 255 → opened t w ≡ w ++ record { time = t; struck = false } ∷ []
 opened_is t w h = let e : nat_lt (length w) 255 ≡ true = lt_test (length w) 255 h in ap (λ (q : Bool). if q then w ++ record { time = t; struck = false } ∷ [] else w) e
@@ -66,7 +63,7 @@ pub req_rises_facts : (h : Handshakes) (req_time ack_time raised assertion offse
 req_rises_facts h req_time ack_time raised assertion offset last t ack f room byte short order =
     let same : counted_on h.requests ≡ h.requests + 1 = count_more h.requests short in
     let wait : opened t h.waiting ≡ h.waiting ++ record { time = t; struck = false } ∷ [] = opened_is t h.waiting (omega arith) in
-    let long : length (opened t h.waiting) ≡ length h.waiting + 1 = ap (λ (x : List Request). length x) wait ∙ one_more h.waiting (record { time = t; struck = false }) in
+    let long : length (opened t h.waiting) ≡ length h.waiting + 1 = ap (λ (x : List Request). length x) wait ∙ push_length h.waiting (record { time = t; struck = false }) in
     let count = f.counts in
     let ack_past = f.ack_past in
     record {

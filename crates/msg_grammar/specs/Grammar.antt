@@ -1,10 +1,12 @@
 -- The grammar of messages, of either direction: what the bytes of a message are, and what a list of bytes
 -- begins with.
-use Rattle.std.specs.Prelude.{ℕ, ◌≡◌, ◌<◌, ◌≤◌, ◌&&◌, List, [], ◌∷◌, ◌++◌, length, take, Option, Some, None, option_map, ◌==◌, if◌then◌else◌}
+use Rattle.std.specs.Prelude.{ℕ, ◌≡◌, ◌<◌, ◌≤◌, ◌&&◌, List, [], ◌∷◌, ◌++◌, length, take, Option, Some, None, option_map, ◌==◌, if◌then◌else◌, true, false, Bool}
 use Rattle.std.specs.List.{AllByRecursion}
 use Rattle.bus_trace.specs.declared.agreements.Agreement.{Agreement}
 use Rattle.msg_grammar.specs.declared.message.Got.{Got}
 use Rattle.msg_grammar.specs.declared.message.Got.TheVariants.{Whole, More, Unknown}
+use Rattle.msg_grammar.specs.declared.message.MsgOut.{MsgOut}
+use Rattle.msg_grammar.specs.declared.message.MsgOut.TheVariants as to_target
 
 -- What the first byte of a message says of it: it is this message, alone; or one byte follows, the tag
 -- of a command; or it begins an extended message, a synchronous data transfer request; or no message
@@ -110,3 +112,10 @@ GoesOn {M} message bytes = (more : List ℕ) × (m : M) × (0 < length more) × 
 -- a part of them at their front.
 abbrev pub NeverBegins : {M : Type 0} → (List ℕ → Option M) → List ℕ → Type 0
 NeverBegins message bytes = (more : List ℕ) (n : ℕ) → message (take n (bytes ++ more)) ≡ None
+
+abbrev pub is_abort : MsgOut → Bool
+is_abort to_target.Abort = true
+is_abort to_target.AbortTag = true
+is_abort to_target.ClearQueue = true
+is_abort to_target.DeviceReset = true
+is_abort _ = false

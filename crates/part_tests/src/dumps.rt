@@ -4,7 +4,7 @@ ghost use Rattle.std.specs.Prelude.{◌<◌};
 ghost use Rattle.std.specs.List.{AllByRecursion};
 ghost use Rattle.bus_trace.specs.OfTrace.{IsRow};
 
-use bitflags::Flags;
+use crate::driven_rows::drive;
 use bus_base::MemSink;
 use bus_trace::{Kind, Lines, Row};
 use std::alloc::Global;
@@ -118,21 +118,10 @@ fn reads_long_tokens(rt: HostRuntime) -> Result<(), Fail> {
     Ok(())
 }
 
-fn driven(time: u64, dev: u8, bits: u32) -> Row
-    requires { dev < 8 }
-    ensures { IsRow result }
-{
-    Row {
-        time,
-        dev,
-        kind: Kind::Drives(Lines::from_bits_retain(bits)),
-    }
-}
-
 fn two_rows() -> [Row; 2]
     ensures { AllByRecursion IsRow result }
 {
-    [driven(1200, 7, 0x280), driven(1200, 7, 0x680)]
+    [drive(1200, 7, 0x280), drive(1200, 7, 0x680)]
 }
 
 #[test]

@@ -12,7 +12,8 @@ use Rattle.bus_story.specs.Story.{Story}
 use Rattle.bus_story.specs.TraceHistory.{aim_of, is_arbitration_entry, story_with_aim, story_after_calling, story_on_free_bus, story_on_bus, story_by_change}
 use Rattle.bus_due.specs.RunState.{RunState}
 use Rattle.bus_due.specs.RunSteps.{run_state}
-use Rattle.bus_books.proofs.Aims.{calling_aims, connected_aims, begun_aims, events_aims}
+use Rattle.bus_books.proofs.Aims.{connected_aims}
+use Rattle.bus_story.proofs.StorySteps.{calling_aims, begun_aims, events_aims}
 
 -- ---- a row
 

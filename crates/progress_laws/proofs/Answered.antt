@@ -10,11 +10,11 @@ use Rattle.scenario.specs.Writing.{Obeys}
 use Rattle.disk_array.specs.Processes.{Process, command_at, process_by, process_if, process_of}
 use Rattle.disk_array.specs.SoundArray.{IsSound}
 use Rattle.disk_array.specs.Units.{Array, Nexus, UnitState, is_at_unit, is_held, unit_state_at}
-use Rattle.bus_story.specs.Items.{Item, Sent, command_item, has_item, is_done, is_of_host, is_open, sense_from, sense_item}
+use Rattle.disk_array.specs.Seats.{is_initiator}
+use Rattle.bus_story.specs.Items.{Item, Sent, command_item, has_item, is_done, is_of_host, is_open, sense_from, sense_item, command_id}
 use Rattle.bus_story.specs.Outcomes.{Outcome, ending_of, outcome_if, outcome_of, outcomes_from}
 use Rattle.bus_story.specs.Samples.{latency_of}
 use Rattle.bus_story.specs.Story.{Ending, Story, is_ended}
-use Rattle.bus_story.specs.TraceHistory.{is_host}
 use Rattle.bus_dialogue.specs.Wants.{Ready}
 use Rattle.bus_due.specs.RunState.{RunState, array_of}
 use Rattle.bus_due.specs.Wants.{item_want_time, ready_of, ready_time, seek_of, want_time}
@@ -29,7 +29,7 @@ use Rattle.trace_laws.proofs.Impossible.{some_none, none_some}
 use Rattle.progress_laws.proofs.Queues.{HasQueue, IsThere, current_there, not_ready, process_there, queue_found}
 use Rattle.progress_laws.proofs.Rooms.{initiator_there, some_open}
 use Rattle.progress_laws.proofs.Unsent.{DoneBy, NoneOpen, no_sense_wanted, sent_all}
-use Rattle.progress_laws.specs.Queued.{AreOwed, AreQueued, IsOwed, command_id}
+use Rattle.progress_laws.specs.Queued.{AreOwed, AreQueued, IsOwed}
 use Rattle.std.proofs.lemmas.Bool.{eqb-true, and_from}
 use Rattle.bus_base.proofs.Tests.{wrong, eq_self, plus_none}
 
@@ -152,7 +152,7 @@ not_open s k n c o r rest quiet at = go (is_open k.story.sent n) refl
         by_hold true e = held_wants s k h.unit.target h.unit.unit a.holds o r.items rest quiet r.owed e
         by_hold false e =
             let d : HasDevice s h.unit.target = unit_there s a.units h.unit.target h.unit.unit h.unit h.at r.there in
-            let host : is_host s.hosts h.unit.target ≡ false = ap (is_host s.hosts) (sym target_is) ∙ line.target_is in
+            let host : is_initiator s.hosts h.unit.target ≡ false = ap (is_initiator s.hosts) (sym target_is) ∙ line.target_is in
             let want = quiet h.unit.target d.latency (subst (λ (m : ℕ). m < 8) target_is line.target) d.latency_is in
             let none : ready_of s k h.unit.target ≡ None = no_time (ready_of s k h.unit.target) (sym (ap (λ (x : Bool). if x then item_want_time s k.story.sent h.unit.target else ready_time (ready_of s k h.unit.target)) host) ∙ want) in
             absurd (not_ready a k.current_since (seek_of s.targets h.unit.target) h.unit unit_below h.at e (current_there s a h.unit (command_id n) r.sound h.at h.here e) none)

@@ -16,7 +16,6 @@ use Rattle.bus_trace.specs.declared.selection.Calling.{Calling}
 use Rattle.bus_lines.specs.declared.stage.Stage.TheVariants.{InArbitration, InCalling}
 use Rattle.bus_lines.specs.Stage.{stage}
 use Rattle.scenario.specs.Value.{ScenarioValue}
-use Rattle.bus_story.specs.TraceHistory.{is_host}
 use Rattle.bus_story.specs.Samples.{latency_of}
 use Rattle.bus_reactions.specs.declared.due.Due.{Due}
 use Rattle.bus_reactions.specs.Reactions.{due_at, due_where}
@@ -34,6 +33,7 @@ use Rattle.bus_laws.proofs.Resets.{due_holding}
 use Rattle.bus_laws.proofs.Rows.{stage_is}
 use Rattle.trace_laws.proofs.Called.{callee_at}
 use Rattle.progress_laws.proofs.Acts.{SomeDue, calm_end, moved, nothing_due, there_by}
+use Rattle.disk_array.specs.Seats.{is_initiator}
 
 -- ---- under RST
 
@@ -113,9 +113,9 @@ pub record IsBound (s : ScenarioValue) (p : List Row) (c : ℕ) : Type 0 where
   pub below : other < 8
   pub apart : c ≢ other
 
-starts : (s : ScenarioValue) (p : List Row) (c lat since : ℕ) (own : LineSet) → IsBound s p c → SomeDue (calling_start (not (is_host s.hosts c)) (device_with c lat own since) (callee_at s p c))
+starts : (s : ScenarioValue) (p : List Row) (c lat since : ℕ) (own : LineSet) → IsBound s p c → SomeDue (calling_start (not (is_initiator s.hosts c)) (device_with c lat own since) (callee_at s p c))
 starts s p c lat since own b =
-    moved _ _ (ap (calling_start (not (is_host s.hosts c)) (device_with c lat own since)) b.is)
+    moved _ _ (ap (calling_start (not (is_initiator s.hosts c)) (device_with c lat own since)) b.is)
     (where_some (nat_lt b.other 8 && not (b.other == c)) _ (well b.other c b.below b.apart))
   where
     where_some : (q : Bool) (x : Due) → q ≡ true → SomeDue (due_where q (Some x))

@@ -7,9 +7,10 @@ use Rattle.bus_trace.specs.declared.Row.{Row}
 use Rattle.bus_trace.specs.declared.connection.Connection.{Connection}
 use Rattle.scenario.specs.declared.value.CmdDef.{CmdDef}
 use Rattle.scenario.specs.Value.{ScenarioValue}
-use Rattle.disk_array.specs.Processes.{Process, command_at, process_by, process_if, process_of}
+use Rattle.disk_array.specs.Processes.{Process, command_at, process_by, process_if, process_of, sense_process, command_process}
+use Rattle.disk_array.specs.Seats.{is_initiator}
 use Rattle.bus_story.specs.Items.{Item}
-use Rattle.bus_story.specs.TraceHistory.{is_host, aim_of}
+use Rattle.bus_story.specs.TraceHistory.{aim_of}
 use Rattle.bus_dialogue.specs.Wants.{Ready}
 use Rattle.bus_due.specs.Plain.{AreOfDevices}
 use Rattle.bus_due.specs.RunSteps.{run_state}
@@ -22,20 +23,19 @@ use Rattle.bus_books.proofs.Aims.{aims_are}
 use Rattle.bus_books.proofs.ReadyProcesses.{reselects_by}
 use Rattle.trace_laws.proofs.Called.{callee_at, own_units}
 use Rattle.progress_laws.proofs.Apart.{IsBound}
-use Rattle.trace_laws.proofs.Ends.{sense_of, told_of}
 
 -- ---- the two ends of a process
 
 pub record HasTwoEnds (s : ScenarioValue) (initiator target : ℕ) : Type 0 where
   pub initiator_below : initiator < 8
   pub target_below : target < 8
-  pub host : is_host s.hosts initiator ≡ true
-  pub none : is_host s.hosts target ≡ false
+  pub host : is_initiator s.hosts initiator ≡ true
+  pub none : is_initiator s.hosts target ≡ false
 
 command_ends : (s : ScenarioValue) (id : ProcId) (c : CmdDef) → HasTwoEnds s c.host c.target → HasTwoEnds s (process_by s id c).initiator (process_by s id c).target
 command_ends s id c h = go id.sense
   where
-    go : (q : Bool) → HasTwoEnds s (if q then sense_of s id c else told_of s id c).initiator (if q then sense_of s id c else told_of s id c).target
+    go : (q : Bool) → HasTwoEnds s (if q then sense_process id c else command_process s id c).initiator (if q then sense_process id c else command_process s id c).target
     go true = h
     go false = h
 
@@ -49,12 +49,12 @@ process_ends s id p fits e = go (command_at s.commands id.command) refl
         subst (λ (x : Process). HasTwoEnds s x.initiator x.target) (same_Some (process_by s id c) p (sym (ap (process_if s id) z) ∙ e))
         (command_ends s id c (record { initiator_below = line.host; target_below = line.target; host = line.host_is; none = line.target_is }))
 
-pub are_apart : (s : ScenarioValue) (a b : ℕ) → is_host s.hosts a ≡ true → is_host s.hosts b ≡ false → a ≢ b
-are_apart s a b e f same = let z = sym e ∙ ap (is_host s.hosts) same ∙ f in cc
+pub are_apart : (s : ScenarioValue) (a b : ℕ) → is_initiator s.hosts a ≡ true → is_initiator s.hosts b ≡ false → a ≢ b
+are_apart s a b e f same = let z = sym e ∙ ap (is_initiator s.hosts) same ∙ f in cc
 
 -- ---- an initiator, by its aim
 
-item_bound : (s : ScenarioValue) (p : List Row) (c : ℕ) (item : Item) → FitsBus s → is_host s.hosts c ≡ true → target_of s (aim_of (run_state s p).story.aims c) ≡ target_of s (Some item) → IsItem s c item → IsBound s p c
+item_bound : (s : ScenarioValue) (p : List Row) (c : ℕ) (item : Item) → FitsBus s → is_initiator s.hosts c ≡ true → target_of s (aim_of (run_state s p).story.aims c) ≡ target_of s (Some item) → IsItem s c item → IsBound s p c
 item_bound s p c item fits host e (is_process id pr found own) =
     let ends = process_ends s id pr fits found in
     record {
@@ -72,12 +72,12 @@ item_bound s p c item fits host e (is_abort n a found own) =
       apart = are_apart s c a.target host line.target_is;
     }
 
-pub aim_bound : (s : ScenarioValue) (p : List Row) (c : ℕ) (item : Item) → FitsBus s → is_host s.hosts c ≡ true → aim_of (run_state s p).story.aims c ≡ Some item → IsBound s p c
+pub aim_bound : (s : ScenarioValue) (p : List Row) (c : ℕ) (item : Item) → FitsBus s → is_initiator s.hosts c ≡ true → aim_of (run_state s p).story.aims c ≡ Some item → IsBound s p c
 aim_bound s p c item fits host e = item_bound s p c item fits host (ap (target_of s) e) (aims_are s p c item e)
 
 -- ---- a target, by what it has ready
 
-pub ready_bound : (s : ScenarioValue) (p : List Row) (c : ℕ) (r : Ready) → FitsBus s → AreOfDevices p → is_host s.hosts c ≡ false → ready_of s (run_state s p) c ≡ Some r → IsBound s p c
+pub ready_bound : (s : ScenarioValue) (p : List Row) (c : ℕ) (r : Ready) → FitsBus s → AreOfDevices p → is_initiator s.hosts c ≡ false → ready_of s (run_state s p) c ≡ Some r → IsBound s p c
 ready_bound s p c r fits dv host e =
     let n : Connection = record { initiator = r.process.initiator; target = c; began = 0; reselected = true } in
     let called : callee_at s p c ≡ Some r.process.initiator = ap (λ (q : Bool). if q then target_of s (aim_of (run_state s p).story.aims c) else initiator_if (ready_of s (run_state s p) c)) host ∙ ap initiator_if e in
@@ -87,5 +87,5 @@ ready_bound s p c r fits dv host e =
       other = r.process.initiator;
       is = called;
       below = subst (λ (k : ℕ). k < 8) w.initiator_is ends.initiator_below;
-      apart = λ same. are_apart s r.process.initiator c (ap (is_host s.hosts) (sym w.initiator_is) ∙ ends.host) host (sym same);
+      apart = λ same. are_apart s r.process.initiator c (ap (is_initiator s.hosts) (sym w.initiator_is) ∙ ends.host) host (sym same);
     }

@@ -5,7 +5,8 @@ use Rattle.bus_base.specs.declared.events.Pick.{Pick}
 use Rattle.bus_base.specs.declared.events.Pick.TheVariants as picks
 use Rattle.disk_array.specs.declared.entries.Entry.{Entry}
 use Rattle.disk_array.specs.Processes.{Process}
-use Rattle.disk_array.specs.Order.{choice, chosen_place, entries_of, entry_of, is_head, is_ordered, last_head, last_of, may_run_after, picked_place, process_at, process_at_if, runnable_after, runnable_by}
+use Rattle.disk_array.specs.Order.{choice, chosen_place, entries_of, entry_of, is_head, last_head, last_of, may_run_after, picked_place, process_at, process_at_if, runnable_after, runnable_by}
+use Rattle.tag_queue.proofs.Chosen.{first_runs}
 
 -- ---- places
 
@@ -36,13 +37,6 @@ after_below before place n (p ∷ waiting) le = go (may_run_after before p) (aft
     go true more = (omega (arith, le), more)
     go false more = more
 
-first_may : (p : Entry) → may_run_after [] p ≡ true
-first_may p = go (is_ordered p.class)
-  where
-    go : (q : Bool) → (if q then true else true) ≡ true
-    go true = refl
-    go false = refl
-
 head_below : (waiting : List Entry) (place n : ℕ) (found : Option ℕ) (head : ℕ) → place + length waiting ≤ n → ((h : ℕ) → found ≡ Some h → h < n) → last_head waiting place found ≡ Some head → head < n
 head_below [] place n found head le was e = was head e
 head_below (p ∷ waiting) place n found head le was e = head_below waiting (suc place) n (if is_head p.class then Some place else found) head (omega (arith, le)) (go (is_head p.class)) e
@@ -66,7 +60,7 @@ chosen_below pick p waiting = go (last_head (p ∷ waiting) 0 None) refl
     go : (o : Option ℕ) → last_head all 0 None ≡ o → IsBelow (picked_place pick (runnable_by o all)) (length all)
     go (Some head) e = picked_below pick (length all) head [] (head_below all 0 (length all) None head (omega arith) (λ h z. no_place h z) e) tt
     go None e =
-        subst (λ (q : Bool). IsBelow (picked_place pick (if q then 0 ∷ runnable_after (p ∷ []) 1 waiting else runnable_after (p ∷ []) 1 waiting)) (length all)) (sym (first_may p))
+        subst (λ (q : Bool). IsBelow (picked_place pick (if q then 0 ∷ runnable_after (p ∷ []) 1 waiting else runnable_after (p ∷ []) 1 waiting)) (length all)) (sym (first_runs p))
         (picked_below pick (length all) 0 (runnable_after (p ∷ []) 1 waiting) (omega arith) (after_below (p ∷ []) 1 (length all) waiting (omega arith)))
 
 -- ---- the process

@@ -15,7 +15,8 @@ use Rattle.bus_story.specs.Items.{Item, Sent, has_item, process, sense_item}
 use Rattle.bus_story.specs.Story.{Story, by_abort, by_reset, by_status, is_aborted, is_sense_stopped, story_after_event, story_after_events, story_with_end}
 use Rattle.bus_due.specs.RunSteps.{array_after_events}
 use Rattle.trace_laws.specs.ItemFacts.{AreChecked}
-use Rattle.trace_laws.proofs.OverItems.{ends_checks, ends_over, events_checked, events_grow, in_append}
+use Rattle.trace_laws.proofs.OverItems.{ends_over, events_checked, events_grow, in_append}
+use Rattle.bus_story.proofs.StorySteps.{ends_checks}
 use Rattle.trace_laws.proofs.RowEvents.{AllOf, IsOf}
 use Rattle.progress_laws.proofs.DebtSteps.{debt_before, is_checked, same_debt, step_pays}
 use Rattle.progress_laws.proofs.FetchedSenses.{step_fetches}

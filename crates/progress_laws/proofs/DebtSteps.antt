@@ -27,7 +27,8 @@ use Rattle.bus_story.specs.Items.{Item, Sent, command_item, has_item, is_open, p
 use Rattle.bus_story.specs.Story.{Ending, Story, by_abort, by_reset, by_status, is_aborted, is_sense_stopped, story_after_event, story_with_end, story_with_ends, story_with_over}
 use Rattle.ending_causes.proofs.Senses.{self_nexus}
 use Rattle.trace_laws.specs.ItemFacts.{AreChecked}
-use Rattle.trace_laws.proofs.OverItems.{ends_checks, ends_senses, events_grow, in_append, later, not_grown}
+use Rattle.trace_laws.proofs.OverItems.{ends_senses, events_grow, in_append, later, not_grown}
+use Rattle.bus_story.proofs.StorySteps.{ends_checks}
 use Rattle.trace_laws.proofs.SentItems.{more_has, own_has}
 use Rattle.progress_laws.proofs.Owed.{all_reset_holds, cleared_holds, command_apart, nexus_at}
 use Rattle.progress_laws.proofs.OwedEvents.{IfHolds, OfCommand, accepted, ended_so, failed, if_none, if_settled, no_check, other_over, refused, run}

@@ -1,8 +1,7 @@
 -- A prompt trace after which nothing is due: the bus is free, and the end obeys every rule.
-use Rattle.std.proofs.Common.{ℕ, ◌≡◌, ◌<◌, Bool, true, false, ◌∙◌, List, [], ◌∷◌, Option, Some, None, refl, ap, arith}
+use Rattle.std.proofs.Common.{ℕ, ◌≡◌, ◌<◌, Bool, true, false, ◌∙◌, List, [], ◌∷◌, Option, Some, None, refl, ap}
 use Rattle.std.specs.Prelude.{if◌then◌else◌, not, ◌&&◌, ◌||◌, ◌==◌, ◌+◌, nat_le}
 use Rattle.std.specs.List.{AllByRecursion}
-use Rattle.std.proofs.lemmas.Bool.Decides.{nat_tests}
 use Rattle.bus_trace.specs.LineSet.{LineSet, none}
 use Rattle.bus_trace.specs.declared.Row.{Row}
 use Rattle.bus_trace.specs.Changes.{implies, is_within}
@@ -43,6 +42,7 @@ use Rattle.progress_laws.proofs.Connections.{ends_there, goes_on}
 use Rattle.progress_laws.proofs.Entries.{WantsAreItems}
 use Rattle.std.proofs.lemmas.Bool.{or_right}
 use Rattle.link_laws.proofs.Traces.{sides_are, link_calm}
+use Rattle.bus_base.proofs.Tests.{true_by_test, not_later}
 
 -- What is known of a prompt trace.
 pub record Joined (s : ScenarioValue) (p : List Row) : Type 0 where
@@ -72,16 +72,9 @@ free_when_ended s p j end = go j.stood.here
 
 -- ---- the rules at the end
 
-either : (q r : Bool) → r ≡ true → (if q then true else r) ≡ true
-either true r e = refl
-either false r e = e
-
 one_of : (q a b : Bool) → a ≡ true → b ≡ true → (if q then a else b) ≡ true
 one_of true a b e f = e
 one_of false a b e f = f
-
-same_time : (t : ℕ) → nat_le t t ≡ true
-same_time t = grind (arith, nat_tests)
 
 all_kept : (kept : ℕ → Bool) → ((n : ℕ) → kept n ≡ true) → (rules : List ℕ) → AllByRecursion (λ n. kept n ≡ true) rules
 all_kept kept h [] = tt
@@ -90,7 +83,7 @@ all_kept kept h (n ∷ rules) = (h n, all_kept kept h rules)
 -- Any rule at an end at this time, where these hold that set a latest time.
 end_keeps : (v : Seen) (t n : ℕ) → is_in_order v t ≡ true → is_cleared v t ≡ true → is_left v t v.call ≡ true → initiator_released v t ≡ true → target_released v t ≡ true → is_quiet_in_reset v t ≡ true → keeps_at_end n v t ≡ true
 end_keeps v t n order cleared left initiator target quiet =
-    either (not (stands_in_reset n) && is_reset v) (end_test n v t)
+    true_by_test (not (stands_in_reset n) && is_reset v) (end_test n v t)
     (one_of (n == 1) _ _ order
     (one_of (n == 3) _ _ cleared
     (one_of (n == 7) _ _ left
@@ -104,7 +97,7 @@ end_kept s p h =
     let t : ℕ = last_time p in
     let v : Seen = seen p (end_row t) in
     all_kept (obeys_at_end p t)
-    (λ n. end_keeps v t n (same_time t)
+    (λ n. end_keeps v t n (not_later t)
     (or_right _ _ (or_right _ _ (ap (λ (l : LineSet). is_within l only_rst) h.stands.bus_is)))
     (ap (is_left v t) h.stands.call_is)
     (ap (initiator_released_of v t) h.stands.connection_is)

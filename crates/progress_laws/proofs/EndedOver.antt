@@ -29,7 +29,7 @@ use Rattle.bus_books.proofs.Lookups.{id_is}
 use Rattle.std.specs.List.{list_any}
 use Rattle.trace_laws.proofs.OverItems.{ends_over, events_grow, lost_over}
 use Rattle.trace_laws.proofs.PointerWaits.{change_over}
-use Rattle.trace_laws.proofs.EachProcess.{running_id}
+use Rattle.trace_laws.proofs.ListedReplies.{running_id}
 use Rattle.bus_base.proofs.Tests.{wrong}
 
 -- ---- of a list of what has ended

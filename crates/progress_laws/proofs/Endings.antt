@@ -23,7 +23,7 @@ use Rattle.bus_story.specs.CarriedBytes.{CarriedBytes}
 use Rattle.bus_story.specs.Items.{Item, process, abort, command_item, has_item, sense_item, is_open}
 use Rattle.bus_story.specs.Links.{Link, link_of, link_after_name}
 use Rattle.bus_story.specs.HistoryEvents.{carried_if, row_events_by}
-use Rattle.bus_story.specs.Story.{Story, Ending, by_status, by_loss, by_abort, by_reset, unanswered, is_aborted, is_ended, is_sense_stopped, story_with_ends, story_with_end, story_with_over, story_after_event, story_after_events, with_check, with_ending}
+use Rattle.bus_story.specs.Story.{Story, Ending, by_status, by_loss, by_abort, by_reset, unanswered, is_aborted, is_ended, is_sense_stopped, story_with_ends, story_with_end, story_with_over, story_after_event, story_after_events, with_check, with_ending, story_with_end_if}
 use Rattle.bus_story.specs.TraceHistory.{aim_of, is_arbitration_entry, story_with_aim, story_without_answer, story_with_try, story_after_calling_by, story_after_calling, story_on_free_bus, story_with_restored, story_with_sent, story_after_connection, story_with_carried, story_after_out, story_after_in, story_after_byte, story_after_fault, story_in_connection, story_on_bus, story_by_change, is_parity_error, carried_after_byte_if, carried_after_fault_if}
 use Rattle.bus_due.specs.RunState.{RunState}
 use Rattle.bus_due.specs.RunSteps.{run_state}
@@ -71,9 +71,7 @@ ends_told : (drops stops : CmdDef → Bool) (e : Ending) (n : ℕ) (commands : L
 ends_told drops stops e n [] b h = h
 ends_told drops stops e n (c ∷ commands) b h =
     ends_told drops stops e (n + 1) commands
-    (if is_open b.sent n && drops c then story_with_end b (record { command = n; sense = false }) e
-    else if stops c && list_any (λ k. k == n) b.sent.checks then story_with_over b (sense_item n)
-    else b)
+    (story_with_end_if drops stops e n c b)
     (go (is_open b.sent n && drops c) (stops c && list_any (λ k. k == n) b.sent.checks))
   where
     go : (q r : Bool) → AllEnded (told (if q then story_with_end b (record { command = n; sense = false }) e else if r then story_with_over b (sense_item n) else b))

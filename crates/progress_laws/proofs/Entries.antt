@@ -11,7 +11,7 @@ use Rattle.scenario.specs.Value.{ScenarioValue}
 use Rattle.bus_story.specs.BusState.{RowReading, row_reading}
 use Rattle.bus_story.specs.Items.{Item, Sent, item_at}
 use Rattle.bus_story.specs.Story.{Story}
-use Rattle.bus_story.specs.TraceHistory.{aim_of, is_arbitration_entry, is_host, story_after_calling, story_on_bus, story_with_aim}
+use Rattle.bus_story.specs.TraceHistory.{aim_of, is_arbitration_entry, story_after_calling, story_on_bus, story_with_aim}
 use Rattle.bus_reactions.specs.declared.due.Due.{Due}
 use Rattle.bus_reactions.specs.FreeBus.{contender_lines, free_due}
 use Rattle.bus_dialogue.specs.Wants.{Ready, is_reached}
@@ -31,6 +31,7 @@ use Rattle.std.proofs.lemmas.Bool.{le-leb}
 use Rattle.std.proofs.lemmas.Option.{none-some}
 use Rattle.bus_base.proofs.Tests.{none_number, and_more, wrong'}
 use Rattle.trace_laws.proofs.AimsFit.{set_other}
+use Rattle.disk_array.specs.Seats.{is_initiator}
 
 -- An initiator wants the bus from the time on at which it has something to send.
 abbrev pub WantsAreItems : Type 0
@@ -59,7 +60,7 @@ enters_by p row = rises (drives p row.dev).bsy (change_of p row).next.bsy && not
 by_wishes : (s : ScenarioValue) (p q : List Row) (c : ℕ) → ready_of s (run_state s q) c ≡ ready_of s (run_state s p) c → aim_of (run_state s q).story.aims c ≡ aim_of (run_state s p).story.aims c → IsBound s p c → IsBound s q c
 by_wishes s p q c er ea b = record {
   other = b.other;
-  is = (λ i. if is_host s.hosts c then target_of s (ea i) else initiator_if (er i)) ∙ b.is;
+  is = (λ i. if is_initiator s.hosts c then target_of s (ea i) else initiator_if (er i)) ∙ b.is;
   below = b.below;
   apart = b.apart;
 }
@@ -90,29 +91,29 @@ others_bound s p row c w ee ne b =
     (ap (λ (x : List (Option Item)). aim_of x c) (entry_aims s p row w ee) ∙ set_other (run_state s p).story.aims row.dev c _ ne) b
 
 pub enters_bound : (s : ScenarioValue) (p : List Row) (row : Row) (w : ℕ) → FitsBus s → WantsAreItems → IsApart s p row → enters_by p row ≡ true → want_time s (run_state s p) row.dev ≡ Some w → w ≤ row.time → IsBound s (row ∷ p) row.dev
-enters_bound s p row w fits wants a ee wish due = go (is_host s.hosts row.dev) refl
+enters_bound s p row w fits wants a ee wish due = go (is_initiator s.hosts row.dev) refl
   where
     k : RunState
     k = run_state s p
 
-    mine : is_host s.hosts row.dev ≡ true → aim_of (run_state s (row ∷ p)).story.aims row.dev ≡ item_at s k.story.sent row.dev row.time
+    mine : is_initiator s.hosts row.dev ≡ true → aim_of (run_state s (row ∷ p)).story.aims row.dev ≡ item_at s k.story.sent row.dev row.time
     mine host =
         ap (λ (x : List (Option Item)). aim_of x row.dev) (entry_aims s p row a ee)
-        ∙ own_aim k.story.aims row.dev (if is_host s.hosts row.dev then item_at s k.story.sent row.dev row.time else None) (subst (λ (m : ℕ). row.dev < m) (sym (eight_aims s p)) a.below)
+        ∙ own_aim k.story.aims row.dev (if is_initiator s.hosts row.dev then item_at s k.story.sent row.dev row.time else None) (subst (λ (m : ℕ). row.dev < m) (sym (eight_aims s p)) a.below)
         ∙ ap (λ (q : Bool). if q then item_at s k.story.sent row.dev row.time else None) host
 
-    by_item : is_host s.hosts row.dev ≡ true → (o : Option Item) → item_at s k.story.sent row.dev row.time ≡ o → IsBound s (row ∷ p) row.dev
+    by_item : is_initiator s.hosts row.dev ≡ true → (o : Option Item) → item_at s k.story.sent row.dev row.time ≡ o → IsBound s (row ∷ p) row.dev
     by_item host (Some item) e = aim_bound s (row ∷ p) row.dev item fits host (mine host ∙ e)
     by_item host None e =
         let wish_is : item_want_time s k.story.sent row.dev ≡ Some w = sym (ap (λ (q : Bool). if q then item_want_time s k.story.sent row.dev else ready_time (ready_of s k row.dev)) host) ∙ wish in
         wrong' (sym (ap (λ (x : Option Item). is_some x) e) ∙ wants s k.story.sent row.dev row.time ∙ ap (λ (x : Option ℕ). is_reached x row.time) wish_is ∙ le-leb w row.time due)
 
-    by_ready : is_host s.hosts row.dev ≡ false → (o : Option Ready) → ready_of s k row.dev ≡ o → IsBound s (row ∷ p) row.dev
+    by_ready : is_initiator s.hosts row.dev ≡ false → (o : Option Ready) → ready_of s k row.dev ≡ o → IsBound s (row ∷ p) row.dev
     by_ready host (Some r) e = ready_bound s (row ∷ p) row.dev r fits (a.below, a.devices) host ((entry_keeps s p row _ _ _ _ a ee).ready row.dev ∙ e)
     by_ready host None e =
         absurd (none_number w (sym (ap ready_time e) ∙ sym (ap (λ (q : Bool). if q then item_want_time s k.story.sent row.dev else ready_time (ready_of s k row.dev)) host) ∙ wish))
 
-    go : (q : Bool) → is_host s.hosts row.dev ≡ q → IsBound s (row ∷ p) row.dev
+    go : (q : Bool) → is_initiator s.hosts row.dev ≡ q → IsBound s (row ∷ p) row.dev
     go true host = by_item host (item_at s k.story.sent row.dev row.time) refl
     go false host = by_ready host (ready_of s k row.dev) refl
 

@@ -18,14 +18,13 @@ use Rattle.disk_array.specs.Processes.{Process, process_by, process_if, process_
 use Rattle.disk_array.specs.SoundArray.{IsSound}
 use Rattle.disk_array.specs.Steps as Steps
 use Rattle.disk_array.specs.Units.{Array, RunningProcess, UnitState, guest_at, is_held, nexus_of, unit_state_at}
-use Rattle.disk_array.proofs.ArrayReplies.{abort_lists, fail_lists, loss_lists, reset_lists, took}
+use Rattle.disk_array.proofs.ArrayReplies.{abort_lists, fail_lists, loss_lists, reset_lists, took, end_lists}
 use Rattle.disk_array.proofs.SoundArrays.{id_is}
-use Rattle.bus_story.specs.Items.{Sent}
-use Rattle.trace_laws.proofs.ListedReplies.{accepted, end_lists, settles}
+use Rattle.bus_story.specs.Items.{Sent, sense_id}
+use Rattle.trace_laws.proofs.ListedReplies.{accepted, settles, running_id}
 use Rattle.trace_laws.proofs.OtherProcesses.{executed, reply_at}
-use Rattle.trace_laws.proofs.EachProcess.{running_id}
 use Rattle.progress_laws.proofs.OwedEvents.{running_own}
-use Rattle.progress_laws.specs.Debts.{AreFetched, PaysWell, sense_id}
+use Rattle.progress_laws.specs.Debts.{AreFetched, PaysWell}
 
 -- ---- what it answers
 

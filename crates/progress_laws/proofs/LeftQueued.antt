@@ -9,7 +9,7 @@ use Rattle.scenario.specs.Value.{ScenarioValue}
 use Rattle.disk_array.specs.Processes.{Process}
 use Rattle.bus_story.specs.BusState.{row_reading}
 use Rattle.bus_story.specs.HistoryEvents.{bus_free_events, item_loss_events, row_events_by}
-use Rattle.bus_story.specs.Items.{command_item, is_open}
+use Rattle.bus_story.specs.Items.{command_item, is_open, command_id}
 use Rattle.bus_story.specs.Links.{Link, plain}
 use Rattle.bus_story.specs.Story.{Story, story_after_events}
 use Rattle.bus_story.specs.TraceHistory.{story_by_change}
@@ -24,7 +24,6 @@ use Rattle.trace_laws.proofs.OverItems.{lost_over}
 use Rattle.trace_laws.proofs.PlaceEnds.{IsEndAsked, free_shown}
 use Rattle.progress_laws.proofs.EndedOver.{EndedOver}
 use Rattle.progress_laws.proofs.QueueRows.{open_over}
-use Rattle.progress_laws.specs.Queued.{command_id}
 
 -- What is lost is over.
 lost_closed : {A : Type 0} (s : ScenarioValue) (k : RunState) (row : Row) (l : Link) (n : ℕ) → k.story.link ≡ Some l → (row_reading k.story.bus_state row).change.after.rst ≡ false → (row_reading k.story.bus_state row).next ≡ None → l.last ≡ plain → l.item ≡ Some (command_item n)

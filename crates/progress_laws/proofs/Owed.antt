@@ -17,7 +17,7 @@ use Rattle.bus_story.specs.Story.{Ending, Story, by_abort, is_aborted, is_sense_
 use Rattle.progress_laws.specs.Queued.{AreOwed, IsOwed}
 use Rattle.std.proofs.lemmas.Bool.{eqb-true, or_from}
 use Rattle.bus_base.proofs.Tests.{wrong, and_first, and_true}
-use Rattle.trace_laws.proofs.OverItems.{ends_checks}
+use Rattle.bus_story.proofs.StorySteps.{ends_checks}
 
 -- ---- what stays owed
 

@@ -26,7 +26,7 @@ use Rattle.std.proofs.lemmas.Bool.{eqb-true, or_from}
 use Rattle.bus_base.proofs.Tests.{wrong, eq_self}
 use Rattle.trace_laws.proofs.OtherProcesses.{executed}
 use Rattle.trace_laws.proofs.OverItems.{later}
-use Rattle.trace_laws.proofs.EachProcess.{running_id}
+use Rattle.trace_laws.proofs.ListedReplies.{running_id}
 use Rattle.ending_causes.proofs.Senses.{running_own as own_process}
 
 -- An automatic REQUEST SENSE that ends does so with GOOD, and none is lost; and that of a command is not over as the command ends.

@@ -8,6 +8,7 @@ use Rattle.bus_base.specs.declared.AbortKind.TheVariants as aborts
 use Rattle.bus_base.specs.declared.Event.{Event}
 use Rattle.bus_base.specs.declared.Event.TheVariants as events
 use Rattle.bus_base.specs.declared.ProcId.{ProcId}
+use Rattle.bus_base.proofs.Tests.{either_stays}
 use Rattle.cdb_codec.specs.declared.sense.TheConstants.{ABORTED_COMMAND}
 use Rattle.cdb_codec.specs.declared.status.TheConstants.{GOOD, CHECK_CONDITION}
 use Rattle.cdb_codec.specs.Cdb.{command_of}
@@ -19,17 +20,17 @@ use Rattle.disk_array.specs.SoundArray.{AllOwnUnits}
 use Rattle.disk_array.specs.Steps as Steps
 use Rattle.disk_array.specs.Steps.{has_tag, is_of_unit, running_if}
 use Rattle.disk_array.specs.Units.{Array, RunningProcess, UnitState, guest_at, is_held, nexus_of, nexuses_without, senses_without, unit_state_at, with_unit}
+use Rattle.disk_array.specs.Seats.{waits_in}
+use Rattle.disk_array.proofs.ArrayUnits.{unit_reset_units, cleared_units}
 use Rattle.bus_story.specs.Items.{command_item, has_item, is_open, sense_item}
 use Rattle.bus_story.specs.Story.{Ending, Story, story_with_end, story_with_ends, story_with_over}
 use Rattle.trace_laws.proofs.QueuedProcesses.{is_dropped}
 use Rattle.trace_laws.proofs.SentItems.{more_has, own_has}
-use Rattle.trace_laws.proofs.QueueEvents.{Spares, chosen_all, either_stays, kept_all, left_all, replied_all, waits_last, with_unit_all}
+use Rattle.trace_laws.proofs.QueueEvents.{Spares, chosen_all, kept_all, left_all, replied_all, waits_last, with_unit_all}
 use Rattle.trace_laws.specs.Places.{is_in_queue, is_queued}
-use Rattle.trace_laws.proofs.UnitsKept.{cleared_same, attended_same}
 use Rattle.trace_laws.proofs.Impossible.{none_some}
-use Rattle.trace_laws.proofs.EachProcess.{running_id}
 use Rattle.trace_laws.proofs.PointerStories.{ends_over}
-use Rattle.disk_array.proofs.SeatReplies.{waits_in}
+use Rattle.trace_laws.proofs.ListedReplies.{running_id}
 use Rattle.target_units.proofs.UnitTimes.{place_found}
 
 abbrev pub IfQueued : ProcId → Option Array → Type 0
@@ -127,10 +128,10 @@ aborted : (s : ScenarioValue) (a : Array) (i t n : ℕ) (what : AbortKind) (id :
 aborted s a i t n aborts.All id spares own e = kept_all s (λ p. p.initiator == i && is_of_unit p t n) a.units id spares own e
 aborted s a i t n (aborts.Tag tag) id spares own e = kept_all s (λ p. p.initiator == i && is_of_unit p t n && has_tag p.tag tag) a.units id spares own e
 aborted s a i t n aborts.WholeQueue id spares own e =
-    ap (λ (us : List UnitState). is_queued us id) (cleared_same i (Steps.unit_processes (unit_state_at a.units t n)) (Steps.without_dropped a (λ p. is_of_unit p t n)))
+    ap (λ (us : List UnitState). is_queued us id) (cleared_units i (Steps.unit_processes (unit_state_at a.units t n)) (Steps.without_dropped a (λ p. is_of_unit p t n)))
     ∙ kept_all s (λ p. is_of_unit p t n) a.units id spares own e
 aborted s a i t n aborts.Device id spares own e =
-    ap (λ (us : List UnitState). is_queued us id) (attended_same s.hosts a.units (λ u. u.target == t) (record (Steps.without_dropped a (λ p. p.target == t)) { senses = Steps.kept_senses (λ r. r.target == t) a.senses; holds = Steps.kept_nexuses (λ r. r.target == t) a.holds }))
+    ap (λ (us : List UnitState). is_queued us id) (unit_reset_units s.hosts a.units (λ u. u.target == t) (record (Steps.without_dropped a (λ p. p.target == t)) { senses = Steps.kept_senses (λ r. r.target == t) a.senses; holds = Steps.kept_nexuses (λ r. r.target == t) a.holds }))
     ∙ kept_all s (λ p. p.target == t) a.units id spares own e
 
 event_stays : (s : ScenarioValue) (a : Array) (event : Event) (id : ProcId) → AllOwnUnits s a.units → IsNotEnded s event id → is_queued a.units id ≡ true → IfQueued id (Steps.event_step s a event)

@@ -13,7 +13,7 @@ use Rattle.disk_array.specs.Units.{Array}
 use Rattle.disk_array.proofs.SoundArrays.{id_is}
 use Rattle.bus_story.specs.BusState.{RowReading, row_reading}
 use Rattle.bus_story.specs.HistoryEvents.{row_events_by}
-use Rattle.bus_story.specs.Items.{is_open}
+use Rattle.bus_story.specs.Items.{is_open, command_id}
 use Rattle.bus_story.specs.Story.{Story, story_after_events}
 use Rattle.bus_story.specs.TraceHistory.{story_by_change}
 use Rattle.bus_due.specs.Next.{IsPrompt}
@@ -35,7 +35,7 @@ use Rattle.progress_laws.proofs.EndedOver.{all_over}
 use Rattle.progress_laws.proofs.LeftQueued.{left_calm}
 use Rattle.progress_laws.proofs.QueueRows.{IsLeftQueued, queued_next, WasOpen, before, begins as begins_new, fewer_open, open_before}
 use Rattle.progress_laws.proofs.ResetCommands.{none_under_rst}
-use Rattle.progress_laws.specs.Queued.{AreQueued, command_id}
+use Rattle.progress_laws.specs.Queued.{AreQueued}
 use Rattle.bus_base.proofs.Tests.{wrong, wrong'}
 use Rattle.scsi_device.proofs.FitLines.{obeys_fits, seats_are}
 

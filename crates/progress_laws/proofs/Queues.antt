@@ -8,12 +8,13 @@ use Rattle.bus_base.specs.declared.ProcId.{ProcId}
 use Rattle.scenario.specs.Value.{ScenarioValue}
 use Rattle.disk_array.specs.Order.{choice}
 use Rattle.disk_array.specs.Processes.{Process, process_of, same_id}
-use Rattle.disk_array.specs.Seats.{in_hold, is_any_below, is_any_held, nexus_at, unit_mapped, unit_with_choice}
+use Rattle.disk_array.specs.Seats.{in_hold, is_any_held, nexus_at, unit_mapped, unit_with_choice, current_of}
 use Rattle.disk_array.specs.SoundArray.{AllOwn, AllOwnUnits, AreApart, IsOwn, IsOwnRunning, IsOwnUnit, IsSound}
 use Rattle.disk_array.specs.Steps.{running_if}
 use Rattle.disk_array.specs.Units.{Array, Nexus, RunningProcess, UnitState, has_no_current, is_at_unit, is_held, unit_state_at, with_current}
+use Rattle.disk_array.proofs.SeatSteps.{any_none}
 use Rattle.bus_dialogue.specs.Wants.{Ready, first_ready, is_ready_before, ready_by, ready_in}
-use Rattle.bus_due.specs.Wants.{current_of, ready_among, ready_at, since_of}
+use Rattle.bus_due.specs.Wants.{ready_among, ready_at, since_of}
 use Rattle.bus_books.proofs.Lookups.{id_is}
 use Rattle.progress_laws.proofs.Choices.{some_chosen}
 use Rattle.trace_laws.specs.Places.{is_in_queue, is_queued}
@@ -100,10 +101,6 @@ none_in [] t n i e = refl
 none_in (q ∷ holds) t n i e =
     let w = or_parts (is_at_unit q t n) (is_held holds t n) e in
     (λ j. and_right (q.initiator == i) (is_at_unit q t n) w.0 j || none_in holds t n i w.1 j)
-
-any_none : (f : ℕ → Bool) (m : ℕ) → ((i : ℕ) → f i ≡ false) → is_any_below f m ≡ false
-any_none f zero h = refl
-any_none f (suc m) h = (λ j. h m j || any_none f m h j)
 
 not_any : (holds : List Nexus) (t n : ℕ) → is_held holds t n ≡ false → is_any_held (λ i. in_hold holds (nexus_at t n i)) ≡ false
 unfolding is_any_held

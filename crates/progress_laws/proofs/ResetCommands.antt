@@ -11,7 +11,7 @@ use Rattle.scenario.specs.Value.{ScenarioValue}
 use Rattle.disk_array.specs.Processes.{command_at, process_by, process_if}
 use Rattle.bus_story.specs.BusState.{RowReading, row_reading}
 use Rattle.bus_story.specs.HistoryEvents.{row_events_by}
-use Rattle.bus_story.specs.Items.{command_item, has_item, is_open}
+use Rattle.bus_story.specs.Items.{command_item, has_item, is_open, command_id}
 use Rattle.bus_story.specs.Story.{Story, story_after_events}
 use Rattle.bus_story.specs.TraceHistory.{story_by_change, story_on_bus}
 use Rattle.bus_due.specs.Plain.{AreOfDevices}
@@ -22,7 +22,6 @@ use Rattle.trace_laws.proofs.ItemFacts.{rst_raised}
 use Rattle.trace_laws.proofs.OverItems.{events_grow}
 use Rattle.trace_laws.proofs.PointerEnds.{command_over}
 use Rattle.progress_laws.proofs.QueueRows.{fewer_open, open_over}
-use Rattle.progress_laws.specs.Queued.{command_id}
 use Rattle.bus_base.proofs.Tests.{wrong, and_first}
 
 abbrev pub NoneOpen : ScenarioValue → RunState → Type 0

@@ -15,7 +15,6 @@ use Rattle.scenario.specs.Value.{ScenarioValue}
 use Rattle.scenario.specs.Writing.{saids, built, Obeys}
 use Rattle.scenario.proofs.Steps.{bind_ok, guard_ok, ok_is, within_ok}
 use Rattle.bus_story.specs.Items.{open_limit_of}
-use Rattle.bus_story.specs.TraceHistory.{is_host}
 use Rattle.bus_story.specs.Samples.{host_latency, target_latency}
 use Rattle.scsi_device.proofs.Finds.{all_are, all_more}
 use Rattle.scsi_device.proofs.LineReads.{host_by, unit_by}
@@ -24,6 +23,7 @@ use Rattle.progress_laws.proofs.Connections.{host_there}
 use Rattle.bus_base.proofs.Tests.{wrong'}
 use Rattle.trace_laws.proofs.Ends.{host_found}
 use Rattle.trace_laws.proofs.EachLine.{Any, each_line}
+use Rattle.disk_array.specs.Seats.{is_initiator}
 
 abbrev pub HasOpen : HostDef → Type 0
 HasOpen h = 0 < h.most
@@ -49,15 +49,15 @@ host_open s _ h e = absurd cc
 have_open : (s : ScenarioValue) → Obeys s → HaveOpen s
 have_open s o = (each_line HasOpen Any Any Any (record { host = host_open; target = λ x f d e. tt; command = λ x f d e. tt; abort = λ x f d e. tt }) s o).hosts
 
-limit_of : (hosts : List HostDef) (dev : ℕ) → AllByRecursion HasOpen hosts → is_host hosts dev ≡ true → 0 < open_limit_of hosts dev
+limit_of : (hosts : List HostDef) (dev : ℕ) → AllByRecursion HasOpen hosts → is_initiator hosts dev ≡ true → 0 < open_limit_of hosts dev
 limit_of [] dev a e = wrong' e
 limit_of (h ∷ hosts) dev a e = go (h.dev == dev) (λ z. limit_of hosts dev a.1 z) e
   where
-    go : (q : Bool) → (is_host hosts dev ≡ true → 0 < open_limit_of hosts dev) → (q || is_host hosts dev) ≡ true → 0 < (if q then h.most else open_limit_of hosts dev)
+    go : (q : Bool) → (is_initiator hosts dev ≡ true → 0 < open_limit_of hosts dev) → (q || is_initiator hosts dev) ≡ true → 0 < (if q then h.most else open_limit_of hosts dev)
     go true more z = a.0
     go false more z = more z
 
-pub some_open : (s : ScenarioValue) (dev : ℕ) → Obeys s → is_host s.hosts dev ≡ true → 0 < open_limit_of s.hosts dev
+pub some_open : (s : ScenarioValue) (dev : ℕ) → Obeys s → is_initiator s.hosts dev ≡ true → 0 < open_limit_of s.hosts dev
 some_open s dev o e = limit_of s.hosts dev (have_open s o) e
 
 -- ---- units are of targets
@@ -139,7 +139,7 @@ found_target (h ∷ hosts) dev e = go (h.dev == dev) (λ z. found_target hosts d
     go true more z = refl
     go false more z = more z
 
-pub initiator_there : (s : ScenarioValue) (dev : ℕ) → is_host s.hosts dev ≡ true → HasDevice s dev
+pub initiator_there : (s : ScenarioValue) (dev : ℕ) → is_initiator s.hosts dev ≡ true → HasDevice s dev
 initiator_there s dev e = host_there s dev (host_found s.hosts dev e)
 
 pub target_there : (s : ScenarioValue) (dev : ℕ) → list_any (λ (t : TargetDef). t.dev == dev) s.targets ≡ true → HasDevice s dev

@@ -30,7 +30,7 @@ use Rattle.progress_laws.proofs.Rooms.{IsOfTarget, are_of_targets, target_there}
 use Rattle.std.proofs.lemmas.Bool.{eqb-true}
 use Rattle.bus_base.proofs.Tests.{and_first}
 use Rattle.disk_array.proofs.SeatSteps.{choice_target}
-use Rattle.trace_laws.proofs.UnitsKept.{cleared_same, attended_same}
+use Rattle.disk_array.proofs.ArrayUnits.{unit_reset_units, cleared_units}
 
 abbrev pub targets : List UnitState → List ℕ
 targets [] = []
@@ -61,8 +61,6 @@ kept_same drops (u ∷ units) = ap (λ (ts : List ℕ). u.target ∷ ts) (kept_s
 chosen_same : (holds : List Nexus) (units : List UnitState) → targets (units_after_choice holds units) ≡ targets units
 chosen_same holds [] = refl
 chosen_same holds (u ∷ units) = λ i. choice_target holds u i ∷ chosen_same holds units i
-
--- ---- attentions
 
 -- ---- events
 
@@ -144,9 +142,9 @@ aborted : (s : ScenarioValue) (a : Array) (i t n : ℕ) (what : AbortKind) → t
 aborted s a i t n aborts.All = kept_same (λ p. p.initiator == i && is_of_unit p t n) a.units
 aborted s a i t n (aborts.Tag tag) = kept_same (λ p. p.initiator == i && is_of_unit p t n && has_tag p.tag tag) a.units
 aborted s a i t n aborts.WholeQueue =
-    ap targets (cleared_same i (Steps.unit_processes (unit_state_at a.units t n)) (Steps.without_dropped a (λ p. is_of_unit p t n))) ∙ kept_same (λ p. is_of_unit p t n) a.units
+    ap targets (cleared_units i (Steps.unit_processes (unit_state_at a.units t n)) (Steps.without_dropped a (λ p. is_of_unit p t n))) ∙ kept_same (λ p. is_of_unit p t n) a.units
 aborted s a i t n aborts.Device =
-    ap targets (attended_same s.hosts a.units (λ u. u.target == t) (record (Steps.without_dropped a (λ p. p.target == t)) { senses = Steps.kept_senses (λ r. r.target == t) a.senses; holds = Steps.kept_nexuses (λ r. r.target == t) a.holds }))
+    ap targets (unit_reset_units s.hosts a.units (λ u. u.target == t) (record (Steps.without_dropped a (λ p. p.target == t)) { senses = Steps.kept_senses (λ r. r.target == t) a.senses; holds = Steps.kept_nexuses (λ r. r.target == t) a.holds }))
     ∙ kept_same (λ p. p.target == t) a.units
 
 event_same : (s : ScenarioValue) (a : Array) (event : Event) → IfSame (targets a.units) (Steps.event_step s a event)
@@ -158,7 +156,7 @@ event_same s a (events.End id status) = ended a status (Steps.running_process a 
 event_same s a (events.Lost id) = if_none (targets a.units) (Steps.has_ended a id) _ (left_same a.units id)
 event_same s a (events.Aborted i t n what) = aborted s a i t n what
 event_same s a (events.Reset dev) =
-    ap targets (attended_same s.hosts a.units (λ u. true) (record (Steps.without_dropped a (λ p. true)) { senses = []; holds = [] })) ∙ kept_same (λ p. true) a.units
+    ap targets (unit_reset_units s.hosts a.units (λ u. true) (record (Steps.without_dropped a (λ p. true)) { senses = []; holds = [] })) ∙ kept_same (λ p. true) a.units
 
 step_same : (s : ScenarioValue) (a : Array) (event : Event) → IfSame (targets a.units) (Steps.step s event a)
 step_same s a event = go (Steps.event_step s a event) (event_same s a event)

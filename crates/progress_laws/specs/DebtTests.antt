@@ -10,10 +10,10 @@ use Rattle.disk_array.specs.Execution.{Reply}
 use Rattle.disk_array.specs.Processes.{command_at}
 use Rattle.disk_array.specs.Seats.{in_hold}
 use Rattle.disk_array.specs.Units.{Array, Nexus, same_nexus}
-use Rattle.bus_story.specs.Items.{Item, Sent, abort, has_item, process, sense_item}
+use Rattle.bus_story.specs.Items.{Item, Sent, abort, has_item, process, sense_item, sense_id}
 use Rattle.bus_due.specs.RunState.{RunState, array_of}
 use Rattle.bus_due.specs.RunSteps.{run_state_after}
-use Rattle.progress_laws.specs.Debts.{is_owed, nexus_of_command, sense_id}
+use Rattle.progress_laws.specs.Debts.{is_owed, nexus_of_command}
 
 -- ---- of all commands, counted from n
 

@@ -13,7 +13,7 @@ use Rattle.disk_array.specs.Execution.{Reply}
 use Rattle.disk_array.specs.Processes.{command_at}
 use Rattle.disk_array.specs.Seats.{in_hold}
 use Rattle.disk_array.specs.Units.{Nexus}
-use Rattle.bus_story.specs.Items.{Sent, has_item, process, sense_item}
+use Rattle.bus_story.specs.Items.{Sent, has_item, process, sense_item, sense_id}
 use Rattle.bus_due.specs.RunState.{RunState, array_of}
 
 -- The command ended with CHECK CONDITION, and its automatic REQUEST SENSE is not over.
@@ -38,9 +38,6 @@ pub record Debts (s : ScenarioValue) (b : Sent) (holds : List Nexus) : Type 0 wh
   pub held : (n : ℕ) (q : Nexus) → IsDebt s b n q → in_hold holds q ≡ true
   pub alone : (n m : ℕ) (q : Nexus) → IsDebt s b n q → IsDebt s b m q → n ≡ m
   pub checked : (n : ℕ) → has_item b.over (sense_item n) ≡ true → list_any (λ k. k == n) b.checks ≡ true
-
-abbrev pub sense_id : ℕ → ProcId
-sense_id n = record { command = n; sense = true }
 
 -- An automatic REQUEST SENSE is answered GOOD.
 abbrev pub AreFetched : List (ProcId × Reply) → Type 0

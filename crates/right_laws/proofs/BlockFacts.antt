@@ -20,7 +20,7 @@ use Rattle.bus_story.specs.Links.{Link}
 use Rattle.bus_dialogue.specs.declared.exchange.Phase.TheVariants as phases
 use Rattle.bus_dialogue.specs.NextPhase.{phase_of}
 use Rattle.bus_due.specs.RunState.{RunState, or_start, bus_of, carried_here, process_item, process_served}
-use Rattle.bus_due.specs.RunSteps.{run_state, run_state_after, array_after_events}
+use Rattle.bus_due.specs.RunSteps.{run_state, run_state_after, array_after_events, is_for_process}
 use Rattle.bus_books.specs.Carrying.{TakesBlock}
 use Rattle.bus_books.specs.Rows.{RowKind, still, strikes, crosses, turns}
 use Rattle.bus_books.specs.Traces.{GoesOn, RowOf, Books}
@@ -42,11 +42,6 @@ use Rattle.right_laws.proofs.UndoneLoads.{lasting_load, load_asks}
 use Rattle.bus_base.proofs.Tests.{wrong, wrong'}
 use Rattle.trace_laws.proofs.PhaseLines.{command_phase}
 use Rattle.trace_laws.proofs.Impossible.{none_some}
-
-abbrev is_process : Option Item → Bool
-is_process (Some (process id)) = true
-is_process (Some (abort n)) = false
-is_process None = false
 
 abbrev item_id : ProcId → Option Item → ProcId
 item_id x (Some (process id)) = id
@@ -196,7 +191,7 @@ blocks_stay s p row was next undo places before = go (d.crosses && is_command d.
 
             served : (o : Option Item) → k.served ≡ o → OnOpen (HasBlock s j) places.array
             served None z = none_served None z (λ id x. none_some (process id) (sym x))
-            served (Some (abort n)) z = none_served (Some (abort n)) z (λ id x. true≢false (ap is_process x))
+            served (Some (abort n)) z = none_served (Some (abort n)) z (λ id x. true≢false (ap is_for_process x))
             served (Some (process x)) z =
                 let new = new_here s k row w.connection w.change x places g z command in
                 each_both (IsAway new.process.id) (IfOpen (HasBlock s k) places.array) (IfOpen (HasBlock s j) places.array) places.array

@@ -15,18 +15,19 @@ use Rattle.disk_array.specs.Order.{choice}
 use Rattle.disk_array.specs.Processes.{Process, process_of, same_id}
 use Rattle.disk_array.specs.SoundArray.{IsOwn, AllOwn, IsOwnUnit, AllOwnUnits, IsSound}
 use Rattle.disk_array.specs.Steps as Steps
-use Rattle.disk_array.specs.Units.{RunningProcess, UnitState, Nexus, Array, unit_state_at, guest_at, is_held, has_no_current, with_current, unit_after_choice, starting_array, settled_array}
+use Rattle.disk_array.specs.Units.{RunningProcess, without_reply, UnitState, Nexus, Array, unit_state_at, guest_at, is_held, has_no_current, with_current, unit_after_choice, starting_array, settled_array}
 use Rattle.scsi_device.specs.Writes.{Writer}
 use Rattle.bus_story.specs.BusState.{RowReading, row_reading}
 use Rattle.bus_story.specs.CarriedBytes.{CarriedBytes}
 use Rattle.bus_story.specs.HistoryEvents.{carried_if, row_events_by}
 use Rattle.bus_story.specs.Items.{Item, process, abort}
 use Rattle.bus_story.specs.Links.{Link}
+use Rattle.bus_story.proofs.CarriedLists.{carried_id}
 use Rattle.bus_due.specs.LastingState.{ProcessProgress}
 use Rattle.bus_due.specs.RunState.{RunState, array_of, bus_of, carried_here}
 use Rattle.bus_due.specs.RunSteps.{run_state, array_after_events}
 use Rattle.bus_books.proofs.CarriedRows.{process_id}
-use Rattle.bus_books.proofs.Lookups.{carried_id, id_is, self_id}
+use Rattle.bus_books.proofs.Lookups.{id_is, self_id}
 use Rattle.bus_dialogue.specs.declared.exchange.Phase.{Phase}
 use Rattle.bus_dialogue.specs.declared.exchange.Phase.TheVariants as phases
 use Rattle.bus_dialogue.specs.NextPhase.{phase_of}
@@ -45,7 +46,6 @@ use Rattle.right_laws.proofs.GivenBytes.{moved_stays, no_data_in_command}
 use Rattle.right_laws.proofs.RanFacts.{Known, here_is, steps_of, then_is}
 use Rattle.right_laws.proofs.RowCrossings.{GoesSo, InBytes, IsPlaced, byte_phase, crossing_goes, in_command, in_data, in_status, known_served, placed_here}
 use Rattle.bus_base.proofs.Tests.{wrong, wrong', eq_self}
-use Rattle.bus_base.proofs.Tests.{wrong, wrong'}
 
 -- ---- what is kept
 
@@ -203,8 +203,8 @@ not_waits s made all a x sound is plain written runs = go (guest_at a.guests x.i
         by (inl (inr senses)) = sensing senses
         by (inr rests) = absurd (away_guest a.guests x.id g rests.guests e)
 
-    go : (o : Option RunningProcess) → guest_at a.guests x.id ≡ o → (if is_some o then o else Steps.running_in a.units x.id) ≡ Some (Rattle.trace_laws.specs.Places.fresh x) → AllUnits (IsNotIn x.id) a.units
-    go None e w = stands (stands_each s a.units x (Rattle.trace_laws.specs.Places.fresh x) sound.units sound.apart is w)
+    go : (o : Option RunningProcess) → guest_at a.guests x.id ≡ o → (if is_some o then o else Steps.running_in a.units x.id) ≡ Some (without_reply x) → AllUnits (IsNotIn x.id) a.units
+    go None e w = stands (stands_each s a.units x (without_reply x) sound.units sound.apart is w)
     go (Some g) e w = guest g e
 
 -- ---- the bytes that cross are of one that runs

@@ -11,6 +11,7 @@ use Rattle.bus_trace.specs.Trace.{bus}
 use Rattle.bus_trace.specs.declared.Row.{Row}
 use Rattle.bus_trace.specs.declared.changes.Change.{Change}
 use Rattle.bus_trace.specs.declared.connection.Connection.{Connection}
+use Rattle.bus_trace.proofs.Sets.{same_self}
 use Rattle.bus_lines.specs.Handshakes.{Handshakes, handshakes, no_handshakes, handshakes_after, answered_if, asked_if}
 use Rattle.scenario.specs.Value.{ScenarioValue}
 use Rattle.scenario.specs.Writing.{Obeys}
@@ -55,7 +56,6 @@ use Rattle.trace_laws.proofs.TellRows.{no_events}
 use Rattle.right_laws.proofs.DataOffers.{is_data_in, data_at, IsDataOffered, DataRow, IsDataByte, elsewhere, offered_next, data_crosses}
 use Rattle.right_laws.proofs.DataOfferRows.{bytes_kept, kept_row}
 use Rattle.bus_base.proofs.Tests.{wrong, wrong'}
-use Rattle.link_laws.proofs.Moves.{same_self}
 use Rattle.trace_laws.proofs.SentEntries.{is_in_next}
 use Rattle.trace_laws.proofs.Impossible.{none_some}
 

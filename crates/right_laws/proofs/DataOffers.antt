@@ -45,10 +45,9 @@ use Rattle.trace_laws.proofs.LinkRows.{LinkRow, is_pulsed, is_unasked}
 use Rattle.trace_laws.proofs.Turns.{freed_connection}
 use Rattle.std.specs.Prelude.{nat_lt, if◌then◌else◌}
 use Rattle.std.specs.Int.RustNames.{bit_or}
-use Rattle.bus_base.proofs.Tests.{wrong, wrong'}
+use Rattle.bus_base.proofs.Tests.{wrong, wrong', not_first}
 use Rattle.trace_laws.proofs.StatusOffers.{left_req, falls_is, zero_is, side_is, unrisen, zero_even}
 use Rattle.trace_laws.proofs.Impossible.{none_some}
-use Rattle.trace_laws.proofs.Tests.{not_first}
 
 -- ---- what is driven
 

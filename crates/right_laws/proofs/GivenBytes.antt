@@ -31,14 +31,14 @@ use Rattle.bus_due.specs.Tasks.{is_writing, reply_now}
 use Rattle.bus_books.specs.Carrying.{IsFilled}
 use Rattle.bus_books.proofs.Areas.{puts}
 use Rattle.bus_books.proofs.Lookups.{id_is, self_id}
-use Rattle.trace_laws.proofs.EachProcess.{running_id}
 use Rattle.trace_laws.proofs.Impossible.{none_some}
+use Rattle.trace_laws.proofs.ListedReplies.{running_id}
 use Rattle.right_laws.specs.Asked.{GivesAtRun}
 use Rattle.right_laws.specs.Given.{IsFront, GivenIn, HasGiven, GivenFacts, GivesNext, HasReplyStill, GivesAsked}
 use Rattle.right_laws.specs.Loads.{Load, load}
 use Rattle.right_laws.specs.Open.{OnEvents, IfOpen, OnOpen}
 use Rattle.right_laws.proofs.BlockFacts.{lasting_by, front_all}
-use Rattle.right_laws.proofs.GivenReplies.{bad_empty, run_gives}
+use Rattle.right_laws.proofs.GivenReplies.{bad_empty}
 use Rattle.right_laws.proofs.Lasting.{row_lasts}
 use Rattle.right_laws.proofs.MovedAreas.{moved_crosses}
 use Rattle.right_laws.proofs.OpenProcesses.{IfAccepts, each_both, each_map, open_events, open_start, running_has, none_is}
@@ -46,6 +46,7 @@ use Rattle.right_laws.proofs.RanFacts.{Known, here_is, run_found, steps_of, then
 use Rattle.right_laws.proofs.RowCrossings.{GoesSo, crossing_goes}
 use Rattle.right_laws.proofs.ShownRows.{IsArrival, IsAnswer, ShownAs, row_shown, RunsAs, runs_alone, runs_arrived, row_runs}
 use Rattle.bus_base.proofs.Tests.{wrong, wrong'}
+use Rattle.target_units.proofs.ReplySteps.{run_replies}
 
 -- ---- a byte comes to a front
 
@@ -302,7 +303,7 @@ gives_at_run s p row seats h asked facts q reply is not_both = by shape
     by : RunsAs q.id shown → bytes ≡ reply.bytes
     by (runs_alone e) =
         let st : Steps.step s (events.Run q.id) a ≡ Some b = sym (ap (array_after_events s (Some a)) e) ∙ steps_of s p row h in
-        all_given a q reply bytes (reply_is a q reply (reply_in b.replies q.id) given (run_gives s a b q h.places.sound is.process_is st)) (standing st) not_both whole
+        all_given a q reply bytes (reply_is a q reply (reply_in b.replies q.id) given (run_replies s a b q h.places.sound is.process_is st)) (standing st) not_both whole
     by (runs_arrived e) = go (array_step s (events.Accept q.id) (Some a)) refl (sym (ap (array_after_events s (Some a)) e) ∙ steps_of s p row h)
       where
         arrival : IsArrival k d q.id
@@ -311,4 +312,4 @@ gives_at_run s p row seats h asked facts q reply is not_both = by shape
         go : (o : Option Array) → array_step s (events.Accept q.id) (Some a) ≡ o → array_step s (events.Run q.id) o ≡ Some b → bytes ≡ reply.bytes
         go None z w = none_some b w
         go (Some c) z w =
-            all_given c q reply bytes (reply_is c q reply (reply_in b.replies q.id) given (run_gives s c b q (step_sound s a c (events.Accept q.id) seats h.places.sound z) is.process_is w)) (inl (arrives_with s p row h asked q.id arrival)) not_both whole
+            all_given c q reply bytes (reply_is c q reply (reply_in b.replies q.id) given (run_replies s c b q (step_sound s a c (events.Accept q.id) seats h.places.sound z) is.process_is w)) (inl (arrives_with s p row h asked q.id arrival)) not_both whole

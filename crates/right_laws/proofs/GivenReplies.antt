@@ -1,7 +1,6 @@
 -- A reply that is not GOOD gives no bytes; and as a process runs its reply is the one that it has then (7.3, 7.5).
-use Rattle.std.proofs.Common.{ℕ, ◌≡◌, Bool, true, false, not, ◌&&◌, ◌||◌, ◌==◌, ◌∙◌, List, [], ◌∷◌, Option, Some, None, refl, sym, ap}
-use Rattle.std.specs.Prelude.{Result, Ok, Err, if◌then◌else◌, is_none, is_some}
-use Rattle.bus_base.specs.declared.Event.TheVariants as events
+use Rattle.std.proofs.Common.{ℕ, ◌≡◌, Bool, true, false, not, ◌&&◌, ◌==◌, ◌∙◌, List, [], ◌∷◌, Option, Some, None, refl, sym, ap}
+use Rattle.std.specs.Prelude.{Result, Ok, Err, if◌then◌else◌}
 use Rattle.cdb_codec.specs.Cdb.{command_of}
 use Rattle.cdb_codec.specs.declared.command.CdbFault.{CdbFault}
 use Rattle.cdb_codec.specs.declared.command.CdbFault.TheVariants as faults
@@ -9,22 +8,19 @@ use Rattle.cdb_codec.specs.declared.command.Command.{Command}
 use Rattle.cdb_codec.specs.declared.command.Command.TheVariants as commands
 use Rattle.cdb_codec.specs.declared.status.TheConstants.{GOOD}
 use Rattle.scenario.specs.Value.{ScenarioValue}
-use Rattle.disk_array.specs.ArrayHistory.{reply_in}
 use Rattle.disk_array.specs.Execution.{CommandContext, Reply, check_condition, cdb_execution, command_execution, attention_execution, execution, heeds_attention, is_good_range, needs_unit, range_execution, range_of, reply_execution, block_out_of_range, unit_not_supported}
 use Rattle.disk_array.specs.Processes.{Process, process_of}
 use Rattle.disk_array.specs.SoundArray.{AllOwn, AllOwnGuests, AllOwnUnits, IsOwnRunning, IsSound}
 use Rattle.disk_array.specs.Steps as Steps
-use Rattle.disk_array.specs.Units.{Array, RunningProcess, UnitState, guest_at, nexus_of, settled_array, unit_state_at, is_held}
+use Rattle.disk_array.specs.Units.{Array, RunningProcess, UnitState, nexus_of, unit_state_at}
 use Rattle.cdb_codec.specs.declared.Sense.{Sense}
 use Rattle.bus_due.specs.Tasks.{reply_now}
-use Rattle.bus_books.proofs.Lookups.{self_id}
 use Rattle.trace_laws.specs.Places.{OnGuests, OnUnits, Runs, Waits}
-use Rattle.trace_laws.proofs.EachProcess.{running_id}
 use Rattle.right_laws.proofs.OpenProcesses.{running_has}
 use Rattle.std.proofs.lemmas.Option.{same_Some}
 use Rattle.bus_base.proofs.Tests.{wrong}
 use Rattle.trace_laws.proofs.ArrayBytes.{IsOf}
-use Rattle.trace_laws.proofs.Impossible.{none_some}
+use Rattle.trace_laws.proofs.ListedReplies.{running_id}
 
 -- ---- not GOOD
 
@@ -97,23 +93,3 @@ own_running s a p r sound own e =
     (sym (running_has (IsOf s) a p.id r (record { units = own_units s a.units sound.units; guests = own_guests s a.guests sound.guests }) e)
     ∙ ap (process_of s) (running_id a p.id r e)
     ∙ own)
-
-pub run_gives : (s : ScenarioValue) (a b : Array) (p : Process) → IsSound s a → process_of s p.id ≡ Some p → Steps.step s (events.Run p.id) a ≡ Some b → reply_in b.replies p.id ≡ Some (reply_now a p)
-run_gives s a b p sound own e = go (Steps.running_process a p.id) refl e
-  where
-    go : (o : Option RunningProcess) → Steps.running_process a p.id ≡ o → Steps.settled_array_if (Steps.run_step a (is_some (guest_at a.guests p.id)) o) ≡ Some b → reply_in b.replies p.id ≡ Some (reply_now a p)
-    go None z w = none_some b w
-    go (Some r) z w = by (is_none r.reply && (is_some (guest_at a.guests p.id) || not (is_held a.holds r.process.target r.process.unit))) w
-      where
-        done : Array
-        done = Steps.after_execution_at a r.process (unit_state_at a.units r.process.target r.process.unit)
-
-        same : r.process ≡ p
-        same = own_running s a p r sound own z
-
-        by : (q : Bool) → Steps.settled_array_if (if q then Some done else None) ≡ Some b → reply_in b.replies p.id ≡ Some (reply_now a p)
-        by false x = none_some b x
-        by true x =
-            ap (λ (y : Array). reply_in y.replies p.id) (sym (same_Some (settled_array done) b x))
-            ∙ ap (λ (q : Process). reply_in (Steps.after_execution_at a q (unit_state_at a.units q.target q.unit)).replies p.id) same
-            ∙ ap (λ (q : Bool). if q then Some (reply_now a p) else reply_in (Steps.with_contents (Steps.without_attention a (execution (Steps.context_at a (nexus_of p) (unit_state_at a.units p.target p.unit)) p.cdb p.sent).reported (nexus_of p)) (unit_state_at a.units p.target p.unit) (execution (Steps.context_at a (nexus_of p) (unit_state_at a.units p.target p.unit)) p.cdb p.sent).contents).replies p.id) (self_id p.id)

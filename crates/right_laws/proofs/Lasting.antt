@@ -22,11 +22,12 @@ use Rattle.bus_story.specs.Items.{Item, process, abort}
 use Rattle.bus_story.specs.Links.{Link, link_of, last_out, last_in, link_after_name}
 use Rattle.bus_story.specs.Story.{Story, by_abort, by_reset, is_aborted, is_sense_stopped, marked_refused, marked_shown, story_with_end, story_after_event, story_after_events}
 use Rattle.bus_story.specs.TraceHistory.{aim_of, story_with_restored, story_with_sent, story_after_connection, story_with_carried, is_parity_error, story_after_out, carried_after_message_if, story_after_message, story_after_in, carried_after_byte_if, story_after_byte, carried_after_fault_if, story_after_fault, story_in_connection, story_on_bus, story_by_change}
+use Rattle.bus_story.proofs.StorySteps.{free_carried, message_id, ends_carried, check_carried}
+use Rattle.bus_story.proofs.CarriedLists.{carried_id, carried_with}
 use Rattle.bus_due.specs.RunState.{RunState, carried_here}
 use Rattle.bus_due.specs.RunSteps.{run_state_after}
-use Rattle.bus_books.proofs.Lookups.{id_is, carried_id, put_there}
-use Rattle.trace_laws.proofs.ShownReplies.{checked, all_ended, free_carries}
-use Rattle.trace_laws.proofs.PointerStorySteps.{message_id, byte_id, fault_id}
+use Rattle.bus_books.proofs.Lookups.{id_is}
+use Rattle.trace_laws.proofs.PointerStorySteps.{byte_id, fault_id}
 
 -- Neither pointers, marks nor faults change it.
 pub record IsLasting {A : Type 0} (f : CarriedBytes → A) : Type 0 where
@@ -41,7 +42,7 @@ abbrev pub Lasts : {A : Type 0} → (CarriedBytes → A) → ProcId → List Car
 Lasts f id before after = f (carried_of after id) ≡ f (carried_of before id)
 
 pub puts : {A : Type 0} (f : CarriedBytes → A) (all : List CarriedBytes) (c : CarriedBytes) (id : ProcId) → (c.id ≡ id → f c ≡ f (carried_of all id)) → Lasts f id all (with_carried all c)
-puts f all c id e = ap f (put_there all c id) ∙ go (same_id c.id id) refl
+puts f all c id e = ap f (carried_with all c id) ∙ go (same_id c.id id) refl
   where
     go : (q : Bool) → same_id c.id id ≡ q → f (if q then c else carried_of all id) ≡ f (carried_of all id)
     go true z = e (id_is c.id id z)
@@ -58,10 +59,10 @@ event_lasts f h s b (events.Accept p) id = refl
 event_lasts f h s b (events.Refuse p) id = own f b.carried p (marked_refused (carried_of b.carried p)) id (carried_id b.carried p) (λ z. h.refused (carried_of b.carried p))
 event_lasts f h s b (events.Run p) id = own f b.carried p (marked_shown (carried_of b.carried p)) id (carried_id b.carried p) (λ z. h.shown (carried_of b.carried p))
 event_lasts f h s b (events.Fail p code) id = own f b.carried p (marked_shown (carried_of b.carried p)) id (carried_id b.carried p) (λ z. h.shown (carried_of b.carried p))
-event_lasts f h s b (events.End p status) id = ap (λ (x : List CarriedBytes). f (carried_of x id)) (checked (story_with_end b p _) p status)
+event_lasts f h s b (events.End p status) id = ap (λ (x : List CarriedBytes). f (carried_of x id)) (check_carried (story_with_end b p _) p status)
 event_lasts f h s b (events.Lost p) id = refl
-event_lasts f h s b (events.Aborted i t u what) id = ap (λ (x : List CarriedBytes). f (carried_of x id)) (all_ended (is_aborted i t u what) (is_sense_stopped i t u what) by_abort 1 s.commands b)
-event_lasts f h s b (events.Reset dev) id = ap (λ (x : List CarriedBytes). f (carried_of x id)) (all_ended (λ c. true) (λ c. true) by_reset 1 s.commands b)
+event_lasts f h s b (events.Aborted i t u what) id = ap (λ (x : List CarriedBytes). f (carried_of x id)) (ends_carried (is_aborted i t u what) (is_sense_stopped i t u what) by_abort 1 s.commands b)
+event_lasts f h s b (events.Reset dev) id = ap (λ (x : List CarriedBytes). f (carried_of x id)) (ends_carried (λ c. true) (λ c. true) by_reset 1 s.commands b)
 
 pub events_last : {A : Type 0} (f : CarriedBytes → A) → IsLasting f → (s : ScenarioValue) (b : Story) (shown : List Event) (id : ProcId) → Lasts f id b.carried (story_after_events s b shown).carried
 events_last f h s b [] id = refl
@@ -172,7 +173,7 @@ change_lasts f h s b d row id byte undo = go d.change.after.rst b.bus_state.conn
 
     go : (q : Bool) (x y : Option Connection) → Lasts f id b.carried (if q then record b { link = None } else story_on_bus s b x y d row).carried
     go true x y = refl
-    go false None None = ap (λ (x : List CarriedBytes). f (carried_of x id)) (free_carries s b d row)
+    go false None None = ap (λ (x : List CarriedBytes). f (carried_of x id)) (free_carried s b d row)
     go false None (Some n) = begun_lasts f h b n id
     go false (Some m) None = refl
     go false (Some m) (Some n) = inside b.link refl

@@ -22,7 +22,6 @@ mod Cases
 pub mod GivenReplies
 pub mod MovedAreas
 pub mod GivenBytes
-pub mod AcceptedReplies
 pub mod SentAtRun
 pub mod GivenCrossings
 pub mod GivenRows

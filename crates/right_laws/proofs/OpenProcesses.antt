@@ -12,17 +12,18 @@ use Rattle.disk_array.specs.ArrayHistory.{array_step, reply_in}
 use Rattle.disk_array.specs.Execution.{Reply}
 use Rattle.disk_array.specs.Processes.{Process, process_of, same_id}
 use Rattle.disk_array.specs.Steps as Steps
-use Rattle.disk_array.specs.Units.{RunningProcess, UnitState, Array, guest_at, starting_array, settled_array}
-use Rattle.disk_array.proofs.ArrayReplies.{loss_lists}
+use Rattle.disk_array.specs.Units.{RunningProcess, UnitState, Array, guest_at, starting_array, settled_array, without_reply}
+use Rattle.disk_array.proofs.ArrayReplies.{loss_lists, end_lists}
 use Rattle.bus_due.specs.RunSteps.{array_after_events}
 use Rattle.bus_books.proofs.CarriedRows.{process_id}
 use Rattle.bus_books.proofs.Lookups.{self_id}
-use Rattle.trace_laws.specs.Places.{fresh, Each, OnUnits, OnGuests, Waits, Runs, IsAway}
+use Rattle.trace_laws.specs.Places.{Each, OnUnits, OnGuests, Waits, Runs, IsAway}
 use Rattle.trace_laws.proofs.EachProcess.{Admits, AdmitsEvent, each_after}
-use Rattle.trace_laws.proofs.ListedReplies.{replies_to, listed_on, accepted, end_lists}
+use Rattle.trace_laws.proofs.ListedReplies.{replies_to, listed_on, accepted}
 use Rattle.trace_laws.proofs.OtherProcesses.{same_after, untouched_at_start}
 use Rattle.trace_laws.proofs.Impossible.{none_some}
 use Rattle.trace_laws.proofs.KeptReplies.{no_array}
+use Rattle.trace_laws.proofs.PlaceReady.{on_running}
 use Rattle.right_laws.specs.Open.{OnEvents, IfOpen, OnOpen}
 use Rattle.bus_base.proofs.Tests.{wrong}
 
@@ -30,7 +31,7 @@ use Rattle.bus_base.proofs.Tests.{wrong}
 
 map_waits : (x q r : RunningProcess → Type 0) → ((p : RunningProcess) → x p → q p → r p) → (waiting : List Process) → Waits x waiting → Waits q waiting → Waits r waiting
 map_waits x q r f [] h g = tt
-map_waits x q r f (p ∷ waiting) h g = (f (fresh p) h.0 g.0, map_waits x q r f waiting h.1 g.1)
+map_waits x q r f (p ∷ waiting) h g = (f (without_reply p) h.0 g.0, map_waits x q r f waiting h.1 g.1)
 
 map_runs : (x q r : RunningProcess → Type 0) → ((p : RunningProcess) → x p → q p → r p) → (o : Option RunningProcess) → Runs x o → Runs q o → Runs r o
 map_runs x q r f None h g = tt
@@ -60,23 +61,11 @@ guest_has q (g ∷ guests) id r h e = go (same_id g.process.id id) e (λ z. gues
     go true z rest = subst q (same_Some g r z) h.0
     go false z rest = rest z
 
-current_has : (q : RunningProcess → Type 0) (units : List UnitState) (id : ProcId) (r : RunningProcess) → OnUnits q units → Steps.running_in units id ≡ Some r → q r
-current_has q [] id r h e = none_some r e
-current_has q (u ∷ units) id r h e = go u.current h.0.1 e (λ z. current_has q units id r h.1 z)
-  where
-    by : (c : RunningProcess) → q c → (x : Bool) → (if is_some {T = RunningProcess} (if x then Some c else None) then (if x then Some c else None) else Steps.running_in units id) ≡ Some r → (Steps.running_in units id ≡ Some r → q r) → q r
-    by c k true z rest = subst q (same_Some c r z) k
-    by c k false z rest = rest z
-
-    go : (o : Option RunningProcess) → Runs q o → (if is_some (Steps.running_if o id) then Steps.running_if o id else Steps.running_in units id) ≡ Some r → (Steps.running_in units id ≡ Some r → q r) → q r
-    go None k z rest = rest z
-    go (Some c) k z rest = by c k (same_id c.process.id id) z rest
-
 pub running_has : (q : RunningProcess → Type 0) (a : Array) (id : ProcId) (r : RunningProcess) → Each q q a → Steps.running_process a id ≡ Some r → q r
 running_has q a id r h e = go (guest_at a.guests id) refl e
   where
     go : (o : Option RunningProcess) → guest_at a.guests id ≡ o → (if is_some o then o else Steps.running_in a.units id) ≡ Some r → q r
-    go None z w = current_has q a.units id r h.units w
+    go None z w = on_running q a.units id r h.units w
     go (Some g) z w = guest_has q a.guests id r h.guests (z ∙ w)
 
 -- ---- at the start there is none

@@ -37,10 +37,9 @@ use Rattle.bus_books.proofs.Lookups.{id_is, self_id}
 use Rattle.trace_laws.specs.ItemFacts.{ItemFacts}
 use Rattle.trace_laws.specs.Places.{IsUntouched, RunsOpen, PlaceFacts, PlacedIn}
 use Rattle.trace_laws.specs.Tells.{AreRepliesShown}
-use Rattle.trace_laws.proofs.EachProcess.{running_id}
 use Rattle.trace_laws.proofs.FreshItems.{items_open}
 use Rattle.trace_laws.proofs.Joint.{Stood, NextStood}
-use Rattle.trace_laws.proofs.ListedReplies.{replies_to, listed_on}
+use Rattle.trace_laws.proofs.ListedReplies.{replies_to, listed_on, running_id}
 use Rattle.trace_laws.proofs.OverItems.{ends_over}
 use Rattle.trace_laws.proofs.PointerWaits.{over_row}
 use Rattle.right_laws.specs.Loads.{Load, load, UndoesLoads, UndoLoadFacts}

@@ -45,7 +45,8 @@ use Rattle.bus_due.specs.Tasks.{is_writing, moved_count, reply_now, task_if}
 use Rattle.bus_due.proofs.Plains.{run_state_plain}
 use Rattle.bus_books.specs.Knowing.{Knows}
 use Rattle.bus_books.specs.Rows.{IsRowIn, RowKind, still, strikes, crosses, turns}
-use Rattle.bus_books.proofs.Gives.{requests_rise, requests_stay, struck_same}
+use Rattle.bus_books.proofs.Gives.{requests_rise, requests_stay}
+use Rattle.bus_lines.proofs.Early.{struck_same}
 use Rattle.bus_books.proofs.InConnection.{InConnection, in_connection, reading_is, same_phase_is}
 use Rattle.bus_laws.specs.Ends.{BeginsConnection, by_reselection, by_selection}
 use Rattle.bus_laws.proofs.Prompt.{least_is}

@@ -11,7 +11,7 @@ use Rattle.bus_trace.specs.declared.connection.Connection.{Connection}
 use Rattle.cdb_codec.specs.declared.status.TheConstants.{GOOD}
 use Rattle.scenario.specs.Value.{ScenarioValue}
 use Rattle.scenario.specs.declared.value.Policy.{Policy}
-use Rattle.disk_array.specs.ArrayHistory.{array_after, reply_in}
+use Rattle.disk_array.specs.ArrayHistory.{array_after, reply_in, shows_run}
 use Rattle.disk_array.specs.Execution.{Reply}
 use Rattle.disk_array.specs.Units.{Array}
 use Rattle.bus_story.specs.BusState.{RowReading, row_reading}
@@ -38,15 +38,15 @@ use Rattle.bus_due.proofs.Plains.{run_state_plain}
 use Rattle.trace_laws.specs.Places.{AnsweredOpen, IsTaken, PlacedBefore, PlacedIf, PlacedIn}
 use Rattle.trace_laws.specs.RunFacts.{IsServedWell}
 use Rattle.trace_laws.specs.RunsLeft.{HasRunLeft, RunsLeftOf, run_total}
-use Rattle.trace_laws.specs.RunsWhole.{has_run}
 use Rattle.trace_laws.proofs.LastRuns.{last_run}
 use Rattle.trace_laws.proofs.Plans.{writes_there}
 use Rattle.trace_laws.proofs.RunEvents.{RunsFrom, RunsInPhase, answered, moved_all, reads, run_turn, runs_from, writes}
 use Rattle.trace_laws.proofs.RunFacts.{LinesOf, active_is, lines_of, task_here}
 use Rattle.trace_laws.proofs.RunFits.{FitsRuns}
 use Rattle.trace_laws.proofs.RunParts.{RunsFit}
-use Rattle.trace_laws.proofs.RunsWhole.{is_free, runs_blocks, some_run, zero_blocks}
+use Rattle.trace_laws.proofs.RunsWhole.{runs_blocks, some_run, zero_blocks}
 use Rattle.trace_laws.proofs.Whole.{Whole}
+use Rattle.trace_laws.specs.ItemTalks.{frees_bus}
 use Rattle.bus_laws.proofs.Apart.{change_plain}
 use Rattle.bus_laws.proofs.Prompt.{least_is}
 use Rattle.right_laws.specs.GivenPointers.{PointsAtEnd}
@@ -137,12 +137,12 @@ points_at_end s p row w was next left q reply is reading good = by (here_goes s 
     same : reply_now (array_of s k) q ≡ reply
     same = (λ i. reply_now (or_start s (was.places.array_is i)) q) ∙ same_Some (reply_now was.places.array q) reply (sym now ∙ (λ i. reply_in (or_start s (sym next.places.array_is i)).replies q.id) ∙ is.reply_is)
 
-    ran : has_run shown ≡ true
+    ran : shows_run shown ≡ true
     ran = go runs_with
       where
-        go : RunsAs q.id shown → has_run shown ≡ true
-        go (runs_alone e) = ap has_run e
-        go (runs_arrived e) = ap has_run e
+        go : RunsAs q.id shown → shows_run shown ≡ true
+        go (runs_alone e) = ap shows_run e
+        go (runs_arrived e) = ap shows_run e
 
     tells : is_true_telling s k row d ≡ true
     tells = (and_parts (telling s p) (is_true_telling s k row d) next.told).1
@@ -200,7 +200,7 @@ points_at_end s p row w was next left q reply is reading good = by (here_goes s 
           where
             go : PlacedBefore was.places.array q k.exchange.plan.messages k.exchange.plan.next ⊎ IsTaken was.places.array q k.exchange.plan k.handshakes (bus_of k).atn → length reply.bytes ≤ (carried_here k q.id).moved.active
             go (inl z) = listed (subst (PlacedBefore was.places.array q k.exchange.plan.messages) to z)
-            go (inr z) = wrong' (sym (ap is_free to) ∙ ap is_free z.next_is)
+            go (inr z) = wrong' (sym (ap frees_bus to) ∙ ap frees_bus z.next_is)
 
         not_all : nat_lt r.turn.task.runs (runs_in_all (policy_of (target_def_of s n.target)) r.turn.task) ≡ false → length reply.bytes ≤ (carried_here k q.id).moved.active
         not_all e = go (t.moved == 0) refl

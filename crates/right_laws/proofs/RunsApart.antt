@@ -43,7 +43,6 @@ use Rattle.trace_laws.specs.Places.{AnsweredOpen, Closes, IsAtRest, IsAway, IsOu
 use Rattle.trace_laws.proofs.ArrivingProcesses.{Arrives, arrives, as_guest, in_queue, not_running, queued_rests}
 use Rattle.trace_laws.proofs.Impossible.{none_some}
 use Rattle.right_laws.specs.Open.{OnEvents}
-use Rattle.right_laws.proofs.GivenReplies.{run_gives}
 use Rattle.right_laws.proofs.RanFacts.{IsFound, Known, apart_of, here_is, run_found, steps_of}
 use Rattle.right_laws.proofs.RowCrossings.{GoesSo, InBytes, IsPlaced, byte_phase, here_goes, in_command, in_data, in_status, known_served, new_here, placed_here}
 use Rattle.right_laws.proofs.SameReplies.{SameContext, accept_at, by_context, place_of}
@@ -51,6 +50,7 @@ use Rattle.right_laws.proofs.SenseRuns.{IsCurrentAt, run_seat}
 use Rattle.right_laws.proofs.ShownRows.{IsAnswer, IsArrival, RunsAs, ShownAs, row_runs, row_shown, runs_alone, runs_arrived}
 use Rattle.right_laws.proofs.OpenProcesses.{none_is}
 use Rattle.bus_base.proofs.Tests.{wrong, wrong'}
+use Rattle.target_units.proofs.ReplySteps.{run_replies as run_gives}
 
 -- ---- a unit that is not there
 
@@ -131,7 +131,7 @@ pub record IsCurrent (b : Array) (q : Process) : Type 0 where
   pub process_is : running.process ≡ q
   pub unanswered : reply_in b.replies q.id ≡ None
 
-guest_there : (s : ScenarioValue) (guests : List RunningProcess) (t n : ℕ) (x : Process) (g : RunningProcess) → AllOwnGuests s guests → process_of s x.id ≡ Some x → guest_at (guests_at guests t n) x.id ≡ Some g → g.process ≡ x
+pub guest_there : (s : ScenarioValue) (guests : List RunningProcess) (t n : ℕ) (x : Process) (g : RunningProcess) → AllOwnGuests s guests → process_of s x.id ≡ Some x → guest_at (guests_at guests t n) x.id ≡ Some g → g.process ≡ x
 guest_there s [] t n x g own is e = none_some g e
 guest_there s (y ∷ guests) t n x g own is e = go (is_of_unit y.process t n) (same_id y.process.id x.id) refl e (λ z. guest_there s guests t n x g own.1 is z)
   where

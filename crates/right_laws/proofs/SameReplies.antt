@@ -11,16 +11,16 @@ use Rattle.cdb_codec.specs.Cdb.{command_of}
 use Rattle.cdb_codec.specs.declared.sense.TheConstants.{ABORTED_COMMAND}
 use Rattle.scenario.specs.Value.{ScenarioValue}
 use Rattle.disk_array.specs.Execution.{Reply, check_condition, execution, is_request_sense, queue_full, sense_of}
-use Rattle.disk_array.specs.Order.{choice}
 use Rattle.disk_array.specs.Processes.{Process, process_of}
 use Rattle.disk_array.specs.Seats as Seats
 use Rattle.disk_array.specs.Seats.{Seat, seat_of, seat_if, context_of, settled_seat, settled_seat_if}
 use Rattle.disk_array.specs.SoundArray.{HasSeats, IsSound}
-use Rattle.disk_array.specs.Steps.{context_at, has_ended, has_tag, is_of_unit, process_count, step}
-use Rattle.disk_array.specs.Units.{Array, RunningProcess, UnitState, has_no_current, unit_state_at, with_current}
+use Rattle.disk_array.specs.Steps.{has_ended, has_tag, is_of_unit, process_count, step}
+use Rattle.disk_array.specs.Units.{Array, RunningProcess, UnitState}
 use Rattle.disk_array.proofs.SeatLaws.{abort_law, accept_law, fail_law, loss_law, other_law, refuse_law}
 use Rattle.disk_array.specs.ArrayHistory.{array_step}
 use Rattle.disk_array.proofs.SoundArrays.{step_sound, is_own}
+use Rattle.disk_array.proofs.SeatContexts.{settled_context}
 use Rattle.bus_trace.specs.declared.Row.{Row}
 use Rattle.bus_story.specs.BusState.{row_reading}
 use Rattle.bus_story.specs.HistoryEvents.{row_events_by}
@@ -36,18 +36,12 @@ use Rattle.bus_books.proofs.CarriedRows.{process_id}
 use Rattle.std.proofs.lemmas.Bool.{not-false, eqb-true, or_parts, and_parts}
 use Rattle.bus_base.proofs.Tests.{wrong'}
 use Rattle.trace_laws.proofs.Impossible.{none_some}
+use Rattle.target_units.proofs.UnitTellings.{context_same}
 
 no_process : {A : Type 0} (o : Option Process) → o ≡ None → is_some o ≡ true → A
 no_process o e some = wrong' (sym (ap is_some e) ∙ some)
 
 -- ---- by the seat of the process
-
-pub context_same : (a : Array) (t n from : ℕ) → context_at a (record { initiator = from; target = t; unit = n }) (unit_state_at a.units t n) ≡ context_of (seat_of a t n) from
-context_same a t n from = go (unit_state_at a.units t n)
-  where
-    go : (x : Option UnitState) → context_at a (record { initiator = from; target = t; unit = n }) x ≡ record { present = is_some x; contents = Seats.contents_of x; stored = (seat_of a t n).senses from; attention = (seat_of a t n).attentions from }
-    go None = refl
-    go (Some u) = refl
 
 pub by_context : (a b : Array) (q : Process) → context_of (seat_of b q.target q.unit) q.initiator ≡ context_of (seat_of a q.target q.unit) q.initiator → reply_now b q ≡ reply_now a q
 by_context a b q e =
@@ -59,24 +53,6 @@ pub elsewhere_same : (s : ScenarioValue) (a b : Array) (e : Event) (q : Process)
 elsewhere_same s a b e q seats sound other st = by_context a b q (ap (λ (x : Seat). context_of x q.initiator) (other_law s a b e q.target q.unit seats sound other st))
 
 -- ---- what an event leaves of a seat, before the choice
-
-pub choice_keeps : (held : Bool) (u : UnitState) → (Seats.unit_with_choice held u).contents ≡ u.contents
-choice_keeps held u = go (has_no_current u.current && not held)
-  where
-    with : (p : Option Process) → (with_current u p).contents ≡ u.contents
-    with None = refl
-    with (Some p) = refl
-
-    go : (y : Bool) → (if y then with_current u (choice u.pick u.waiting) else u).contents ≡ u.contents
-    go true = with (choice u.pick u.waiting)
-    go false = refl
-
-pub settled_context : (seat : Seat) (from : ℕ) → context_of (settled_seat seat) from ≡ context_of seat from
-settled_context seat from = go seat.unit
-  where
-    go : (x : Option UnitState) → context_of (settled_seat (record seat { unit = x })) from ≡ context_of (record seat { unit = x }) from
-    go None = refl
-    go (Some u) = λ i. record { present = true; contents = choice_keeps (Seats.is_any_held seat.hold) u i; stored = seat.senses from; attention = seat.attentions from }
 
 -- After these of the seat its context is the same.
 abbrev pub SameAfter : Seat → ℕ → Option Seat → Type 0

@@ -21,7 +21,7 @@ use Rattle.disk_array.specs.Steps as Steps
 use Rattle.disk_array.specs.Steps.{running_if}
 use Rattle.disk_array.specs.Units.{RunningProcess, UnitState, guest_at, has_no_current, with_current}
 use Rattle.disk_array.specs.Order.{choice}
-use Rattle.right_laws.proofs.SameReplies.{settled_context}
+use Rattle.disk_array.proofs.SeatContexts.{settled_context}
 use Rattle.bus_base.proofs.Tests.{wrong', and_false}
 use Rattle.trace_laws.proofs.Impossible.{none_some}
 

@@ -12,7 +12,7 @@ use Rattle.bus_trace.specs.Trace.{bus}
 use Rattle.cdb_codec.specs.declared.status.TheConstants.{GOOD}
 use Rattle.scenario.specs.Value.{ScenarioValue}
 use Rattle.scenario.specs.Writing.{Obeys}
-use Rattle.disk_array.specs.ArrayHistory.{array_step, reply_in}
+use Rattle.disk_array.specs.ArrayHistory.{array_step, reply_in, shows_run}
 use Rattle.disk_array.specs.Execution.{Reply}
 use Rattle.disk_array.specs.Processes.{Process, process_of}
 use Rattle.disk_array.specs.Steps.{step}
@@ -31,23 +31,22 @@ use Rattle.scsi_device.specs.Writes.{is_of_size, writers}
 use Rattle.scsi_device.proofs.FitLines.{obeys_fits, seats_are}
 use Rattle.bus_laws.proofs.Apart.{change_plain}
 use Rattle.bus_laws.proofs.Prompt.{least_is}
-use Rattle.trace_laws.specs.RunsWhole.{IsWhole, ends_badly, has_run, sends_all, sends_none}
+use Rattle.trace_laws.specs.RunsWhole.{IsWhole, ends_badly, sends_all, sends_none}
 use Rattle.trace_laws.specs.WholeRuns.{bytes_come}
 use Rattle.trace_laws.proofs.Whole.{Whole, row_attendance, whole}
 use Rattle.trace_laws.proofs.WritePremises.{write_premises}
 use Rattle.trace_laws.proofs.Impossible.{none_some}
 use Rattle.right_laws.specs.Asked.{SendsAtRun}
-use Rattle.right_laws.proofs.AcceptedReplies.{accept_keeps}
-use Rattle.right_laws.proofs.GivenReplies.{run_gives}
 use Rattle.right_laws.proofs.RowCrossings.{GoesSo, here_goes, known_served}
 use Rattle.right_laws.proofs.SentBytes.{answer_of}
 use Rattle.right_laws.proofs.ShownRows.{IsAnswer, RunsAs, runs_alone, runs_arrived, row_runs}
 use Rattle.bus_base.proofs.Tests.{wrong}
+use Rattle.target_units.proofs.ReplySteps.{run_replies, accept_same}
 
 -- ---- the reply of a process that runs is the one that it would have before the row
 
 pub runs_so : (s : ScenarioValue) (a b : Array) (q : Process) (shown : List Event) → Obeys s → Rattle.disk_array.specs.SoundArray.IsSound s a → process_of s q.id ≡ Some q → RunsAs q.id shown → array_after_events s (Some a) shown ≡ Some b → reply_in b.replies q.id ≡ Some (reply_now a q)
-runs_so s a b q shown o sound own (runs_alone e) after = run_gives s a b q sound own (sym (ap (array_after_events s (Some a)) e) ∙ after)
+runs_so s a b q shown o sound own (runs_alone e) after = run_replies s a b q sound own (sym (ap (array_after_events s (Some a)) e) ∙ after)
 runs_so s a b q shown o sound own (runs_arrived e) after = go (step s (events.Accept q.id) a) refl (sym (ap (array_after_events s (Some a)) e) ∙ after)
   where
     seats : Rattle.disk_array.specs.SoundArray.HasSeats s
@@ -56,8 +55,8 @@ runs_so s a b q shown o sound own (runs_arrived e) after = go (step s (events.Ac
     go : (m : Option Array) → step s (events.Accept q.id) a ≡ m → array_step s (events.Run q.id) (step s (events.Accept q.id) a) ≡ Some b → reply_in b.replies q.id ≡ Some (reply_now a q)
     go None f z = none_some b (sym (ap (array_step s (events.Run q.id)) f) ∙ z)
     go (Some m) f z =
-        run_gives s m b q (step_sound s a m (events.Accept q.id) seats sound f) own (sym (ap (array_step s (events.Run q.id)) f) ∙ z)
-        ∙ ap (λ (r : Reply). Some r) (accept_keeps s a m q seats sound own f)
+        run_replies s m b q (step_sound s a m (events.Accept q.id) seats sound f) own (sym (ap (array_step s (events.Run q.id)) f) ∙ z)
+        ∙ ap (λ (r : Reply). Some r) (accept_same s a m q seats sound own f)
 
 -- ---- the row
 
@@ -94,12 +93,12 @@ sends_at_run s p row o prompt q reply is w good = by (here_goes s k row answer.l
     same : reply_now was.places.array q ≡ reply
     same = same_Some (reply_now was.places.array q) reply (sym now ∙ (λ i. reply_in (or_start s (sym next.places.array_is i)).replies q.id) ∙ is.reply_is)
 
-    ran : has_run shown ≡ true
+    ran : shows_run shown ≡ true
     ran = go runs_with
       where
-        go : RunsAs q.id shown → has_run shown ≡ true
-        go (runs_alone e) = ap has_run e
-        go (runs_arrived e) = ap has_run e
+        go : RunsAs q.id shown → shows_run shown ≡ true
+        go (runs_alone e) = ap shows_run e
+        go (runs_arrived e) = ap shows_run e
 
     by : GoesSo s k row → (length q.sent ≤ bytes_come s k q) × (is_of_size s k q ≡ true)
     by v = (came (att.whole n q con calm off ran served_is), (write_premises s p row o prompt was.stood was.places was.sends was.resets).sizes q served_is)

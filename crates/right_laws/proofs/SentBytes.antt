@@ -36,7 +36,7 @@ use Rattle.bus_due.proofs.Plains.{run_state_plain}
 use Rattle.bus_due.specs.RunState.{RunState, array_of, bus_of, carried_here, process_item}
 use Rattle.bus_due.specs.RunSteps.{run_state, run_state_after}
 use Rattle.bus_due.specs.Tasks.{is_writing, size_of, blocks_in}
-use Rattle.scsi_device.specs.Writes.{block_size, is_data_out, is_of_size}
+use Rattle.scsi_device.specs.Writes.{block_size, is_data_out, is_of_size, start_of_run}
 use Rattle.bus_books.specs.Carrying.{IsFilled}
 use Rattle.bus_books.specs.Traces.{GoesOn}
 use Rattle.bus_books.proofs.CarriedBlocks.{own_of}
@@ -45,7 +45,7 @@ use Rattle.trace_laws.specs.DataFacts.{DataFacts}
 use Rattle.bus_books.specs.Accounts.{policy_for}
 use Rattle.trace_laws.specs.DataPointers.{run_policy, step_in, run_start, is_marked, PointersIn, calm, restores, saves, saved, disconnects, closes, PointersRefused, still_calm, restores_again, saves_again, disconnects_again, closes_again, PointersAsked, PointersOf, PointersIf, ServedPointers, unnamed, named}
 use Rattle.trace_laws.specs.RunFacts.{IsServedWell}
-use Rattle.trace_laws.specs.WholeRuns.{start_of_run, bytes_come}
+use Rattle.trace_laws.specs.WholeRuns.{bytes_come}
 use Rattle.trace_laws.proofs.RunFits.{fits_runs}
 use Rattle.trace_laws.proofs.PhaseLines.{out_no_status}
 use Rattle.trace_laws.proofs.Impossible.{none_some}

@@ -19,8 +19,9 @@ use Rattle.bus_story.specs.HistoryEvents.{carried_if, queue_event, queue_events,
 use Rattle.bus_story.specs.Items.{Item, process, abort}
 use Rattle.bus_story.specs.Links.{Link, LastMessage, plain, complete, disconnect, abortive}
 use Rattle.bus_story.specs.Right.{has_run}
+use Rattle.bus_story.proofs.CarriedLists.{carried_id}
 use Rattle.bus_due.specs.RunState.{RunState, carried_here}
-use Rattle.bus_books.proofs.Lookups.{carried_id, id_is}
+use Rattle.bus_books.proofs.Lookups.{id_is}
 use Rattle.right_laws.specs.Open.{OnEvents}
 use Rattle.bus_base.proofs.Tests.{wrong, wrong'}
 use Rattle.trace_laws.specs.DataPointers.{is_marked}

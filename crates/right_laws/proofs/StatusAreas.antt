@@ -24,13 +24,13 @@ use Rattle.bus_story.specs.Items.{Item, process, abort}
 use Rattle.bus_story.specs.Links.{Link}
 use Rattle.bus_story.specs.Story.{Story, by_abort, by_reset, is_aborted, is_sense_stopped, marked_refused, marked_shown, story_with_end, story_after_event, story_after_events}
 use Rattle.bus_story.specs.TraceHistory.{story_with_carried, story_after_out, story_after_in, story_after_byte, carried_after_fault_if, story_after_fault, story_in_connection}
+use Rattle.bus_story.proofs.CarriedLists.{carried_id}
+use Rattle.bus_story.proofs.StorySteps.{ends_carried, check_carried}
 use Rattle.bus_dialogue.specs.Exchange.{one_message, bytes_of_messages}
 use Rattle.bus_due.specs.RunState.{RunState, carried_here}
 use Rattle.bus_due.specs.RunSteps.{run_state_after}
 use Rattle.bus_books.specs.Rows.{IsRowIn, reading_in}
-use Rattle.bus_books.proofs.Lookups.{carried_id}
 use Rattle.trace_laws.proofs.PointerStorySteps.{byte_story, in_known}
-use Rattle.trace_laws.proofs.ShownReplies.{checked, all_ended}
 use Rattle.trace_laws.proofs.PointerStories.{story_row}
 use Rattle.right_laws.specs.StatusBytes.{HasOne, IsReady, IsSmall}
 use Rattle.right_laws.proofs.Lasting.{puts}
@@ -43,10 +43,10 @@ event_area s b (events.Accept p) id = refl
 event_area s b (events.Refuse p) id = puts (λ (c : CarriedBytes). c.status) b.carried (marked_refused (carried_of b.carried p)) id (λ z. ap (λ (x : ProcId). (carried_of b.carried x).status) (sym (carried_id b.carried p) ∙ z))
 event_area s b (events.Run p) id = puts (λ (c : CarriedBytes). c.status) b.carried (marked_shown (carried_of b.carried p)) id (λ z. ap (λ (x : ProcId). (carried_of b.carried x).status) (sym (carried_id b.carried p) ∙ z))
 event_area s b (events.Fail p code) id = puts (λ (c : CarriedBytes). c.status) b.carried (marked_shown (carried_of b.carried p)) id (λ z. ap (λ (x : ProcId). (carried_of b.carried x).status) (sym (carried_id b.carried p) ∙ z))
-event_area s b (events.End p status) id = ap (λ (x : List CarriedBytes). (carried_of x id).status) (checked (story_with_end b p _) p status)
+event_area s b (events.End p status) id = ap (λ (x : List CarriedBytes). (carried_of x id).status) (check_carried (story_with_end b p _) p status)
 event_area s b (events.Lost p) id = refl
-event_area s b (events.Aborted i t u what) id = ap (λ (x : List CarriedBytes). (carried_of x id).status) (all_ended (is_aborted i t u what) (is_sense_stopped i t u what) by_abort 1 s.commands b)
-event_area s b (events.Reset dev) id = ap (λ (x : List CarriedBytes). (carried_of x id).status) (all_ended (λ c. true) (λ c. true) by_reset 1 s.commands b)
+event_area s b (events.Aborted i t u what) id = ap (λ (x : List CarriedBytes). (carried_of x id).status) (ends_carried (is_aborted i t u what) (is_sense_stopped i t u what) by_abort 1 s.commands b)
+event_area s b (events.Reset dev) id = ap (λ (x : List CarriedBytes). (carried_of x id).status) (ends_carried (λ c. true) (λ c. true) by_reset 1 s.commands b)
 
 events_area : (s : ScenarioValue) (b : Story) (shown : List Event) (id : ProcId) → (carried_of (story_after_events s b shown).carried id).status ≡ (carried_of b.carried id).status
 events_area s b [] id = refl

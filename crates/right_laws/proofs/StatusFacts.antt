@@ -36,7 +36,8 @@ use Rattle.bus_laws.proofs.Prompt.{least_is}
 use Rattle.bus_books.specs.Knowing.{Knows}
 use Rattle.bus_books.specs.Rows.{RowKind, still, strikes, crosses, turns}
 use Rattle.bus_books.specs.Traces.{GoesOn}
-use Rattle.bus_books.proofs.Gives.{requests_stay, struck_same}
+use Rattle.bus_books.proofs.Gives.{requests_stay}
+use Rattle.bus_lines.proofs.Early.{struck_same}
 use Rattle.bus_books.proofs.InConnection.{in_connection}
 use Rattle.trace_laws.specs.LastTalks.{LastFacts, LastBy}
 use Rattle.trace_laws.specs.Places.{AnsweredOpen, PlacedIn}
@@ -52,7 +53,6 @@ use Rattle.right_laws.specs.StatusBytes.{StatusBy, StatusTalks, StatusFacts}
 use Rattle.right_laws.proofs.RanFacts.{Known}
 use Rattle.right_laws.proofs.RowCrossings.{IsPlaced, placed_here}
 use Rattle.right_laws.proofs.StatusLeavings.{is_status_next}
-use Rattle.trace_laws.proofs.RunsWhole.{is_free}
 use Rattle.bus_story.specs.CarriedBytes.{area_with, carried_after_byte}
 use Rattle.bus_story.specs.HistoryEvents.{is_complete}
 use Rattle.bus_due.specs.RunSteps.{exchange_after, first_exchange, leaving_of, may_negotiate, naming_of}
@@ -61,6 +61,7 @@ use Rattle.bus_books.specs.Traces.{Begins}
 use Rattle.trace_laws.proofs.ItemFacts.{beginning}
 use Rattle.trace_laws.proofs.Impossible.{none_some}
 use Rattle.trace_laws.proofs.Tests.{not_unless}
+use Rattle.trace_laws.specs.ItemTalks.{frees_bus}
 use Rattle.right_laws.proofs.BlockFacts.{lasting_by}
 use Rattle.right_laws.proofs.Lasting.{row_lasts}
 use Rattle.right_laws.proofs.RanFacts.{undoes_of, here_is, given_stays}
@@ -184,7 +185,7 @@ first_talks s p row n h dv lt alone after calm id served begun = go n.reselected
     go false e = wrong (sym begun ∙ ap (λ (x : Exchange). x.begun) first ∙ e)
     go true e =
         subst (StatusBy (carried_here j id) j.exchange.plan j.handshakes.requests) (sym into)
-        (record { completes = λ z. wrong (sym (freed z) ∙ ap is_free goes); again = λ z. wrong (sym (ap is_status_next z) ∙ ap is_status_next goes) }, λ z some. wrong (sym (ap is_status_next z) ∙ ap is_status_next goes))
+        (record { completes = λ z. wrong (sym (freed z) ∙ ap frees_bus goes); again = λ z. wrong (sym (ap is_status_next z) ∙ ap is_status_next goes) }, λ z some. wrong (sym (ap is_status_next z) ∙ ap is_status_next goes))
       where
         goes : j.exchange.plan.next ≡ nexts.GoOn
         goes = ap (λ (x : Exchange). x.plan.next) first ∙ ap (λ (q : Bool). (first_plan q (not n.reselected && may_negotiate k n (aim_of k.story.aims n.initiator)) (naming_of s k n)).next) e
@@ -198,7 +199,7 @@ first_talks s p row n h dv lt alone after calm id served begun = go n.reselected
         stood : Knows s j n
         stood = h.known.next.stood.books.knows n next (off)
 
-        freed : j.exchange.plan.messages ≡ one_message to_initiator.CommandComplete → is_free j.exchange.plan.next ≡ true
+        freed : j.exchange.plan.messages ≡ one_message to_initiator.CommandComplete → frees_bus j.exchange.plan.next ≡ true
         freed z =
             freeing stood.link j.exchange.plan.messages j.exchange.plan.next j.handshakes.requests
             (subst (λ (x : Phase). LastBy stood.link j.exchange.plan j.handshakes.requests j.story.bus_state.dialogue.is_last x) into

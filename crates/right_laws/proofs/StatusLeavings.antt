@@ -27,7 +27,7 @@ use Rattle.bus_dialogue.specs.NextPhase.{Serving, phase_leaving, phase_entry, wi
 use Rattle.bus_dialogue.specs.Words.{request_by, is_naming}
 use Rattle.bus_dialogue.specs.Events.{is_status_next as is_to_status}
 use Rattle.trace_laws.proofs.UndoneLeavings.{is_to_message_in, to_data, not_again}
-use Rattle.trace_laws.proofs.RunsWhole.{is_free}
+use Rattle.trace_laws.specs.ItemTalks.{frees_bus}
 use Rattle.bus_base.proofs.Tests.{wrong'}
 
 abbrev pub is_ending : Messages → Bool
@@ -43,7 +43,7 @@ is_status_next _ = false
 
 -- Neither COMMAND COMPLETE before the bus is freed, nor STATUS.
 pub record IsOther (l : Leaving) : Type 0 where
-  pub ends : is_ending l.messages ≡ true → is_free l.next ≡ false
+  pub ends : is_ending l.messages ≡ true → frees_bus l.next ≡ false
   pub status : is_status_next l.next ≡ false
 
 pub data FromIn (v : Serving) (l : Leaving) (phase : Phase) : Type 0 where

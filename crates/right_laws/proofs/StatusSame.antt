@@ -21,7 +21,6 @@ use Rattle.trace_laws.specs.LastTalks.{LastGiven, still_stays, to_close, to_save
 use Rattle.trace_laws.proofs.LastRows.{KeptPlan}
 use Rattle.right_laws.specs.Loads.{Load, load}
 use Rattle.right_laws.specs.StatusBytes.{HasOne, IsSmall, IsReady, StatusSays, StatusAsked, StatusBy}
-use Rattle.trace_laws.proofs.RunsWhole.{is_free}
 use Rattle.bus_base.proofs.Tests.{wrong'}
 
 -- ---- what is the same says the same
@@ -86,28 +85,28 @@ status_lines b e = go b.msg b.cd b.io refl refl refl (ap (λ (p : Phase). is_sta
 
 -- ---- what is said at its end
 
-pub freeing : (l : Link) (m : Messages) (next : Next) (count : ℕ) → LastGiven l m next count → m ≡ one_message to_initiator.CommandComplete → is_free next ≡ true
+pub freeing : (l : Link) (m : Messages) (next : Next) (count : ℕ) → LastGiven l m next count → m ≡ one_message to_initiator.CommandComplete → frees_bus next ≡ true
 freeing l m next count (still_stays f all last) e = absurd (no_end ((subst (λ (x : Messages). Rattle.bus_books.specs.Giving.OnMessages (λ y. Rattle.bus_story.specs.Links.last_in y ≡ Rattle.bus_story.specs.Links.plain) x) e all).0))
   where
     no_end : (let x : Rattle.bus_story.specs.Links.LastMessage = Rattle.bus_story.specs.Links.complete in x) ≡ Rattle.bus_story.specs.Links.plain → ⊥
     no_end z = true≢false (ap Rattle.bus_story.specs.HistoryEvents.is_complete z)
 freeing l m next count (to_close f x one end zero last) e = frees next f
   where
-    frees : (y : Next) → frees_bus y ≡ true → is_free y ≡ true
+    frees : (y : Next) → frees_bus y ≡ true → frees_bus y ≡ true
     frees nexts.FreeBus z = refl
     frees nexts.Command z = wrong' z
     frees nexts.Status z = wrong' z
     frees nexts.GoOn z = wrong' z
 freeing l m next count (to_save f both at last) e = frees next f
   where
-    frees : (y : Next) → frees_bus y ≡ true → is_free y ≡ true
+    frees : (y : Next) → frees_bus y ≡ true → frees_bus y ≡ true
     frees nexts.FreeBus z = refl
     frees nexts.Command z = wrong' z
     frees nexts.Status z = wrong' z
     frees nexts.GoOn z = wrong' z
 freeing l m next count (closed f ends full last told) e = frees next f
   where
-    frees : (y : Next) → frees_bus y ≡ true → is_free y ≡ true
+    frees : (y : Next) → frees_bus y ≡ true → frees_bus y ≡ true
     frees nexts.FreeBus z = refl
     frees nexts.Command z = wrong' z
     frees nexts.Status z = wrong' z

@@ -56,10 +56,10 @@ use Rattle.right_laws.proofs.StatusAreas.{area_stays}
 use Rattle.right_laws.proofs.StatusFirst.{status_follows}
 use Rattle.trace_laws.proofs.UndoneLeavings.{is_to_message_in}
 use Rattle.right_laws.proofs.StatusLeavings.{is_ending, is_status_next, FromIn, completes, repeats, restores, others, from_in, ToStatus, again, goes_on, gives_up, after_block, after_data_in, after_data_out, to_status}
-use Rattle.trace_laws.proofs.RunsWhole.{is_free}
 use Rattle.right_laws.proofs.UndoneLoads.{loads_stay_in}
 use Rattle.std.proofs.Common.{◌≤◌}
 use Rattle.bus_trace.specs.LineSet.{same}
+use Rattle.bus_trace.proofs.Sets.{same_self}
 use Rattle.msg_grammar.specs.declared.message.MsgIn.{MsgIn}
 use Rattle.bus_story.specs.HistoryEvents.{is_complete}
 use Rattle.bus_story.specs.Links.{plain, complete}
@@ -71,9 +71,9 @@ use Rattle.right_laws.proofs.RanFacts.{undoes_of, here_is}
 use Rattle.right_laws.proofs.StatusSame.{one_as, ready_as, says_as, status_lines, freeing}
 use Rattle.right_laws.proofs.StatusStays.{Going, knows_of}
 use Rattle.bus_base.proofs.Tests.{wrong, wrong'}
-use Rattle.link_laws.proofs.Moves.{same_self}
 use Rattle.trace_laws.specs.DataPointers.{IsPlainIn}
 use Rattle.trace_laws.proofs.OfferSteps.{stays_out}
+use Rattle.trace_laws.specs.ItemTalks.{frees_bus}
 
 -- ---- what MESSAGE OUT refuses
 
@@ -321,7 +321,7 @@ talk_turns s p row n id h ef ep er lasts talk = subst (StatusBy d j.exchange.pla
         no_end z = wrong' (ap is_ending z)
 
         -- COMMAND COMPLETE is said before the bus is freed
-        freed : j.exchange.plan.messages ≡ one_message to_initiator.CommandComplete → is_free j.exchange.plan.next ≡ true
+        freed : j.exchange.plan.messages ≡ one_message to_initiator.CommandComplete → frees_bus j.exchange.plan.next ≡ true
         freed z = go after_link refl
           where
             after_link : Option Link
@@ -330,7 +330,7 @@ talk_turns s p row n id h ef ep er lasts talk = subst (StatusBy d j.exchange.pla
             linked : Knows s j n
             linked = h.given.known.next.stood.books.knows n (i.connection_is) (ap (λ (x : LineSet). x.rst) i.bus_is ∙ r.calm)
 
-            go : (o : Option Link) → j.story.link ≡ o → is_free j.exchange.plan.next ≡ true
+            go : (o : Option Link) → j.story.link ≡ o → frees_bus j.exchange.plan.next ≡ true
             go o f =
                 freeing linked.link j.exchange.plan.messages j.exchange.plan.next j.handshakes.requests
                 (subst (λ (x : Phase). LastBy linked.link j.exchange.plan j.handshakes.requests j.story.bus_state.dialogue.is_last x) (ap phase_of i.bus_is ∙ e)
@@ -358,7 +358,7 @@ talk_turns s p row n id h ef ep er lasts talk = subst (StatusBy d j.exchange.pla
               again = λ z. ((planned q).0 ∙ em, inr (one_as b d same t));
             }
         says q (others x) = record {
-          completes = λ z. wrong (sym (freed z) ∙ ap is_free (planned q).1 ∙ x.ends (ap is_ending (sym (planned q).0 ∙ z)));
+          completes = λ z. wrong (sym (freed z) ∙ ap frees_bus (planned q).1 ∙ x.ends (ap is_ending (sym (planned q).0 ∙ z)));
           again = λ z. no_status l.next x.status (sym (planned q).1 ∙ z);
         }
 
@@ -392,7 +392,7 @@ talk_turns s p row n id h ef ep er lasts talk = subst (StatusBy d j.exchange.pla
               where
                 of_place : PlacedIn h.given.known.places.array place.process k.exchange.plan k.handshakes (bus_of k).atn phases.MessageIn → IsReady d
                 of_place (inl z) = unanswered (subst (λ (y : Next). PlacedBefore h.given.known.places.array place.process k.exchange.plan.messages y) next z).runs.reply
-                of_place (inr z) = wrong (ap is_free (sym z.next_is ∙ next))
+                of_place (inr z) = wrong (ap frees_bus (sym z.next_is ∙ next))
             by_way (gives_up f cause) = unanswered (subst (λ (y : Cause). PlacedAsked h.given.known.places.array place.process k.exchange.plan y) cause (at phases.MessageOut f)).runs.reply
             by_way (after_block f) = unanswered (at phases.Command f).reply
             by_way (after_data_in f) = unanswered (at phases.DataIn f).runs.reply

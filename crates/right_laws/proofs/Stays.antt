@@ -20,10 +20,12 @@ use Rattle.disk_array.specs.SoundArray.{HasSeats, IsSound}
 use Rattle.disk_array.specs.Steps.{is_of_unit, step}
 use Rattle.disk_array.specs.Units.{Array, RunningProcess, UnitState}
 use Rattle.disk_array.proofs.SeatLaws.{end_law}
+use Rattle.disk_array.proofs.SeatContexts.{settled_context}
 use Rattle.bus_due.specs.Tasks.{reply_now}
-use Rattle.right_laws.proofs.SameReplies.{context_same, place_of, settled_context}
+use Rattle.right_laws.proofs.SameReplies.{place_of}
 use Rattle.bus_base.proofs.Tests.{wrong}
 use Rattle.trace_laws.proofs.Impossible.{none_some}
+use Rattle.target_units.proofs.UnitTellings.{context_same}
 
 -- ---- only REQUEST SENSE answers by the stored sense
 

@@ -43,7 +43,6 @@ use Rattle.bus_books.specs.Accounts.{is_served_by}
 use Rattle.bus_due.proofs.Plains.{run_state_plain}
 use Rattle.bus_laws.proofs.Apart.{change_plain}
 use Rattle.trace_laws.proofs.AnsweredProcesses.{leaves}
-use Rattle.trace_laws.proofs.EachProcess.{running_id}
 use Rattle.trace_laws.specs.ItemFacts.{AllP, RunsP, UnitsP}
 use Rattle.trace_laws.specs.Places.{OnGuests, OnUnits, Runs, Waits, IsAway}
 use Rattle.trace_laws.specs.WriteFacts.{AllUnits, IsEmptyUnit}
@@ -51,6 +50,7 @@ use Rattle.trace_laws.proofs.WriterUnits.{map_units}
 use Rattle.trace_laws.proofs.QueuedProcesses as Queued
 use Rattle.trace_laws.proofs.QueuedProcesses.{stays_queued, step_units}
 use Rattle.trace_laws.proofs.Impossible.{none_some}
+use Rattle.trace_laws.proofs.ListedReplies.{running_id}
 use Rattle.right_laws.specs.GivenPointers.{HasReplyThen, StaysSo, abort_may_change, any_may_change, may_change}
 use Rattle.right_laws.specs.Open.{IfOpen, OnEvents, OnOpen}
 use Rattle.right_laws.proofs.CleanQueues.{CleanFacts, IsCleanUnit, IsNoSense, SenselessFacts, moved_of}

@@ -30,7 +30,7 @@ use Rattle.disk_array.specs.Execution.{CommandContext, Execution, Reply, attenti
 use Rattle.disk_array.specs.Processes.{Process, process_of, same_id}
 use Rattle.disk_array.specs.Seats as Seats
 use Rattle.disk_array.specs.Seats.{Seat, contents_of, context_of, seat_of, settled_seat, settled_seat_if}
-use Rattle.disk_array.specs.SoundArray.{AllOwnGuests, AllOwnUnits, HasSeats, IsOwnRunning, IsSound}
+use Rattle.disk_array.specs.SoundArray.{AllOwnUnits, HasSeats, IsOwnRunning, IsSound}
 use Rattle.disk_array.specs.Order.{choice}
 use Rattle.disk_array.specs.Steps as Steps
 use Rattle.disk_array.specs.Steps.{is_of_unit, running_if, step}
@@ -38,6 +38,7 @@ use Rattle.disk_array.specs.Units.{Array, Nexus, RunningProcess, UnitState, gues
 use Rattle.disk_array.proofs.SeatLaws.{abort_law, device_law, end_law, other_law, reset_law, run_law}
 use Rattle.disk_array.proofs.SoundArrays.{history_sound, is_own}
 use Rattle.disk_array.proofs.Touched.{block_same}
+use Rattle.disk_array.proofs.SeatContexts.{choice_keeps}
 use Rattle.disk_unit.specs.Disk.{blocks_written, blocks_written_by, written_of}
 use Rattle.scsi_device.specs.Lines.{FitsBus}
 use Rattle.scsi_device.proofs.FitLines.{obeys_fits, seats_are}
@@ -48,15 +49,16 @@ use Rattle.target_units.proofs.Starts.{line_filled, start_settled}
 use Rattle.bus_books.proofs.CarriedRows.{process_id}
 use Rattle.bus_books.proofs.Lookups.{id_is}
 use Rattle.trace_laws.proofs.ArrayBytes.{IsOf}
-use Rattle.trace_laws.proofs.EachProcess.{running_id}
 use Rattle.trace_laws.proofs.PointerEnds.{writer_plain}
 use Rattle.trace_laws.proofs.RunFits.{none_sent}
 use Rattle.trace_laws.proofs.Tests.{zero_times}
 use Rattle.trace_laws.proofs.Impossible.{none_some}
+use Rattle.trace_laws.proofs.ListedReplies.{running_id}
 use Rattle.right_laws.proofs.GivenReplies.{own_guests, own_units}
 use Rattle.right_laws.proofs.OpenProcesses.{running_has}
-use Rattle.right_laws.proofs.SameReplies.{SameContext, accept_at, choice_keeps, fail_at, place_of, refuse_at}
+use Rattle.right_laws.proofs.SameReplies.{SameContext, accept_at, fail_at, place_of, refuse_at}
 use Rattle.right_laws.proofs.Targeted.{unit_targeted}
+use Rattle.right_laws.proofs.RunsApart.{guest_there}
 use Rattle.std.proofs.lemmas.Bool.{eqb-true, and_parts}
 use Rattle.bus_base.proofs.Tests.{wrong, wrong'}
 
@@ -202,18 +204,6 @@ end_whole seat id status b t n h = go (Seats.running_at seat id)
 
 -- ---- a process runs
 
-guest_own : (s : ScenarioValue) (guests : List RunningProcess) (t n : ℕ) (p : Process) (r : RunningProcess) → AllOwnGuests s guests → process_of s p.id ≡ Some p → guest_at (Seats.guests_at guests t n) p.id ≡ Some r → r.process ≡ p
-guest_own s [] t n p r own is e = none_some r e
-guest_own s (g ∷ guests) t n p r own is e = go (is_of_unit g.process t n) e (λ z. guest_own s guests t n p r own.1 is z)
-  where
-    at : (y : Bool) → same_id g.process.id p.id ≡ y → (if y then Some g else guest_at (Seats.guests_at guests t n) p.id) ≡ Some r → (guest_at (Seats.guests_at guests t n) p.id ≡ Some r → r.process ≡ p) → r.process ≡ p
-    at true f z rest = ap (λ (x : RunningProcess). x.process) (sym (same_Some g r z)) ∙ same_Some g.process p (sym own.0 ∙ ap (process_of s) (id_is g.process.id p.id f) ∙ is)
-    at false f z rest = rest z
-
-    go : (x : Bool) → guest_at (if x then g ∷ Seats.guests_at guests t n else Seats.guests_at guests t n) p.id ≡ Some r → (guest_at (Seats.guests_at guests t n) p.id ≡ Some r → r.process ≡ p) → r.process ≡ p
-    go true z rest = at (same_id g.process.id p.id) refl z rest
-    go false z rest = rest z
-
 current_own : (s : ScenarioValue) (units : List UnitState) (t n : ℕ) (p : Process) (r : RunningProcess) → AllOwnUnits s units → process_of s p.id ≡ Some p → running_if (Seats.current_of (unit_state_at units t n)) p.id ≡ Some r → r.process ≡ p
 current_own s [] t n p r own is e = none_some r e
 current_own s (u ∷ units) t n p r own is e = go (u.target == t && u.unit == n) e (λ z. current_own s units t n p r own.1 is z)
@@ -235,7 +225,7 @@ running_own s a p r t n sound is e = go (guest_at (Seats.guests_at a.guests t n)
   where
     go : (o : Option RunningProcess) → guest_at (Seats.guests_at a.guests t n) p.id ≡ o → (if is_some o then o else running_if (Seats.current_of (unit_state_at a.units t n)) p.id) ≡ Some r → r.process ≡ p
     go None z w = current_own s a.units t n p r sound.units is w
-    go (Some g) z w = guest_own s a.guests t n p r sound.guests is (z ∙ w)
+    go (Some g) z w = guest_there s a.guests t n p r sound.guests is (z ∙ w)
 
 run_whole : (s : ScenarioValue) (a b : Array) (p : Process) → IsSound s a → process_of s p.id ≡ Some p → AreWhole (execution (context_of (seat_of a p.target p.unit) p.initiator) p.cdb p.sent).contents → LeavesSo b p.target p.unit (Seats.seat_after_run p.id (seat_of a p.target p.unit))
 run_whole s a b p sound is h = go (Seats.running_at seat p.id) refl

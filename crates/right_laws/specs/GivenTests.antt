@@ -17,8 +17,6 @@ use Rattle.bus_story.specs.HistoryEvents.{row_events_by}
 use Rattle.bus_story.specs.Items.{Item, process, abort}
 use Rattle.bus_story.specs.Links.{Link}
 use Rattle.bus_story.specs.Right.{has_run, same_bytes}
-use Rattle.bus_dialogue.specs.declared.exchange.Phase.{Phase}
-use Rattle.bus_dialogue.specs.declared.exchange.Phase.TheVariants as phases
 use Rattle.bus_dialogue.specs.declared.exchange.Task.{Task}
 use Rattle.bus_dialogue.specs.Arrivals.{policy_of}
 use Rattle.bus_dialogue.specs.DataRuns.{run_at, run_length}
@@ -27,6 +25,7 @@ use Rattle.bus_due.specs.Defs.{target_def_of}
 use Rattle.bus_due.specs.RunState.{RunState, array_of, bus_of, carried_here, process_served}
 use Rattle.bus_due.specs.RunSteps.{run_state_after}
 use Rattle.bus_due.specs.Tasks.{is_writing, reply_now, task_of}
+use Rattle.scsi_device.specs.Writes.{is_data_in}
 
 -- As a byte of DATA IN crosses for a process that does not write.
 abbrev is_at_run : ScenarioValue → RunState → Connection → Process → Option Task → Bool
@@ -39,10 +38,6 @@ abbrev is_read_at : ScenarioValue → RunState → Option Connection → Option 
 is_read_at s k None p = true
 is_read_at s k (Some n) None = true
 is_read_at s k (Some n) (Some p) = is_writing p || is_at_run s k n p (task_of s k)
-
-abbrev pub is_data_in : Phase → Bool
-is_data_in phases.DataIn = true
-is_data_in _ = false
 
 abbrev are_pointed : ScenarioValue → RunState → Row → Bool
 are_pointed s k row =

@@ -17,7 +17,7 @@ use Rattle.bus_books.specs.Accounts.{is_served_by}
 use Rattle.bus_books.specs.Tests.{is_front}
 use Rattle.trace_laws.specs.DataPointers.{is_marked, run_start}
 use Rattle.right_laws.specs.Reads.{content_now}
-use Rattle.right_laws.specs.GivenTests.{is_data_in}
+use Rattle.scsi_device.specs.Writes.{is_data_in}
 
 abbrev is_given : ScenarioValue → RunState → Process → Bool
 is_given s k p =

@@ -29,6 +29,7 @@ use Rattle.scenario.specs.Reading.{Progress, ◌>>=◌, guard, within, in_8, per
 use Rattle.scenario.specs.Writing.{said_payload, cmd_form, said_host, said_target, said_unit, said_cmd, said_line, payload_text, cmd_tag_text, cmd_text, saids, text_of, built, tells, IsHex, IsHexPayload, Obeys, host_sync_text, initiator_text, target_seek_text, target_disc_text, target_text, unit_text}
 use Rattle.scenario.specs.Making.{made_hosts, made_targets, made_unit, made_units, spread, is_writing, transfer, sent, command_at, made_command, made_commands, made}
 use Rattle.scenario.proofs.Obeying.{built-append}
+use Rattle.bus_base.proofs.Tests.{all_with}
 
 -- ---- a command
 
@@ -271,10 +272,6 @@ block_bytes_small false c q h = ((omega arith, (omega arith, (omega arith, (omeg
 payload_small : (w : Bool) (c : ℕ) → IsHexPayload (sent w c)
 payload_small true c = omega arith
 payload_small false c = tt
-
-all_with : (P : CmdDef → Type 0) (xs : List CmdDef) (x : CmdDef) → AllByRecursion P xs → P x → AllByRecursion P (xs ++ x ∷ [])
-all_with P [] x h k = (k, tt)
-all_with P (y ∷ xs) x h k = (h.0, all_with P xs x h.1 k)
 
 commands_hex : (seed n : ℕ) → AllByRecursion (λ c. IsHex c.cdb × IsHexPayload c.payload) (made_commands seed n)
 commands_hex seed zero = tt

@@ -33,6 +33,7 @@ use Rattle.scenario.proofs.Steps.{bind_ok, ok_is, guard_ok}
 use Rattle.scenario.proofs.Declared.{host_declared, target_declared, unit_declared, fill_declared, full_cmd_declared, abort_declared, reset_declared, fault_declared}
 use Rattle.scenario.proofs.Lawful.{CanSay, taken, spelled_after, append_all, read_back}
 use Rattle.scenario.proofs.Only.{form_only}
+use Rattle.bus_base.proofs.Tests.{all_with}
 
 -- The lines that were read, by the kind of the last one.
 abbrev saids_at : Kind → ScenarioValue → List Said
@@ -291,10 +292,6 @@ next_added d f end_line law fits order can e =
       version = λ h. law.version low;
     })
 
-all_snoc : (P : CmdDef → Type 0) (cs : List CmdDef) (c : CmdDef) → AllByRecursion P cs → P c → AllByRecursion P (cs ++ c ∷ [])
-all_snoc P [] c h p = (p, tt)
-all_snoc P (x ∷ xs) c h p = (h.0, all_snoc P xs c h.1 p)
-
 room_ok : (s : ScenarioValue) (needs n : ℕ) → has_room s needs n ≡ true → (n ≤ NEED_LIMIT) × (needs + n ≤ NEEDS_LIMIT)
 room_ok s needs n e = (grind (arith, nat_tests), grind (arith, nat_tests))
 
@@ -315,7 +312,7 @@ cmd_needs d def n e =
     let total = n.total in
     let one : sum_by (need_of d.scenario) (def ∷ []) ≡ need_of d.scenario def = omega arith in
     record {
-      each = all_snoc (λ c. need_of d.scenario c ≤ NEED_LIMIT) d.scenario.commands def n.each room.0;
+      each = all_with (λ c. need_of d.scenario c ≤ NEED_LIMIT) d.scenario.commands def n.each room.0;
       total = (λ i. total i + sym one i) ∙ sym sums;
       bound = room.1;
     }

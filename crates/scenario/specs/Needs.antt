@@ -1,5 +1,5 @@
 -- How many bytes a command needs: those that its command descriptor block moves.
-use Rattle.std.specs.Prelude.{ℕ, ◌+◌, ◌*◌, min, Bool, true, false, Option, Some, None, Result, Ok, Err, nat_le, if◌then◌else◌}
+use Rattle.std.specs.Prelude.{ℕ, ◌+◌, ◌-◌, ◌*◌, ◌^◌, min, Bool, true, false, Option, Some, None, Result, Ok, Err, nat_le, if◌then◌else◌}
 use Rattle.cdb_codec.specs.declared.command.Command.{Command}
 use Rattle.cdb_codec.specs.declared.command.Command.TheVariants as commands
 use Rattle.cdb_codec.specs.declared.command.CdbFault.{CdbFault}
@@ -58,3 +58,7 @@ is_write (Err fault) = false
 -- The bytes that the initiator of a command has to send: what a write needs.
 unfoldable pub sent_of : ScenarioValue → CmdDef → ℕ
 sent_of s c = if is_write (command_of c.cdb) then need_of s c else 0
+
+-- As far as a u32 counts them.
+abbrev pub sent_count : ScenarioValue → CmdDef → ℕ
+sent_count s c = min (sent_of s c) (2 ^ 32 - 1)

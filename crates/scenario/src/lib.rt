@@ -23,6 +23,7 @@ mod index;
 mod kind;
 mod laws;
 mod limits;
+mod lookup;
 mod making;
 mod needs;
 mod reading;
@@ -33,8 +34,9 @@ pub use bounds::{COMMAND_LIMIT, LIMIT};
 pub use bus_base::{AbortKind, NoMemory, Octets, Pick};
 pub use fault::Bad;
 pub use laws::{needs_are_bounded, reads_back, tells_lowest};
+pub use lookup::{host_line, target_line, unit_line};
 pub use making::make;
-pub use needs::need;
+pub use needs::{is_write, need, sent_count};
 pub use reading::read;
 pub use value::{
     AbortDef, CmdDef, FaultDef, FillDef, HostDef, Payload, Policy, ResetDef, Scenario, Tag,

@@ -1,6 +1,6 @@
 //! What a command needs.
 ghost use Rattle.std.specs.Prelude.{◌≡◌, ◌-◌, ◌^◌, min, length};
-ghost use Rattle.scenario.specs.Needs.{block_bytes, capacity_len, moved, moved_by, need_of, is_write, sent_of};
+ghost use Rattle.scenario.specs.Needs.{block_bytes, capacity_len, moved, moved_by, need_of, is_write, sent_of, sent_count};
 ghost use Rattle.scenario.specs.Reading.{is_payload, has_room};
 
 use crate::bounds::{COMMAND_LIMIT, NEED_LIMIT, NEEDS_LIMIT};
@@ -68,7 +68,8 @@ pub(crate) fn need_of(scenario: &Scenario, command: &CmdDef) -> u64
     }
 }
 
-fn is_write(command: Result<Command, CdbFault>) -> bool
+/// Whether it is a write without fault.
+pub fn is_write(command: Result<Command, CdbFault>) -> bool
     ensures { result ≡ is_write command }
 {
     match command {
@@ -118,4 +119,17 @@ pub fn need(s: &Scenario, c: &CmdDef) -> u32
     ensures { result ≡ min (need_of s.now c.now) (2 ^ 32 - 1) }
 {
     need_of(s, c).min(u64::from(u32::MAX)) as u32
+}
+
+/// How many bytes the initiator of a command sends: those that it needs, where it is a write. A number that does
+/// not fit is told as the highest.
+#[tactic(auto, unfolding(crate::specs::Needs::sent_of))]
+pub fn sent_count(scenario: &Scenario, def: &CmdDef) -> u32
+    ensures { result ≡ sent_count scenario.now def.now }
+{
+    if is_write(from_cdb(def.cdb.as_slice())) {
+        need(scenario, def)
+    } else {
+        0
+    }
 }

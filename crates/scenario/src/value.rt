@@ -4,6 +4,7 @@ ghost use Rattle.std.specs.List.{find, list_any};
 ghost use Rattle.scenario.specs.Value.{nothing_said};
 ghost use Rattle.scenario.specs.Lookups.{has_host, has_target, unit_of};
 
+use crate::lookup::unit_line;
 use bus_base::{AbortKind, Octets, Pick};
 use std::alloc::{AllocError, Global};
 use std::marker::Model;
@@ -248,7 +249,7 @@ impl Scenario {
     pub(crate) fn unit(&self, target: u8, unit: u8) -> Option<UnitDef>
         ensures { result ≡ unit_of self.now target unit }
     {
-        unit_in(&self.units, target, unit)
+        unit_line(&self.units, target, unit)
     }
 
     pub(crate) fn set_version(&mut self, version: u8)
@@ -312,15 +313,4 @@ impl Scenario {
         self.faults.push(def)?;
         Ok(())
     }
-}
-
-fn unit_in(units: &[UnitDef], target: u8, unit: u8) -> Option<UnitDef>
-    ensures { result ≡ find (λ u. u.target == target && u.unit == unit) units.now }
-{
-    for def in units {
-        if def.target == target && def.unit == unit {
-            return Some(*def);
-        }
-    }
-    None
 }

@@ -8,10 +8,11 @@ use Rattle.scenario.specs.declared.value.FaultDef.{FaultDef}
 use Rattle.scenario.specs.Value.{ScenarioValue}
 use Rattle.bus_reactions.specs.declared.due.Myself.{Myself}
 use Rattle.bus_reactions.specs.Ends as hand
-use Rattle.bus_due.specs.Connected.{is_receiving, is_receiver, initiator_end_due, target_end_due, connected_due}
+use Rattle.bus_due.specs.Connected.{is_receiver, initiator_end_due, target_end_due, connected_due}
 use Rattle.bus_due.specs.RunState.{RunState}
 use Rattle.bus_due.specs.Sights.{flip_of}
 use Rattle.scsi_device.specs.Told.{first_fault, flip_by}
+use Rattle.bus_rules.specs.Order.{is_of_device}
 
 pub flips_are : (faults : List FaultDef) (f : Option FaultDef) (time : ℕ) → f ≡ first_fault faults → flip_of faults time ≡ flip_by f time
 flips_are [] f time e = λ j. flip_by (sym e j) time
@@ -20,7 +21,7 @@ flips_are (g ∷ faults) f time e = λ j. flip_by (sym e j) time
 no_receiver : (n : Connection) (c : Change) (dev : ℕ) → (n.initiator == dev) ≡ false → (n.target == dev) ≡ false → is_receiver n (Some c) dev ≡ false
 no_receiver n c dev x y = go c.before.io (rises c.before.req c.after.req) (rises c.before.ack c.after.ack)
   where
-    go : (io req ack : Bool) → is_receiving (if io then (if req then Some n.initiator else None) else (if ack then Some n.target else None)) dev ≡ false
+    go : (io req ack : Bool) → is_of_device (if io then (if req then Some n.initiator else None) else (if ack then Some n.target else None)) dev ≡ false
     go true true ack = x
     go true false ack = refl
     go false req true = y

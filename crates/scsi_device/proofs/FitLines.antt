@@ -19,14 +19,15 @@ use Rattle.scenario.specs.Writing.{Obeys, IsHex, IsHexPayload}
 use Rattle.disk_array.specs.Processes.{Process, process_by, process_if, command_at, sense_block, payload_bytes, bytes_from}
 use Rattle.disk_array.specs.Units.{starting_unit, starting_units, unit_state_at}
 use Rattle.disk_array.specs.SoundArray.{AreApart, HasSeats}
+use Rattle.disk_array.specs.Seats.{is_initiator}
 use Rattle.bus_story.specs.HistoryEvents.{abort_line_at}
-use Rattle.bus_story.specs.TraceHistory.{is_host, retries_of}
+use Rattle.bus_story.specs.TraceHistory.{retries_of}
 use Rattle.bus_due.specs.Defs.{host_of, target_def_of}
 use Rattle.scsi_device.specs.NoUnits.{has_unit}
 use Rattle.scsi_device.specs.Lines.{IsHostLine, IsTargetLine, IsUnitLine, IsCommandLine, IsAbortLine, FitsBus, AreUnits}
 use Rattle.scsi_device.proofs.Finds.{some_is, none_some, all_are, all_both, find_none, found_any, found_passes, found_holds}
 use Rattle.scsi_device.proofs.LineReads.{IsHostWithin}
-use Rattle.scsi_device.proofs.LinesSoFar.{IsTargetFit, IsUnitFit, IsCommandFit, IsAbortFit, AreUnitsApart, AreFit, is_initiator, host_at, target_at, unit_at}
+use Rattle.scsi_device.proofs.LinesSoFar.{IsTargetFit, IsUnitFit, IsCommandFit, IsAbortFit, AreUnitsApart, AreFit, host_at, target_at, unit_at}
 use Rattle.scsi_device.proofs.LinesBuilt.{obeys_fit}
 use Rattle.std.proofs.lemmas.Bool.{eqb-true, and_parts}
 
@@ -61,7 +62,7 @@ retries_found (g ∷ hosts) dev h e = go (g.dev == dev) (λ z. retries_found hos
 
 host_line : (s : ScenarioValue) (h : HostDef) → AreFit s → IsHostWithin h → host_at s.hosts h.dev ≡ Some h → IsHostLine s h
 host_line s h a w e =
-    let is : is_host s.hosts h.dev ≡ true = found_any (λ (x : HostDef). x.dev == h.dev) s.hosts h e in
+    let is : is_initiator s.hosts h.dev ≡ true = found_any (λ (x : HostDef). x.dev == h.dev) s.hosts h e in
     record {
       below = w.below;
       latency = w.latency;

@@ -9,3 +9,4 @@ pub mod LinesBuilt
 pub mod FitLines
 pub mod WantTimes
 pub mod SentBytes
+pub mod PhaseLines

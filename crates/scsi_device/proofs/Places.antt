@@ -6,7 +6,7 @@ use Rattle.std.proofs.lemmas.Bool.{cases_lt}
 use native.Mathlib.Omega.{arith}
 use Rattle.std.proofs.lemmas.List.{get_or_past}
 
-weaker : (m n : ℕ) → m < n → m ≤ n
+pub weaker : (m n : ℕ) → m < n → m ≤ n
 weaker m n p = omega arith
 
 -- Past the end of a list stands 0.

@@ -17,8 +17,9 @@ use Rattle.scenario.specs.Value.{ScenarioValue}
 use Rattle.disk_array.specs.Processes.{command_at, payload_bytes}
 use Rattle.disk_array.specs.SoundArray.{AreApart}
 use Rattle.disk_array.specs.Units.{starting_unit, starting_units, unit_state_at}
+use Rattle.disk_array.specs.Seats.{is_initiator}
 use Rattle.bus_story.specs.HistoryEvents.{abort_line_at}
-use Rattle.bus_story.specs.TraceHistory.{is_host, retries_of}
+use Rattle.bus_story.specs.TraceHistory.{retries_of}
 use Rattle.bus_due.specs.Defs.{host_of, target_def_of}
 use Rattle.scsi_device.specs.NoUnits.{HasNoUnit}
 
@@ -29,7 +30,7 @@ pub record IsHostLine (s : ScenarioValue) (h : HostDef) : Type 0 where
   pub most : h.most ≤ 32
   pub few : h.retries ≤ 16
   pub host_is : host_of s h.dev ≡ Some h
-  pub is_one : is_host s.hosts h.dev ≡ true
+  pub is_one : is_initiator s.hosts h.dev ≡ true
   pub no_target : target_def_of s h.dev ≡ None
   pub retries_are : h.retries ≡ retries_of s.hosts h.dev
   pub no_unit : HasNoUnit s h.dev
@@ -41,7 +42,7 @@ pub record IsTargetLine (s : ScenarioValue) (t : TargetDef) : Type 0 where
   pub seek : t.seek ≤ 1000000000
   pub target_is : target_def_of s t.dev ≡ Some t
   pub no_host : host_of s t.dev ≡ None
-  pub is_none : is_host s.hosts t.dev ≡ false
+  pub is_none : is_initiator s.hosts t.dev ≡ false
 
 pub record IsUnitLine (s : ScenarioValue) (u : UnitDef) : Type 0 where
   pub target : u.target < 8
@@ -54,15 +55,15 @@ pub record IsUnitLine (s : ScenarioValue) (u : UnitDef) : Type 0 where
   pub most_depth : u.depth ≤ 256
   pub unit_is : unit_of s u.target u.unit ≡ Some u
   pub starts : unit_state_at (starting_units s s.units) u.target u.unit ≡ Some (starting_unit s u)
-  pub no_host : is_host s.hosts u.target ≡ false
+  pub no_host : is_initiator s.hosts u.target ≡ false
 
 -- Its data are as many bytes as it sends.
 pub record IsCommandLine (s : ScenarioValue) (c : CmdDef) : Type 0 where
   pub host : c.host < 8
   pub target : c.target < 8
   pub unit : c.unit < 8
-  pub host_is : is_host s.hosts c.host ≡ true
-  pub target_is : is_host s.hosts c.target ≡ false
+  pub host_is : is_initiator s.hosts c.host ≡ true
+  pub target_is : is_initiator s.hosts c.target ≡ false
   pub time : c.at ≤ 1000000000000
   pub some_block : 1 ≤ length c.cdb
   pub most_block : length c.cdb ≤ 10
@@ -74,8 +75,8 @@ pub record IsAbortLine (s : ScenarioValue) (a : AbortDef) : Type 0 where
   pub host : a.host < 8
   pub target : a.target < 8
   pub unit : a.unit < 8
-  pub host_is : is_host s.hosts a.host ≡ true
-  pub target_is : is_host s.hosts a.target ≡ false
+  pub host_is : is_initiator s.hosts a.host ≡ true
+  pub target_is : is_initiator s.hosts a.target ≡ false
   pub time : a.at ≤ 1000000000000
 
 -- Beside what each line says: units stand once, a fill is of a block of its unit, and commands and aborts are few.

@@ -1,5 +1,5 @@
 -- What any device is told after some rows, what it drives, and which fault strikes its next sample.
-use Rattle.std.specs.Prelude.{ℕ, Bool, List, [], ◌∷◌, Option, Some, None, nat_le, if◌then◌else◌}
+use Rattle.std.specs.Prelude.{ℕ, ◌≡◌, Bool, List, [], ◌∷◌, Option, Some, None, nat_le, if◌then◌else◌}
 use Rattle.bus_trace.specs.LineSet.{LineSet}
 use Rattle.bus_trace.specs.Trace.{drives, last_time}
 use Rattle.bus_trace.specs.Terms.{connection, receiver}
@@ -17,6 +17,7 @@ use Rattle.bus_reactions.specs.declared.sight.Sight.{Sight}
 use Rattle.bus_reactions.specs.Sight.{sight}
 use Rattle.bus_dialogue.specs.Ends.{pace_by}
 use Rattle.bus_dialogue.specs.Hearing.{begun}
+use Rattle.bus_due.specs.Sights.{flip_of}
 
 pub record Told : Type 0 where
   pub sight : Sight
@@ -60,3 +61,7 @@ first_fault (f ∷ faults) = Some f
 abbrev pub flip_by : Option FaultDef → ℕ → Option ℕ
 flip_by None time = None
 flip_by (Some f) time = if nat_le f.at time then Some f.bit else None
+
+-- What flips in a byte goes by the first fault alone.
+abbrev pub AreFlips : Type 0
+AreFlips = (faults : List FaultDef) (f : Option FaultDef) (time : ℕ) → f ≡ first_fault faults → flip_of faults time ≡ flip_by f time

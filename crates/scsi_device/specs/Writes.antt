@@ -4,14 +4,16 @@ use Rattle.bus_base.specs.declared.ProcId.{ProcId}
 use Rattle.bus_trace.specs.declared.Row.{Row}
 use Rattle.bus_trace.specs.declared.connection.Connection.{Connection}
 use Rattle.bus_trace.specs.Phases.{changes_phase}
+use Rattle.cdb_codec.specs.Cdb.{command_of}
 use Rattle.scenario.specs.Lookups.{unit_of}
 use Rattle.scenario.specs.Value.{ScenarioValue}
 use Rattle.scenario.specs.declared.value.UnitDef.{UnitDef}
 use Rattle.disk_array.specs.Processes.{Process, same_id}
+use Rattle.disk_array.specs.Order.{range_in}
 use Rattle.disk_array.specs.Units.{unit_state_at}
 use Rattle.bus_story.specs.BusState.{RowReading, row_reading}
 use Rattle.bus_dialogue.specs.Arrivals.{policy_of}
-use Rattle.bus_dialogue.specs.DataRuns.{run_length}
+use Rattle.bus_dialogue.specs.DataRuns.{run_length, run_in}
 use Rattle.bus_dialogue.specs.NextPhase.{phase_of}
 use Rattle.bus_dialogue.specs.declared.exchange.Hearing.{Hearing}
 use Rattle.bus_dialogue.specs.declared.exchange.Leaving.{Leaving}
@@ -23,7 +25,7 @@ use Rattle.bus_due.specs.LastingState.{progress_in}
 use Rattle.bus_due.specs.RunState.{RunState, array_of, bus_of, process_served}
 use Rattle.bus_due.specs.RunSteps.{run_state, leaving_of}
 use Rattle.bus_due.specs.Sights.{hearing_of}
-use Rattle.bus_due.specs.Tasks.{size_of, task_of}
+use Rattle.bus_due.specs.Tasks.{size_of, task_of, blocks_in}
 
 -- ---- which process last sent a unit a byte of its data (6.1.5.1)
 
@@ -43,6 +45,10 @@ is_data_out phases.Command = false
 is_data_out phases.Status = false
 is_data_out phases.MessageOut = false
 is_data_out phases.MessageIn = false
+
+abbrev pub is_data_in : Phase → Bool
+is_data_in phases.DataIn = true
+is_data_in _ = false
 
 -- A byte of DATA OUT crosses, and RST is false after it.
 abbrev pub brings_byte : Hearing → Bool
@@ -66,6 +72,10 @@ writers s (row ∷ rows) =
 abbrev pub block_size : Option UnitDef → ℕ
 block_size None = 0
 block_size (Some u) = u.size
+
+-- Where the n-th run of a process begins, by the size of a block that the scenario says.
+abbrev pub start_of_run : ScenarioValue → Process → ℕ → ℕ
+start_of_run s p n = (run_in (policy_of (target_def_of s p.target)) (blocks_in (range_in (command_of p.cdb))) (block_size (unit_of s p.target p.unit)) 0 n).start
 
 abbrev pub is_of_size : ScenarioValue → RunState → Process → Bool
 is_of_size s k p = size_of (unit_state_at (array_of s k).units p.target p.unit) == block_size (unit_of s p.target p.unit)

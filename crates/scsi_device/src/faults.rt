@@ -4,13 +4,14 @@ ghost use Rattle.bus_trace.specs.declared.Row.{Row};
 ghost use Rattle.bus_trace.specs.Terms.{receiver};
 ghost use Rattle.bus_trace.specs.Trace.{last_time};
 ghost use Rattle.bus_reactions.specs.Ends.{sample_due};
-ghost use Rattle.bus_due.specs.Connected.{is_receiving};
 ghost use Rattle.bus_dialogue.specs.Observer.{IsObserverOf};
 ghost use Rattle.scsi_device.specs.Told.{flip_by};
+ghost use Rattle.bus_rules.specs.Order.{is_of_device};
 
 use bus_base::{Dev, Ns};
 use bus_dialogue::Observer;
 use bus_reactions::Due;
+use bus_rules::is_of_device;
 use bus_trace::{Kind, ScsiId};
 use scenario::FaultDef;
 
@@ -21,16 +22,6 @@ pub fn flip(fault: Option<FaultDef>, time: Ns) -> Option<u8>
     match fault {
         Some(fault) if fault.at <= time => Some(fault.bit),
         _ => None,
-    }
-}
-
-// Whether this device is the receiver of the byte that crossed.
-fn is_receiving(receiver: Option<ScsiId>, dev: Dev) -> bool
-    ensures { result ≡ is_receiving receiver dev }
-{
-    match receiver {
-        None => false,
-        Some(receiver) => receiver.get() == dev,
     }
 }
 
@@ -58,10 +49,10 @@ pub fn sampled(
 ) -> Option<Due>
     ensures { (rows : List Row) → IsObserverOf rows observer.now
         → result
-        ≡ sample_due (is_receiving (receiver rows) dev) (last_time rows) (flip_by fault (last_time rows)) plain }
+        ≡ sample_due (is_of_device (receiver rows) dev) (last_time rows) (flip_by fault (last_time rows)) plain }
 {
     let view = observer.view();
     let last = view.last_time();
-    let receives = is_receiving(view.effect().receiver, dev);
+    let receives = is_of_device(view.effect().receiver, dev);
     sample_due(receives, last, flip(fault, last), plain)
 }

@@ -12,26 +12,7 @@ ghost use Rattle.scsi_device.specs.Told.{told, pace_of};
 use bus_base::Ns;
 use bus_dialogue::Observer;
 use bus_reactions::Pace;
-use bus_trace::{
-    ASSERTION_PERIOD, Agreement, DATA_HOLD, NEGATION_PERIOD, SET_UP_TIME, TransferTimes, is_data,
-    transfer_times,
-};
-
-// The times of a transfer period factor; one that is served nowhere has those of a transfer that is not fast.
-fn times_of(factor: u8) -> TransferTimes
-    ensures { result ≡ times_of factor }
-{
-    match transfer_times(factor) {
-        Some(times) => times,
-        None => TransferTimes {
-            period: 4 * Ns::from(factor),
-            assertion: ASSERTION_PERIOD,
-            negation: NEGATION_PERIOD,
-            set_up: SET_UP_TIME,
-            hold: DATA_HOLD,
-        },
-    }
-}
+use bus_trace::{Agreement, is_data, times_of};
 
 /// Whether bytes cross by pulses in the phase: in a data phase under an agreement with an offset (6.1.5.2).
 pub fn is_pulsed(observer: &Observer) -> bool

@@ -12,7 +12,7 @@ pub head_chosen : (pick : Pick) (waiting : List Entry) (head : ℕ) → last_hea
 head_chosen picks.First waiting head found = ap (λ (h : Option ℕ). picked_place picks.First (runnable_by h waiting)) found
 head_chosen picks.Last waiting head found = ap (λ (h : Option ℕ). picked_place picks.Last (runnable_by h waiting)) found
 
-first_runs : (p : Entry) → may_run_after [] p ≡ true
+pub first_runs : (p : Entry) → may_run_after [] p ≡ true
 first_runs p = go (is_ordered p.class)
   where
     go : (b : Bool) → (if b then true else true) ≡ true

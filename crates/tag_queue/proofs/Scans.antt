@@ -8,7 +8,7 @@ use Rattle.slab.specs.Slab.{Slab, get}
 use Rattle.tag_queue.specs.declared.arrivals.Arrival.{Arrival}
 use Rattle.tag_queue.specs.Queue.{Queued, key_at, is_current, waiting_in, entries_in, place_of}
 use Rattle.tag_queue.specs.Stored.{queued_if, queued_at, waiting_at, entries_at, held_back_by, IsCounted, before_with, AreKept}
-use Rattle.bus_base.proofs.Tests.{or_false, next_some}
+use Rattle.bus_base.proofs.Tests.{or_false, next_some, or_later}
 
 abbrev pub last_or : Option ℕ → List ℕ → Option ℕ
 last_or found [] = found
@@ -25,10 +25,6 @@ last_or_picked (p ∷ places) = last_or-last_of p places
 pub key_at_later : (q : Queued) (waiting : List Queued) (place : ℕ) → place ≢ 0 → key_at (q ∷ waiting) place ≡ key_at waiting (place - 1)
 key_at_later q waiting zero some = absurd (some refl)
 key_at_later q waiting (suc place) some = ap (key_at waiting) (omega arith)
-
-or_later : (a b c : Bool) → (a || (b || c)) ≡ ((a || b) || c)
-or_later true b c = refl
-or_later false b c = refl
 
 pub has_ordered_more : (before : List Entry) (p : Entry) → has_ordered (before ++ p ∷ []) ≡ (has_ordered before || is_ordered p.class)
 has_ordered_more [] p = or_false (is_ordered p.class)

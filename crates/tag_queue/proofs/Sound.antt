@@ -1,9 +1,9 @@
 -- The fields of a queue stay sound: as a command arrives, as one becomes current, and as one leaves.
-use Rattle.std.proofs.Common.{◌≡◌, ◌≢◌, ◌<◌, ◌≤◌, ℕ, ◌+◌, suc, Bool, true, false, cond, not, ◌&&◌, ◌||◌, List, [], ◌∷◌, ◌++◌, length, Option, Some, None, refl, ap, sym, subst, ◌∙◌, arith, eq-eqb, append_assoc, take, drop}
+use Rattle.std.proofs.Common.{◌≡◌, ◌≢◌, ◌<◌, ◌≤◌, ℕ, ◌+◌, suc, Bool, true, false, cond, not, ◌&&◌, ◌||◌, List, [], ◌∷◌, ◌++◌, length, Option, Some, None, refl, ap, sym, subst, ◌∙◌, arith, append_assoc, take, drop}
 use Rattle.std.proofs.lemmas.Grind.{common_steps}
 use Rattle.std.specs.Prelude.{◌==◌, if◌then◌else◌}
 use Rattle.std.specs.List.{filter}
-use Rattle.std.proofs.lemmas.Bool.{eqb-true, ne_eqb, true≢false}
+use Rattle.std.proofs.lemmas.Bool.{eqb-false, eqb-true, ne_eqb, true≢false}
 use Rattle.std.proofs.lemmas.List.{append-nil, length-append}
 use Rattle.slab.specs.Slab.{Slab, get, slab_len, Updates}
 use Rattle.disk_array.specs.declared.entries.Entry.{Entry}
@@ -19,9 +19,6 @@ use Rattle.bus_base.proofs.Tests.{or_false}
 pub none_some : {A : Type 0} (x : A) → None ≡ Some x → ⊥
 none_some x e = cc
 
-pub differ : (a b : ℕ) → (a == b) ≡ false → a ≢ b
-differ a b other same = true≢false (sym (eq-eqb a b same) ∙ other)
-
 abbrev pub Others : Slab Entry → Slab Entry → ℕ → Type 0
 Others s t key = (other : ℕ) → other ≢ key → get t other ≡ get s other
 
@@ -33,7 +30,7 @@ among_cons a xs key fresh = go (a.key == key) refl fresh
   where
     go : (b : Bool) → (a.key == key) ≡ b → (if b then true else is_among xs key) ≡ false → (a.key ≢ key) × (is_among xs key ≡ false)
     go true same e = absurd (true≢false e)
-    go false other e = (differ a.key key other, e)
+    go false other e = (eqb-false a.key key other, e)
 
 -- A key with no entry is the key of no arrival.
 pub fresh_key : (s : Slab Entry) (leaving current : Option ℕ) (xs : List Arrival) (before : List Entry) (key : ℕ) → AreKept s leaving current before xs → get s key ≡ None
@@ -287,7 +284,7 @@ apart_without key [] apart = tt
 apart_without key (a ∷ xs) apart = go (a.key == key) refl (apart_without key xs apart.1)
   where
     go : (b : Bool) → (a.key == key) ≡ b → AreApart (filter (λ x. keeps x key) xs) → AreApart (cond (not b) (a ∷ filter (λ x. keeps x key) xs) (filter (λ x. keeps x key) xs))
-    go false differs rest = (among_without key a.key xs (differ a.key key differs) ∙ apart.0, rest)
+    go false differs rest = (among_without key a.key xs (eqb-false a.key key differs) ∙ apart.0, rest)
     go true same rest = rest
 
 all_without : (key : ℕ) (xs : List Arrival) → is_among xs key ≡ false → filter (λ a. keeps a key) xs ≡ xs
@@ -318,7 +315,7 @@ kept_without s t key current (a ∷ xs) before others kept =
     go false differs k rest =
         let out : is_out (Some key) current a.key ≡ is_current current a.key = ap (λ (b : Bool). b || is_current current a.key) differs in (
           k.0,
-          others a.key (differ a.key key differs) ∙ k.1,
+          others a.key (eqb-false a.key key differs) ∙ k.1,
           subst (λ (b : Bool). IsCounted b before k.0 a.earlier) out k.2,
           subst (λ (b : Bool). AreKept t None current (before_with b before k.0) (filter (λ x. keeps x key) xs)) out rest,
         )
@@ -337,13 +334,13 @@ queued_without s t key leaving current (a ∷ xs) before others kept =
         → queued_at t (cond (not b) (a ∷ filter (λ x. keeps x key) xs) (filter (λ x. keeps x key) xs))
         ≡ (if a.key == key then without_key (queued_at s xs) key else record { key = a.key; entry = p } ∷ without_key (queued_at s xs) key)
     go false differs p found rest =
-        (λ i. queued_if a.key ((others a.key (differ a.key key differs) ∙ found) i) (rest i))
+        (λ i. queued_if a.key ((others a.key (eqb-false a.key key differs) ∙ found) i) (rest i))
         ∙ sym (ap (λ (b : Bool). if b then without_key (queued_at s xs) key else record { key = a.key; entry = p } ∷ without_key (queued_at s xs) key) differs)
     go true same p found rest = rest ∙ sym (ap (λ (b : Bool). if b then without_key (queued_at s xs) key else record { key = a.key; entry = p } ∷ without_key (queued_at s xs) key) same)
 
 current_without_live : (xs : List Arrival) (current : Option ℕ) (key : ℕ) → IsAmong xs current → is_current current key ≡ false → IsAmong (filter (λ a. keeps a key) xs) current
 current_without_live xs None key live other = tt
-current_without_live xs (Some c) key live other = among_without key c xs (λ e. differ key c other (sym e)) ∙ live
+current_without_live xs (Some c) key live other = among_without key c xs (λ e. eqb-false key c other (sym e)) ∙ live
 
 -- Here the arrivals are those after it waits no longer.
 pub remove_sound : (s t : Slab Entry) (xs : List Arrival) (current : Option ℕ) (depth room more_room : ℕ) (key : ℕ) → AreKept s (Some key) current [] xs → AreApart xs → IsAmong xs current

@@ -1,9 +1,8 @@
 -- What each call does to the waiting commands.
 use Rattle.std.proofs.Common.{◌≡◌, ◌≢◌, ℕ, Bool, true, false, List, [], ◌∷◌, ◌++◌, Option, Some, None, refl, ap, sym, ◌∙◌}
 use Rattle.std.specs.Prelude.{◌==◌, if◌then◌else◌}
-use Rattle.std.proofs.lemmas.Bool.{eqb-true, ne_eqb}
+use Rattle.std.proofs.lemmas.Bool.{eqb-false, eqb-true, ne_eqb}
 use Rattle.tag_queue.specs.Queue.{Queued, is_current, current_without, waiting_in, without_key}
-use Rattle.tag_queue.proofs.Sound.{differ}
 
 pub waiting_push : (current : Option ℕ) (arrived : List Queued) (q : Queued) → is_current current q.key ≡ false → waiting_in current (arrived ++ q ∷ []) ≡ waiting_in current arrived ++ q ∷ []
 waiting_push current [] q waits = ap (λ (b : Bool). if b then [] else q ∷ []) waits
@@ -42,6 +41,6 @@ waiting_without current (q ∷ arrived) key = go (q.key == key) refl (waiting_wi
         → waiting_in (current_without current key) (if b then without_key arrived key else q ∷ without_key arrived key) ≡ without_key (if is_current current q.key then waiting_in current arrived else q ∷ waiting_in current arrived) key
     go true same rest = rest ∙ gone (is_current current q.key) same
     go false other rest =
-        ap (λ (b : Bool). if b then waiting_in (current_without current key) (without_key arrived key) else q ∷ waiting_in (current_without current key) (without_key arrived key)) (other_current current key q.key (differ q.key key other))
+        ap (λ (b : Bool). if b then waiting_in (current_without current key) (without_key arrived key) else q ∷ waiting_in (current_without current key) (without_key arrived key)) (other_current current key q.key (eqb-false q.key key other))
         ∙ ap (λ (l : List Queued). if is_current current q.key then l else q ∷ l) rest
         ∙ here (is_current current q.key) other

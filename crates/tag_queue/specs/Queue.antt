@@ -7,7 +7,7 @@ use Rattle.disk_array.specs.declared.entries.Entry.{Entry}
 use Rattle.disk_array.specs.Processes.{same_id}
 use Rattle.tag_queue.specs.declared.those.Those.{Those}
 use Rattle.tag_queue.specs.declared.those.Those.TheVariants as those
-use Rattle.disk_array.specs.Order.{chosen_place, may_run}
+use Rattle.disk_array.specs.Order.{chosen_place, may_run, same_number}
 
 -- A live command, under its key.
 pub record Queued : Type 0 where
@@ -104,17 +104,11 @@ queue_left q key current = record q { arrived = without_key q.arrived key; curre
 abbrev pub queue_without : QueueState → ℕ → QueueState
 queue_without q key = queue_left q key (current_without q.current key)
 
-abbrev pub same_tag : Option ℕ → Option ℕ → Bool
-same_tag None None = true
-same_tag None (Some n) = false
-same_tag (Some m) None = false
-same_tag (Some m) (Some n) = m == n
-
 -- All commands, those of one initiator, or those of one initiator with one tag.
 abbrev pub is_of : Those → Entry → Bool
 is_of those.All entry = true
 is_of (those.Of dev) entry = entry.from == dev
-is_of (those.Tagged dev n) entry = entry.from == dev && same_tag entry.tag (Some n)
+is_of (those.Tagged dev n) entry = entry.from == dev && same_number entry.tag (Some n)
 
 -- One of these is such a command.
 abbrev pub has_any : Those → List Queued → Bool
@@ -148,7 +142,7 @@ with_none_held q = record q { hold = replicate 8 false }
 
 abbrev pub key_of : List Queued → ℕ → Option ℕ → Option ℕ
 key_of [] from tag = None
-key_of (q ∷ queued) from tag = if q.entry.from == from && same_tag q.entry.tag tag then Some q.key else key_of queued from tag
+key_of (q ∷ queued) from tag = if q.entry.from == from && same_number q.entry.tag tag then Some q.key else key_of queued from tag
 
 -- ---- the first live command of a process
 

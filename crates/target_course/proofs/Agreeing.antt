@@ -5,7 +5,7 @@ use Rattle.bus_base.specs.declared.AbortKind.{AbortKind}
 use Rattle.bus_base.specs.declared.Event.{Event}
 use Rattle.bus_base.specs.declared.ProcId.{ProcId}
 use Rattle.bus_trace.specs.LineSet.{LineSet, byte_set}
-use Rattle.bus_trace.specs.Phases.{is_data, is_command}
+use Rattle.bus_trace.specs.Phases.{is_data}
 use Rattle.bus_trace.specs.declared.connection.Connection.{Connection}
 use Rattle.bus_lines.specs.Handshakes.{Handshakes}
 use Rattle.scenario.specs.declared.value.Policy.{Policy}
@@ -34,6 +34,7 @@ use Rattle.scsi_device.specs.Heard.{is_selected, is_opening_in, is_command_phase
 use Rattle.scsi_device.specs.Heard as heard
 use Rattle.target_course.specs.Alike.{AreAlike}
 use Rattle.target_course.specs.Agreeing.{arrives, IsSameCommand, HaveSameTask, AreAgreeing}
+use Rattle.scsi_device.proofs.PhaseLines.{command_is}
 
 -- ---- by the task
 
@@ -63,7 +64,7 @@ with_same f g leaves phase plan x y h e = (λ i. with_task (h.one_is i) f) ∙ e
 
 -- ---- servings of one plan but for whether it negotiates
 
-abbrev serves : Option TargetDef → Plan → Option Task → List ℕ → Arrival → Serving
+abbrev pub serves : Option TargetDef → Plan → Option Task → List ℕ → Arrival → Serving
 serves def plan task given arrival = record { def = def; plan = plan; task = task; given = given; arrival = arrival }
 
 abbrev pub renegotiated : Plan → Bool → Plan
@@ -380,17 +381,6 @@ io_is : (bus : LineSet) → bus.io ≡ is_in (phase_of bus)
 io_is bus = go bus.msg bus.cd bus.io
   where
     go : (m c o : Bool) → o ≡ is_in (if m then (if o then phases.MessageIn else phases.MessageOut) else if c then (if o then phases.Status else phases.Command) else if o then phases.DataIn else phases.DataOut)
-    go true c true = refl
-    go true c false = refl
-    go false true true = refl
-    go false true false = refl
-    go false false true = refl
-    go false false false = refl
-
-pub command_is : (bus : LineSet) → is_command bus ≡ is_command_phase (phase_of bus)
-command_is bus = go bus.msg bus.cd bus.io
-  where
-    go : (m c o : Bool) → (not m && c && not o) ≡ is_command_phase (if m then (if o then phases.MessageIn else phases.MessageOut) else if c then (if o then phases.Status else phases.Command) else if o then phases.DataIn else phases.DataOut)
     go true c true = refl
     go true c false = refl
     go false true true = refl

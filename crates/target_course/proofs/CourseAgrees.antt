@@ -54,7 +54,9 @@ use Rattle.scsi_device.specs.Heard.{Instructions, instructions, is_block, is_car
 use Rattle.target_course.specs.Agreeing.{arrives, IsSameCommand, HaveSameTask, AreAgreeing}
 use Rattle.target_course.specs.Courses.{CourseState, name_with, name_of, name_by, name_if, moved_by, status_known, status_if, task_by, serving_by, MOST_KEPT, IsTold, IsOfProcess, IsCourse, IsStateOf, IsOutlookOf, AreToldOf}
 use Rattle.target_course.specs.declared.course.ProcessState.{ProcessState}
-use Rattle.bus_base.proofs.Tests.{or_second, implied}
+use Rattle.bus_base.proofs.Tests.{or_second, implied, middle}
+use Rattle.scsi_device.proofs.PhaseLines.{phase_is_command}
+use Rattle.bus_story.proofs.SameBytes.{bytes_are}
 
 pub either : (x y : Bool) → (x || y) ≡ true → (x ≡ true) ⊎ (y ≡ true)
 either true y e = inl refl
@@ -146,15 +148,6 @@ name_is (Some said) p e =
     go None f g = cc
     go (Some lun) f g = λ i. Some (name_with (g i) (eqb-true lun p.unit f i))
 
-pub bytes_are : (a b : List ℕ) → same_bytes a b ≡ true → a ≡ b
-bytes_are [] [] e = refl
-bytes_are [] (y ∷ b) e = cc
-bytes_are (x ∷ a) [] e = cc
-bytes_are (x ∷ a) (y ∷ b) e =
-    let both = and_parts (x == y) (same_bytes a b) e in
-    let rest = bytes_are a b both.1 in
-    λ i. eqb-true x y both.0 i ∷ rest i
-
 -- A block that is as long as its group says has at most ten bytes; so eleven tell whether it is.
 abbrev group_of : Bool → Bool → Option ℕ
 group_of six ten = if six then Some 6 else if ten then Some 10 else None
@@ -190,14 +183,6 @@ command_closed phases.MessageIn c e = refl
 command_closed phases.Status c e = refl
 command_closed phases.DataIn c e = refl
 command_closed phases.DataOut c e = refl
-
-pub phase_is_command : (phase : Phase) → is_command_phase phase ≡ true → phase ≡ phases.Command
-phase_is_command phases.Command e = refl
-phase_is_command phases.MessageOut e = cc
-phase_is_command phases.MessageIn e = cc
-phase_is_command phases.Status e = cc
-phase_is_command phases.DataIn e = cc
-phase_is_command phases.DataOut e = cc
 
 pub record IsServed (s : ScenarioValue) (k : RunState) (n : Connection) (i : Instructions) (c : CourseState) (p : Process) : Type 0 where
   pub is : process_served s k ≡ Some p
@@ -399,11 +384,6 @@ stops s k n e =
     let both = and_parts (k.exchange.begun && not (drives_of k n.target).req) (not (follows_by (serving_of s k n.target) (pace_of s k n.target).pulsed (bus_of k) k.handshakes)) e in
     not-true (follows_by (serving_of s k n.target) (pace_of s k n.target).pulsed (bus_of k) k.handshakes) both.1
 
-pub pulsed_data : (begun moves over : Bool) → (begun && moves && over) ≡ true → moves ≡ true
-pulsed_data true true over e = refl
-pulsed_data true false over e = cc
-pulsed_data false moves over e = cc
-
 pub courses_agree : (s : ScenarioValue) (rows : List Row) (n : Connection) (d : TargetDef) (c : CourseState) (f : ProcessState)
     → IsFront s (run_state s rows) n (instructions s rows) → (run_state s rows).exchange.begun ≡ true → target_def_of s n.target ≡ Some d
     → IsCourse s rows n c → AreToldOf s rows c f
@@ -448,7 +428,7 @@ courses_agree s rows n d c f front begun line course told = record {
         by true o None g = let never : false ≡ true = (λ j. is_some (sym g j)) ∙ (λ j. is_of_scenario s (sym e j)) ∙ front.there in cc
         by true o (Some b) g =
             let opened : is_opening_in phase plan.cause ≡ true = implied k.exchange.begun (is_opening_in phase plan.cause) o begun in
-            let unstruck : plan.struck ≡ false = struck_not (serving_of s k n.target) (pace_of s k n.target).pulsed k (stops s k n l) (λ q. data_closed (bus_of k) plan.cause (pulsed_data k.exchange.begun (is_data (bus_of k)) _ q)) opened in
+            let unstruck : plan.struck ≡ false = struck_not (serving_of s k n.target) (pace_of s k n.target).pulsed k (stops s k n l) (λ q. data_closed (bus_of k) plan.cause (middle k.exchange.begun (is_data (bus_of k)) _ q)) opened in
             let said : is_item_named s plan.said k.served ≡ true = opening_said s k (process_served s k) phase plan.cause opened refl (front.said l) unstruck in
             let named : is_abort_named plan.said (Some b) ≡ true = (λ j. is_abort_named plan.said (sym g j)) ∙ (λ j. is_item_named s plan.said (sym e j)) ∙ said in
             let some : is_none plan.said.aborts ≡ false = abort_named plan.said.aborts b plan.said refl named in

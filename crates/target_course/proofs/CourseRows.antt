@@ -10,9 +10,9 @@ use Rattle.bus_trace.specs.Phases.{is_data, changes_phase}
 use Rattle.bus_trace.specs.Terms.{connection}
 use Rattle.bus_trace.specs.Trace.{bus, drives}
 use Rattle.bus_lines.specs.Handshakes.{handshakes}
-use Rattle.scenario.specs.declared.value.CmdDef.{CmdDef}
 use Rattle.scenario.specs.declared.value.TargetDef.{TargetDef}
 use Rattle.disk_array.specs.Processes.{command_at, process_if, process_of}
+use Rattle.disk_array.proofs.SeatLookups.{none_at}
 use Rattle.bus_story.specs.Items.{Item, process, abort}
 use Rattle.bus_dialogue.specs.Events.{leaving_events}
 use Rattle.bus_dialogue.specs.Wants.{Ready}
@@ -43,8 +43,8 @@ use Rattle.target_course.specs.Courses.{CourseState, course_selected, course_res
 use Rattle.target_course.proofs.Agreeing.{events_agree, leavings_agree, offers_agree}
 use Rattle.target_course.proofs.Courses.{course_goes_on}
 use Rattle.target_course.proofs.CourseBegins.{course_is_selected, course_is_reselected}
-use Rattle.target_course.proofs.CourseAgrees.{end_heard, IsFront, IsTurn, front_heard, turn_heard, courses_agree, stops, pulsed_data}
-use Rattle.bus_base.proofs.Tests.{or_second, implied}
+use Rattle.target_course.proofs.CourseAgrees.{end_heard, IsFront, IsTurn, front_heard, turn_heard, courses_agree, stops}
+use Rattle.bus_base.proofs.Tests.{or_second, implied, middle}
 
 -- Its line of the scenario, as the target of this connection.
 pub line_of_own : (s : ScenarioValue) (rows : List Row) (n : Connection) (d : TargetDef) → IsOwnConnection rows d.dev n → target_def_of s d.dev ≡ Some d → target_def_of s n.target ≡ Some d
@@ -69,7 +69,7 @@ left_alike s rows m d c f row front line course told true b e =
     let v : Serving = serving_by d c f (given_of s k) in
     let w : Serving = serving_of s k m.target in
     let a : AreAgreeing true (phase_of (bus_of k)) v w = subst (λ (y : Bool). AreAgreeing y (phase_of (bus_of k)) v w) may (courses_agree s rows m d c f front b line course told) in
-    leavings_agree v w (pace_of s k m.target).pulsed (bus_of k) k.handshakes (λ q. pulsed_data k.exchange.begun (is_data (bus_of k)) (nat_lt 0 (agreement_of k).offset) q) a (stops s k m may)
+    leavings_agree v w (pace_of s k m.target).pulsed (bus_of k) k.handshakes (λ q. middle k.exchange.begun (is_data (bus_of k)) (nat_lt 0 (agreement_of k).offset) q) a (stops s k m may)
 
 -- ---- a row in a connection of its own
 
@@ -113,7 +113,7 @@ offers_in s rows n d c f below p o line e calm told course true b pulsed g =
     (λ i. begins i && not (drives_of k (target i)).req && not (follows_by (serving_of s k (target i)) (pace i) (p.bus i) (p.handshakes i)))
     ∙ (λ i. not (p.drives d.dev below i).req && not (follows_by w pulsed (bus rows) (handshakes rows))) in
     let one : AreAgreeing (not (drives rows d.dev).req && not (follows_by w pulsed (bus rows) (handshakes rows))) (phase_of (bus_of k)) v w = subst (λ (y : Bool). AreAgreeing y (phase_of (bus_of k)) v w) leaves owned in
-    offers_agree v w (drives rows d.dev).req pulsed (bus rows) (handshakes rows) (λ z. pulsed_data (begun rows) (is_data (bus rows)) (nat_lt 0 (dialogue rows).heard.now.agreement.offset) (sym g ∙ z))
+    offers_agree v w (drives rows d.dev).req pulsed (bus rows) (handshakes rows) (λ z. middle (begun rows) (is_data (bus rows)) (nat_lt 0 (dialogue rows).heard.now.agreement.offset) (sym g ∙ z))
     (subst (λ (x : LineSet). AreAgreeing (not (drives rows d.dev).req && not (follows_by w pulsed (bus rows) (handshakes rows))) (phase_of x) v w) p.bus one)
 
 pub course_offers : (s : ScenarioValue) (rows : List Row) (d : TargetDef) (c : CourseState) (f : ProcessState) → d.dev < 8
@@ -124,10 +124,6 @@ course_offers s rows d c f below p line e told course n o calm =
     offers_in s rows n d c f below p o line e calm told (course n o calm) (begun rows) refl (is_pulsed_phase (begun rows) (bus rows) (dialogue rows).heard.now.agreement) refl
 
 -- ---- which events it shows
-
-none_at : (commands : List CmdDef) → command_at commands 0 ≡ None
-none_at [] = refl
-none_at (c ∷ commands) = refl
 
 numbered : (s : ScenarioValue) (id : ProcId) → is_some (process_of s id) ≡ true → (id.command == 0) ≡ false
 numbered s id e = go (id.command == 0) refl
@@ -165,7 +161,7 @@ course_tells s rows m d c f stands p front line course told may =
     go true b =
         let leaves : may_leave s k m ≡ true = may b in
         let a : AreAgreeing true (phase_of (bus_of k)) v w = subst (λ (y : Bool). AreAgreeing y (phase_of (bus_of k)) v w) leaves (courses_agree s rows m d c f front b line course told) in
-        events_agree v w (pace_of s k m.target).pulsed (bus_of k) k.handshakes m stands (id_of k.served) (λ q. pulsed_data k.exchange.begun (is_data (bus_of k)) (nat_lt 0 (agreement_of k).offset) q) a (stops s k m leaves)
+        events_agree v w (pace_of s k m.target).pulsed (bus_of k) k.handshakes m stands (id_of k.served) (λ q. middle k.exchange.begun (is_data (bus_of k)) (nat_lt 0 (agreement_of k).offset) q) a (stops s k m leaves)
 
 -- With a row of its connection.
 pub course_shows : (s : ScenarioValue) (rows : List Row) (row : Row) (m : Connection) (d : TargetDef) (f : ProcessState) (c : CourseState)

@@ -1,15 +1,13 @@
 -- The course of a connection goes on by what its target hears.
-use Rattle.std.proofs.Common.{ℕ, ◌≡◌, ◌∙◌, ◌≤◌, ◌<◌, ◌==◌, Bool, true, false, List, [], ◌∷◌, ◌++◌, refl, sym, subst, length, take, Some, None}
+use Rattle.std.proofs.Common.{ℕ, ◌≡◌, ◌∙◌, ◌≤◌, ◌<◌, ◌==◌, Bool, true, false, List, [], ◌∷◌, ◌++◌, refl, sym, subst, length, take, Some}
 use Rattle.std.specs.Prelude.{if◌then◌else◌, not, ◌&&◌, ◌%◌, nat_lt, min}
 use Rattle.std.proofs.lemmas.Bool.{ltb-true, ltb-false}
 use Rattle.std.proofs.lemmas.List.{take-append-le, take_all, length-append, length-take}
 use native.Mathlib.Omega.{arith}
 use Rattle.bus_trace.specs.declared.Row.{Row}
 use Rattle.bus_trace.specs.declared.connection.Connection.{Connection}
-use Rattle.bus_trace.specs.Changes.{change_of}
 use Rattle.bus_trace.specs.Phases.{is_command, is_message_out, changes_phase}
-use Rattle.bus_trace.specs.Terms.{call, connection, connection_after}
-use Rattle.bus_trace.specs.Trace.{bus}
+use Rattle.bus_trace.specs.Terms.{connection}
 use Rattle.scenario.specs.Value.{ScenarioValue}
 use Rattle.disk_array.specs.Processes.{Process}
 use Rattle.bus_story.specs.BusState.{RowReading, row_reading}
@@ -28,6 +26,7 @@ use Rattle.target_course.specs.Plans.{plan_at, leaving_after}
 use Rattle.target_course.specs.Courses.{CourseState, name_in, name_if, block_with, block_kept, course_told, course_after, MOST_KEPT, IsTold, IsOfProcess, HasEnds, IsCourse}
 use Rattle.target_course.proofs.Heard.{plan_goes_on}
 use Rattle.target_course.proofs.Agreeing.{renegotiated}
+use Rattle.bus_trace.proofs.Connections.{connection_stays}
 
 -- ---- the plan
 
@@ -152,13 +151,6 @@ id_stays w l c = by c.known
     by false = refl
 
 -- ---- a row in the connection
-
-pub connection_stays : (rows : List Row) (row : Row) (m n : Connection) → connection rows ≡ Some m → connection (row ∷ rows) ≡ Some n → m ≡ n
-connection_stays rows row m n x y = go (bus (row ∷ rows)).bsy ((λ i. connection_after (sym x i) (call rows) (change_of rows row) row) ∙ y)
-  where
-    go : (z : Bool) → (if z then Some m else None) ≡ Some n → m ≡ n
-    go true e = cc
-    go false e = absurd cc
 
 pub course_goes_on : (s : ScenarioValue) (rows : List Row) (row : Row) (m n : Connection) (l : Leaving) (c : CourseState)
     → IsPlain s rows (run_state s rows) → IsPlain s (row ∷ rows) (run_state s (row ∷ rows))

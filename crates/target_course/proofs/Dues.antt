@@ -21,30 +21,22 @@ use Rattle.bus_reactions.specs.Linking.{link_due, sample_time}
 use Rattle.bus_reactions.specs.Reset.{with_reset}
 use Rattle.bus_reactions.specs.Ends as hand
 use Rattle.bus_dialogue.specs.Ends.{pace_by, offering_by}
-use Rattle.bus_due.specs.Connected.{is_receiving, connected_due}
 use Rattle.bus_due.specs.Defs.{host_of}
 use Rattle.bus_due.specs.RunState.{RunState}
 use Rattle.bus_due.specs.RunSteps.{run_state}
-use Rattle.bus_due.specs.Sights.{flip_of, identify_byte, want_of, serving_of}
+use Rattle.bus_due.specs.Sights.{identify_byte, want_of, serving_of}
 use Rattle.bus_due.specs.Wants.{ready_time, initiator_if, ready_of, target_of, item_want_time}
-use Rattle.bus_due.specs.Due.{self_of, due_if, stage_due, link_due_of, reset_from}
+use Rattle.bus_due.specs.Due.{self_of, due_if, stage_due, link_due_of, reset_from, AreOthersStill}
 use Rattle.bus_due.specs.Next.{due}
 use Rattle.bus_due.specs.Plain.{IsPlain, AreOfDevices}
 use Rattle.bus_due.specs.PlainDue.{IsThere, IsLinked, under_reset, target_reaction}
 use Rattle.bus_reactions.specs.declared.ends.Pace.{Pace}
-use Rattle.scsi_device.specs.Told.{told, pace_of, first_fault, flip_by}
+use Rattle.scsi_device.specs.Told.{told, pace_of, first_fault, flip_by, AreFlips}
 use Rattle.target_course.specs.States.{offering_in, TargetState, IsOwnConnection, IsTargetOf, IsTargetLine, IsNoInitiator}
 use Rattle.target_units.specs.Readies.{ready_unit}
 use Rattle.target_course.proofs.Alike.{dues_alike}
 use Rattle.target_course.specs.Dues.{myself_by, want_of_ready, link_by, hand_by, calm_by, target_next}
-
--- ---- what holds of any device: the fault that strikes, and that a connection of others is none of its
-
-abbrev pub AreFlips : Type 0
-AreFlips = (faults : List FaultDef) (f : Option FaultDef) (time : ℕ) → f ≡ first_fault faults → flip_of faults time ≡ flip_by f time
-
-abbrev pub AreOthers : Type 0
-AreOthers = (s : ScenarioValue) (k : RunState) (me : Myself) (n : Connection) → (n.initiator == me.dev) ≡ false → (n.target == me.dev) ≡ false → connected_due s k me n ≡ None
+use Rattle.bus_rules.specs.Order.{is_of_device}
 
 -- ---- the scenario
 
@@ -93,17 +85,17 @@ hands_are flips_are s rows d i f n g p r e o calm =
     let last : ℕ = last_time rows in
     let me : Myself = myself_by d (told rows d.dev) i in
     let pace : Pace = pace_of (told rows d.dev) None in
-    (λ j. hand.sample_due (is_receiving (receiver rows) d.dev) last (flips_are k.faults f last e j)
+    (λ j. hand.sample_due (is_of_device (receiver rows) d.dev) last (flips_are k.faults f last e j)
     (hand.target_due (begun rows) (sight rows) (handshakes rows) (myself_is s rows d i g p r j)
     (pace_by (p.begun j) (p.bus j) (p.dialogue j).heard.now.agreement (g.no_host j))
     (offering_by (serving_of s k d.dev) (p.begun j) (pace_by (p.begun j) (p.bus j) (p.dialogue j).heard.now.agreement (g.no_host j)).pulsed (p.bus j) (p.handshakes j))))
-    ∙ (λ j. hand.sample_due (is_receiving (receiver rows) d.dev) last (flip_by f last)
+    ∙ (λ j. hand.sample_due (is_of_device (receiver rows) d.dev) last (flip_by f last)
     (sym (dues_alike (begun rows) (sight rows) (handshakes rows) me pace (offering_in rows i.serving) (offering_in rows (serving_of s k d.dev)) (r.serving_is n o calm)) j))
 
 -- ---- whatever stands
 
 pub dues_are : ((s : ScenarioValue) (rows : List Row) (dev latency : ℕ) (n : Connection) → IsThere s rows dev latency → IsLinked rows n → (n.initiator == dev) ≡ false → (n.target == dev) ≡ true → due s rows dev ≡ under_reset s rows dev latency (target_reaction s rows dev latency))
-    → AreFlips → AreOthers
+    → AreFlips → AreOthersStill
     → (s : ScenarioValue) (rows : List Row) (d : TargetDef) (i : TargetState) (f : Option FaultDef) → IsTargetLine s d → AreOfDevices rows → IsPlain s rows (run_state s rows) → IsNoInitiator rows d.dev → IsTargetOf s rows d i → f ≡ first_fault (run_state s rows).faults
     → due s rows d.dev ≡ target_next d (told rows d.dev) f i
 dues_are law flips_are others_are s rows d i f g q p t r e = go (bus rows).rst refl (connection rows) refl

@@ -34,8 +34,8 @@ use Rattle.bus_due.specs.Sights.{hearing_of}
 use Rattle.bus_due.specs.Tasks.{blocks_in, size_of, task_if, task_of}
 use Rattle.bus_due.specs.Telling.{id_of}
 use Rattle.scsi_device.specs.Lines.{IsCommandLine}
-use Rattle.scsi_device.specs.Writes.{writer_of, is_data_out, brings_byte, writers_with, writers, block_size, is_of_size, is_next_byte, is_written_byte, is_written_run, ends_run, is_written_in, is_written_on, is_written, written}
-use Rattle.target_course.specs.Gathered.{bytes_of, GatheredValue, gathering_at, gathered_with, gathered_seen, nothing_gathered, unit_room, place_in_run, run_start_of, IsRunningIn, IsGatheredOf, IsSentSo, IsAtUnit, AreAllGathered}
+use Rattle.scsi_device.specs.Writes.{writer_of, is_data_out, brings_byte, writers_with, writers, block_size, is_of_size, is_next_byte, is_written_byte, is_written_run, ends_run, is_written_in, is_written_on, is_written, written, start_of_run}
+use Rattle.target_course.specs.Gathered.{bytes_of, GatheredValue, gathering_at, gathered_with, gathered_seen, nothing_gathered, unit_room, place_in_run, IsRunningIn, IsGatheredOf, IsSentSo, IsAtUnit, AreAllGathered}
 use Rattle.target_units.specs.Seated.{is_same_process}
 use Rattle.target_course.specs.States.{IsOwnConnection}
 use Rattle.target_course.proofs.GatheredMore.{task_at, row_gathered}
@@ -46,7 +46,7 @@ use Rattle.target_course.proofs.ServedEnds.{ends_are}
 use Rattle.bus_base.proofs.Tests.{wrong}
 use Rattle.target_course.proofs.GatheredRows.{same_target}
 use Rattle.disk_array.proofs.SoundArrays.{id_is}
-use Rattle.disk_unit.proofs.LiveCommands.{id_self}
+use Rattle.disk_array.proofs.SeatReplies.{id_self}
 
 served_id : (s : ScenarioValue) (served : Option Item) (p : Process) → process_item s served ≡ Some p → id_of served ≡ Some p.id
 served_id s None p e = cc
@@ -54,7 +54,7 @@ served_id s (Some (abort n)) p e = cc
 served_id s (Some (process id)) p e = λ i. Some (sym (id_is s id p e) i)
 
 -- Where the next byte goes, by the size that the scenario says.
-place_so : (s : ScenarioValue) (k : RunState) (p : Process) (dev : ℕ) → process_served s k ≡ Some p → p.target ≡ dev → is_of_size s k p ≡ true → place_in_run (policy_of (target_def_of s dev)) (task_of s k) k.handshakes.answers ≡ min (run_start_of s p (progress_in k.progress p.id).runs + k.handshakes.answers) (2 ^ 64 - 1)
+place_so : (s : ScenarioValue) (k : RunState) (p : Process) (dev : ℕ) → process_served s k ≡ Some p → p.target ≡ dev → is_of_size s k p ≡ true → place_in_run (policy_of (target_def_of s dev)) (task_of s k) k.handshakes.answers ≡ min (start_of_run s p (progress_in k.progress p.id).runs + k.handshakes.answers) (2 ^ 64 - 1)
 place_so s k p dev served at size =
     (λ i. place_in_run (policy_of (target_def_of s (sym at i))) (task_if s k (served i)) k.handshakes.answers)
     ∙ (λ i. min (same_start (policy_of (target_def_of s p.target)) (blocks_in (range_in (command_of p.cdb))) (size_of (unit_state_at (array_of s k).units p.target p.unit)) (task_at s k p).moved 0 (progress_in k.progress p.id).runs i + k.handshakes.answers) (2 ^ 64 - 1))
@@ -227,7 +227,7 @@ all_gathered_start s dev = record {
 -- ---- the bytes of a write that runs
 
 pub whole_bytes : (s : ScenarioValue) (rows : List Row) (v : GatheredValue) (p : Process) (n : Connection) (bytes : List ℕ) → AreAllGathered s rows v → IsRunningIn s rows v.dev p n → p.target ≡ v.dev → 0 < (run_state s rows).handshakes.answers
-    → length p.sent ≤ run_start_of s p (progress_in (run_state s rows).progress p.id).runs + (run_state s rows).handshakes.answers → bytes ≡ bytes_of (gathering_at v.units p.unit) p.id (length p.sent) → (length bytes ≤ length p.sent → bytes ≡ take (length bytes) p.sent) → bytes ≡ p.sent
+    → length p.sent ≤ start_of_run s p (progress_in (run_state s rows).progress p.id).runs + (run_state s rows).handshakes.answers → bytes ≡ bytes_of (gathering_at v.units p.unit) p.id (length p.sent) → (length bytes ≤ length p.sent → bytes ≡ take (length bytes) p.sent) → bytes ≡ p.sent
 whole_bytes s rows v p n bytes h r t l all is sent =
     sent (omega (arith, long)) ∙ (λ i. take (long i) p.sent) ∙ take_all (length p.sent) p.sent (omega arith)
   where
@@ -238,7 +238,7 @@ whole_bytes s rows v p n bytes h r t l all is sent =
     owned = h.owned p.id p (named_so s (run_state s rows).served p r.served) t w
 
     come : length p.sent ≤ length (gathering_at v.units p.unit).bytes
-    come = let c = h.come p n r w in enough (run_start_of s p (progress_in (run_state s rows).progress p.id).runs + (run_state s rows).handshakes.answers) (length p.sent) (length (gathering_at v.units p.unit).bytes) all c
+    come = let c = h.come p n r w in enough (start_of_run s p (progress_in (run_state s rows).progress p.id).runs + (run_state s rows).handshakes.answers) (length p.sent) (length (gathering_at v.units p.unit).bytes) all c
       where
         enough : (a len most : ℕ) → len ≤ a → min a len ≤ most → len ≤ most
         enough a len most x y = omega arith

@@ -15,6 +15,7 @@ use Rattle.bus_trace.specs.declared.changes.Change.{Change}
 use Rattle.bus_trace.specs.declared.connection.Connection.{Connection}
 use Rattle.bus_trace.specs.declared.rows.Kind.{Kind}
 use Rattle.bus_trace.specs.declared.rows.Kind.TheVariants.{Drives, Fault}
+use Rattle.bus_trace.proofs.Sets.{same_self}
 use Rattle.bus_lines.specs.Handshakes.{Handshakes, no_handshakes, handshakes_after, answered_if, asked_if, strikes_if}
 use Rattle.cdb_codec.specs.Cdb.{command_of}
 use Rattle.scenario.specs.Lookups.{unit_of}
@@ -39,16 +40,18 @@ use Rattle.bus_due.specs.RunState.{RunState, array_of, bus_of, carried_here, pro
 use Rattle.bus_due.specs.RunSteps.{run_state, progress_by_leaving, progress_after, served_after, exchange_after, leaving_of}
 use Rattle.bus_due.specs.Sights.{hearing_of, leaving}
 use Rattle.bus_due.specs.Tasks.{blocks_in, reply_now, size_of, task_with, task_if, task_of}
-use Rattle.scsi_device.specs.Writes.{writer_of, is_data_out, brings_byte, writers_with, writers, block_size, is_of_size, is_writer, is_whole_run, is_written_run, is_written_byte, ends_run, is_written_in, is_written_on, is_written}
-use Rattle.target_course.specs.Gathered.{GatheredValue, gathering_at, run_start_of, HasCome, IsRunningIn, AreAllGathered}
+use Rattle.scsi_device.specs.Writes.{writer_of, is_data_out, brings_byte, writers_with, writers, block_size, is_of_size, is_writer, is_whole_run, is_written_run, is_written_byte, ends_run, is_written_in, is_written_on, is_written, start_of_run}
+use Rattle.target_course.specs.Gathered.{GatheredValue, gathering_at, HasCome, IsRunningIn, AreAllGathered}
 use Rattle.target_course.proofs.GatheredSteps.{AreByteGathered, data_out_is}
 use Rattle.target_course.proofs.GatheredWhole.{next_start}
 use Rattle.target_course.proofs.HeardOpenings.{phase_same}
-use Rattle.target_course.proofs.ProgressRows.{entry_with, other_kept, named_so, plus_none}
+use Rattle.target_course.proofs.ProgressRows.{entry_with, named_so, plus_none}
+use Rattle.bus_due.proofs.Lookups.{other_kept}
 use Rattle.target_course.proofs.ServedEnds.{connection_stays}
 use Rattle.bus_base.proofs.Tests.{wrong}
 use Rattle.disk_array.proofs.SeatLookups.{same_id_is}
-use Rattle.disk_unit.proofs.LiveCommands.{id_self}
+use Rattle.disk_array.proofs.SeatReplies.{id_self}
+use Rattle.scsi_device.proofs.PhaseLines.{no_input}
 
 come_less : (v : GatheredValue) (p : Process) (a b : ℕ) → a ≤ b → HasCome v p b → HasCome v p a
 come_less v p a b l h = omega (arith, l, h)
@@ -72,7 +75,7 @@ runs_with all a id x y = go (same_id a id) refl
 abbrev pub task_at : ScenarioValue → RunState → Process → Task
 task_at s k p = task_with (array_of s k) (progress_in k.progress p.id) p (carried_here k p.id) (reply_now (array_of s k) p) (Play.reply_in (array_of s k).replies p.id)
 
-run_made : (s : ScenarioValue) (k : RunState) (v : GatheredValue) (p : Process) (extra : ℕ) → is_whole_run s k p (Some (task_at s k p)) ≡ true → HasCome v p (run_start_of s p (progress_in k.progress p.id).runs + k.handshakes.answers + extra) → HasCome v p (run_start_of s p ((progress_in k.progress p.id).runs + 1))
+run_made : (s : ScenarioValue) (k : RunState) (v : GatheredValue) (p : Process) (extra : ℕ) → is_whole_run s k p (Some (task_at s k p)) ≡ true → HasCome v p (start_of_run s p (progress_in k.progress p.id).runs + k.handshakes.answers + extra) → HasCome v p (start_of_run s p ((progress_in k.progress p.id).runs + 1))
 run_made s k v p extra e h =
     let one = and_parts (not (bus_of k).rst && is_of_size s k p && (task_at s k p).moved == length p.sent) (nat_le (run_length (policy_of (target_def_of s p.target)) (task_at s k p)) k.handshakes.answers) e in
     let two = and_parts (not (bus_of k).rst && is_of_size s k p) ((task_at s k p).moved == length p.sent) one.0 in
@@ -86,23 +89,12 @@ run_made s k v p extra e h =
     (subst (λ (z : ℕ). (run_in (policy_of (target_def_of s p.target)) blocks (task_at s k p).size z runs).end - (run_in (policy_of (target_def_of s p.target)) blocks (task_at s k p).size z runs).start ≤ k.handshakes.answers) moved
     (leb-true (run_length (policy_of (target_def_of s p.target)) (task_at s k p)) k.handshakes.answers one.1)) in
     let next = next_start (policy_of (target_def_of s p.target)) blocks (block_size (unit_of s p.target p.unit)) (length p.sent) runs k.handshakes.answers all in
-    enough (run_start_of s p (runs + 1)) (run_start_of s p runs + k.handshakes.answers) extra (length p.sent) (length (gathering_at v.units p.unit).bytes) next h
+    enough (start_of_run s p (runs + 1)) (start_of_run s p runs + k.handshakes.answers) extra (length p.sent) (length (gathering_at v.units p.unit).bytes) next h
   where
     enough : (a b extra len most : ℕ) → min a len ≤ b → min (b + extra) len ≤ most → min a len ≤ most
     enough a b extra len most x y = omega arith
 
 -- ---- REQ and ACK in DATA OUT
-
-no_input : (b : LineSet) → phase_of b ≡ phases.DataOut → b.io ≡ false
-no_input b e = go b.msg b.cd b.io e
-  where
-    go : (x y z : Bool) → (if x then (if z then phases.MessageIn else phases.MessageOut) else if y then (if z then phases.Status else phases.Command) else if z then phases.DataIn else phases.DataOut) ≡ phases.DataOut → z ≡ false
-    go true y true e = cc
-    go true y false e = refl
-    go false true true e = cc
-    go false true false e = refl
-    go false false true e = cc
-    go false false false e = refl
 
 crosses_so : (m : Connection) (c : Change) → c.before.io ≡ false → rises c.before.ack c.after.ack ≡ true → is_some (receiver_of (Some m) c) ≡ true
 crosses_so m c e f = λ i. is_some (if e i then (if rises c.before.req c.after.req then Some m.initiator else None) else if f i then Some m.target else None)
@@ -132,12 +124,8 @@ answers_on false n c time h b e crosses =
     go false true b x = (omega arith, λ l. either b l)
     go false false b x = (omega arith, λ l. either b l)
 
-same_line : (x : Bool) → same x x ≡ true
-same_line true = refl
-same_line false = refl
-
 no_change : (a b : LineSet) → a ≡ b → same_phase a b ≡ true
-no_change a b e = (λ i. same_phase a (sym e i)) ∙ (λ i. same_line a.msg i && same_line a.cd i && same_line a.io i)
+no_change a b e = (λ i. same_phase a (sym e i)) ∙ (λ i. same_self a.msg i && same_self a.cd i && same_self a.io i)
 
 -- A phase begins with wrong rise of ACK; a fault changes wrong lines.
 answers_anew : (row : Row) (n : Connection) (c : Change) (h : Handshakes) → ((code : ℕ) → row.kind ≡ Fault code → c.before ≡ c.after) → changes_phase c ≡ true → (handshakes_after (is_fault row.kind) (Some n) c row.time h).answers ≡ 0
@@ -182,7 +170,7 @@ row_gathered s rows row v p q calm ends at_target written x = record {
         go false = refl
 
     done : (id : ProcId) (z : Process) (m n : Connection) → process_of s id ≡ Some z → z.target ≡ v.dev → writer_of (writers s (row ∷ rows)) z.target z.unit ≡ Some id → k.story.bus_state.connection ≡ Some m → d.next ≡ Some n → (changes_phase d.change && k.exchange.begun) ≡ true → (leaving s k m.target).done ≡ true
-        → process_served s k ≡ Some z → z.id ≡ id → HasCome v z (run_start_of s z ((progress_in k.progress id).runs + 1))
+        → process_served s k ≡ Some z → z.id ≡ id → HasCome v z (start_of_run s z ((progress_in k.progress id).runs + 1))
     done id z m n e t wr b a left is_done served ids = go (is_data_out (phase_of (bus_of k))) refl
       where
         both : is_written_run s k (writers s rows) (Some z) (phase_of (bus_of k)) ≡ true
@@ -199,7 +187,7 @@ row_gathered s rows row v p q calm ends at_target written x = record {
             let two = and_parts (z.initiator == m.initiator) (z.target == m.target) ((λ i. has_ends (sym served i) m) ∙ ends m stands) in
             eq-eqb m.target v.dev (sym (eqb-true z.target m.target two.1) ∙ t)
 
-        go : (o : Bool) → is_data_out (phase_of (bus_of k)) ≡ o → HasCome v z (run_start_of s z ((progress_in k.progress id).runs + 1))
+        go : (o : Bool) → is_data_out (phase_of (bus_of k)) ≡ o → HasCome v z (start_of_run s z ((progress_in k.progress id).runs + 1))
         go true f =
             let whole : is_whole_run s k z (task_of s k) ≡ true = sym (λ i. if f i then is_whole_run s k z (task_of s k) else not (is_writer (writer_of (writers s rows) z.target z.unit) z.id)) ∙ both in
             let task : is_whole_run s k z (Some (task_at s k z)) ≡ true = sym (λ i. is_whole_run s k z (task_if s k (served i))) ∙ whole in
@@ -208,45 +196,45 @@ row_gathered s rows row v p q calm ends at_target written x = record {
             ∙ not-true (bus_of k).rst (and_parts (not (bus_of k).rst) (is_of_size s k z) (and_parts (not (bus_of k).rst && is_of_size s k z) ((task_at s k z).moved == length z.sent) (and_parts (not (bus_of k).rst && is_of_size s k z && (task_at s k z).moved == length z.sent) (nat_le (run_length (policy_of (target_def_of s z.target)) (task_at s k z)) k.handshakes.answers) task).0).0).0 in
             let running : IsRunningIn s rows v.dev z m =
             record { own = record { stands = stands; own = own }; served = served; calm = rst; begun = (and_parts (changes_phase d.change) k.exchange.begun left).1; phase = data_out_is (phase_of (bus_of k)) f } in
-            subst (λ (y : ProcId). HasCome v z (run_start_of s z ((progress_in k.progress y).runs + 1))) ids
+            subst (λ (y : ProcId). HasCome v z (start_of_run s z ((progress_in k.progress y).runs + 1))) ids
             (run_made s k v z (one_if (brings_byte w)) task (x.come z m running (wr ∙ (λ i. Some (sym ids i)))))
         go false f =
             let last : not (is_writer (writer_of (writers s rows) z.target z.unit) z.id) ≡ true = sym (λ i. if f i then is_whole_run s k z (task_of s k) else not (is_writer (writer_of (writers s rows) z.target z.unit) z.id)) ∙ both in
             let same_writers : writer_of (writers s (row ∷ rows)) z.target z.unit ≡ writer_of (writers s rows) z.target z.unit = λ i. writer_of (if no_bytes f i then writers_with (writers s rows) (process_served s k) else writers s rows) z.target z.unit in
             wrong (sym ((λ i. is_writer ((sym same_writers ∙ wr) i) z.id) ∙ (λ i. same_id (sym ids i) z.id) ∙ id_self z.id) ∙ not-true (is_writer (writer_of (writers s rows) z.target z.unit) z.id) last)
 
-    made : (id : ProcId) (z : Process) → process_of s id ≡ Some z → z.target ≡ v.dev → writer_of (writers s (row ∷ rows)) z.target z.unit ≡ Some id → HasCome v z (run_start_of s z (progress_in next.progress id).runs)
+    made : (id : ProcId) (z : Process) → process_of s id ≡ Some z → z.target ≡ v.dev → writer_of (writers s (row ∷ rows)) z.target z.unit ≡ Some id → HasCome v z (start_of_run s z (progress_in next.progress id).runs)
     made id z e t wr = by k.story.bus_state.connection refl d.next refl
       where
-        stays : HasCome v z (run_start_of s z (progress_in k.progress id).runs)
+        stays : HasCome v z (start_of_run s z (progress_in k.progress id).runs)
         stays = x.made id z e t wr
 
-        by : (b : Option Connection) → k.story.bus_state.connection ≡ b → (a : Option Connection) → d.next ≡ a → HasCome v z (run_start_of s z (progress_in (progress_after s k d b a (leaving_of s k b)) id).runs)
+        by : (b : Option Connection) → k.story.bus_state.connection ≡ b → (a : Option Connection) → d.next ≡ a → HasCome v z (start_of_run s z (progress_in (progress_after s k d b a (leaving_of s k b)) id).runs)
         by None eb None ea = stays
         by None eb (Some n) ea = stays
         by (Some m) eb None ea = stays
         by (Some m) eb (Some n) ea = go (changes_phase d.change && k.exchange.begun) refl
           where
-            go : (c : Bool) → (changes_phase d.change && k.exchange.begun) ≡ c → HasCome v z (run_start_of s z (progress_in (if c then progress_by_leaving k (process_served s k) (leaving s k m.target) else k.progress) id).runs)
+            go : (c : Bool) → (changes_phase d.change && k.exchange.begun) ≡ c → HasCome v z (start_of_run s z (progress_in (if c then progress_by_leaving k (process_served s k) (leaving s k m.target) else k.progress) id).runs)
             go false f = stays
             go true f = of_served (process_served s k) refl
               where
-                of_served : (y : Option Process) → process_served s k ≡ y → HasCome v z (run_start_of s z (progress_in (progress_by_leaving k y (leaving s k m.target)) id).runs)
+                of_served : (y : Option Process) → process_served s k ≡ y → HasCome v z (start_of_run s z (progress_in (progress_by_leaving k y (leaving s k m.target)) id).runs)
                 of_served None g = stays
                 of_served (Some y) g =
-                    subst (λ (c : ℕ). HasCome v z (run_start_of s z c)) (sym (runs_with k.progress y.id id (leaving s k m.target).done (leaving s k m.target).counts))
+                    subst (λ (c : ℕ). HasCome v z (start_of_run s z c)) (sym (runs_with k.progress y.id id (leaving s k m.target).done (leaving s k m.target).counts))
                     (counted (same_id y.id id) refl (leaving s k m.target).done refl)
                   where
-                    counted : (o : Bool) → same_id y.id id ≡ o → (f_done : Bool) → (leaving s k m.target).done ≡ f_done → HasCome v z (run_start_of s z (if o then (progress_in k.progress id).runs + one_if f_done else (progress_in k.progress id).runs))
+                    counted : (o : Bool) → same_id y.id id ≡ o → (f_done : Bool) → (leaving s k m.target).done ≡ f_done → HasCome v z (start_of_run s z (if o then (progress_in k.progress id).runs + one_if f_done else (progress_in k.progress id).runs))
                     counted false u f_done h = stays
-                    counted true u false h = subst (λ (c : ℕ). HasCome v z (run_start_of s z c)) (plus_none (progress_in k.progress id).runs) stays
+                    counted true u false h = subst (λ (c : ℕ). HasCome v z (start_of_run s z c)) (plus_none (progress_in k.progress id).runs) stays
                     counted true u true h =
                         let ids : y.id ≡ id = same_id_is y.id id u in
                         let one : y ≡ z = same_Some y z (sym (named_so s k.served y g) ∙ (λ i. process_of s (ids i)) ∙ e) in
                         done id z m n e t wr eb ea f h (g ∙ (λ i. Some (one i))) (ap (λ (o : Process). o.id) (sym one) ∙ ids)
 
     at_end : (z : Process) (n : Connection) → IsRunningIn s (row ∷ rows) v.dev z n → (b : Option Connection) → k.story.bus_state.connection ≡ b
-        → (0 < next.handshakes.answers → writer_of (writers s (row ∷ rows)) z.target z.unit ≡ Some z.id) × (writer_of (writers s (row ∷ rows)) z.target z.unit ≡ Some z.id → HasCome v z (run_start_of s z (progress_in next.progress z.id).runs + next.handshakes.answers))
+        → (0 < next.handshakes.answers → writer_of (writers s (row ∷ rows)) z.target z.unit ≡ Some z.id) × (writer_of (writers s (row ∷ rows)) z.target z.unit ≡ Some z.id → HasCome v z (start_of_run s z (progress_in next.progress z.id).runs + next.handshakes.answers))
     at_end z n run None b = wrong (sym (λ i. begins_so i && phase_so i) ∙ not-true (n.reselected && is_data_out (phase_of w.change.after)) (seam None (Some n) b a))
       where
         a : d.next ≡ Some n
@@ -280,11 +268,11 @@ row_gathered s rows row v p q calm ends at_target written x = record {
         answers : next.handshakes.answers ≡ (handshakes_after (is_fault row.kind) (Some n) d.change row.time k.handshakes).answers
         answers = λ i. (handshakes_after (is_fault row.kind) (a i) d.change row.time k.handshakes).answers
 
-        by : (c : Bool) → changes_phase d.change ≡ c → (0 < next.handshakes.answers → writer_of (writers s (row ∷ rows)) z.target z.unit ≡ Some z.id) × (writer_of (writers s (row ∷ rows)) z.target z.unit ≡ Some z.id → HasCome v z (run_start_of s z (progress_in next.progress z.id).runs + next.handshakes.answers))
+        by : (c : Bool) → changes_phase d.change ≡ c → (0 < next.handshakes.answers → writer_of (writers s (row ∷ rows)) z.target z.unit ≡ Some z.id) × (writer_of (writers s (row ∷ rows)) z.target z.unit ≡ Some z.id → HasCome v z (start_of_run s z (progress_in next.progress z.id).runs + next.handshakes.answers))
         by true e =
             let none : next.handshakes.answers ≡ 0 = answers ∙ answers_anew row n d.change k.handshakes (λ code f. p.bus ∙ sym (calm code f) ∙ sym q.bus) e in (
               (λ l. absurd (omega (arith, none, l))),
-              (λ wr. come_less v z (run_start_of s z (progress_in next.progress z.id).runs + next.handshakes.answers) (run_start_of s z (progress_in next.progress z.id).runs) (omega (arith, none)) (made z.id z (named_so s next.served z run.served) (at_target z n run) wr)),
+              (λ wr. come_less v z (start_of_run s z (progress_in next.progress z.id).runs + next.handshakes.answers) (start_of_run s z (progress_in next.progress z.id).runs) (omega (arith, none)) (made z.id z (named_so s next.served z run.served) (at_target z n run) wr)),
             )
         by false e =
             let begun : k.exchange.begun ≡ true = sym (λ i. e i || k.exchange.begun) ∙ sym (λ i. (exchange_after s k row d (b i) (a i) (leaving_of s k (b i))).begun) ∙ run.begun in
@@ -299,8 +287,8 @@ row_gathered s rows row v p q calm ends at_target written x = record {
             let more = answers_on (is_fault row.kind) n d.change row.time k.handshakes (brings_byte w) e brings in (
               (λ l. x.present z n running (more.1 (subst (λ (c : ℕ). 0 < c) answers l))),
               (λ wr.
-                  come_less v z (run_start_of s z (progress_in next.progress z.id).runs + next.handshakes.answers) (run_start_of s z (progress_in k.progress z.id).runs + k.handshakes.answers + one_if (brings_byte w))
-                  (less (run_start_of s z (progress_in next.progress z.id).runs) (run_start_of s z (progress_in k.progress z.id).runs) next.handshakes.answers k.handshakes.answers (one_if (brings_byte w)) (λ i. run_start_of s z (runs i)) (subst (λ (c : ℕ). c ≤ k.handshakes.answers + one_if (brings_byte w)) (sym answers) more.0))
+                  come_less v z (start_of_run s z (progress_in next.progress z.id).runs + next.handshakes.answers) (start_of_run s z (progress_in k.progress z.id).runs + k.handshakes.answers + one_if (brings_byte w))
+                  (less (start_of_run s z (progress_in next.progress z.id).runs) (start_of_run s z (progress_in k.progress z.id).runs) next.handshakes.answers k.handshakes.answers (one_if (brings_byte w)) (λ i. start_of_run s z (runs i)) (subst (λ (c : ℕ). c ≤ k.handshakes.answers + one_if (brings_byte w)) (sym answers) more.0))
                   (x.come z n running wr)),
             )
           where

@@ -16,14 +16,14 @@ use Rattle.bus_dialogue.specs.declared.exchange.Phase.TheVariants as phases
 use Rattle.bus_due.specs.LastingState.{progress_in}
 use Rattle.bus_due.specs.RunState.{RunState}
 use Rattle.bus_due.specs.RunSteps.{run_state}
-use Rattle.scsi_device.specs.Writes.{Writer, writer_of, is_data_out, writers_with, writers, is_writer, is_next_byte}
-use Rattle.target_course.specs.Gathered.{Gathering, empty_gathering, gathering_of, gathering_with, GatheredValue, gathering_at, gathered_with, run_start_of, HasCome, IsRunningIn, IsGatheringOf, AreAllGathered}
+use Rattle.scsi_device.specs.Writes.{Writer, writer_of, is_data_out, writers_with, writers, is_writer, is_next_byte, start_of_run}
+use Rattle.target_course.specs.Gathered.{Gathering, empty_gathering, gathering_of, gathering_with, GatheredValue, gathering_at, gathered_with, HasCome, IsRunningIn, IsGatheringOf, AreAllGathered}
 use Rattle.target_units.specs.Seated.{is_same_process}
 use Rattle.target_course.proofs.GatheredRows.{own_so, unit_put}
 use Rattle.target_course.proofs.GatheredWhole.{put_grows}
 use Rattle.disk_array.proofs.SeatLookups.{same_id_is}
+use Rattle.disk_array.proofs.SeatReplies.{id_self}
 use Rattle.target_course.proofs.ProgressRows.{plus_none}
-use Rattle.disk_unit.proofs.LiveCommands.{id_self}
 
 pub is_writer_is : (o : Option ProcId) (id : ProcId) → is_writer o id ≡ true → o ≡ Some id
 is_writer_is None id e = cc
@@ -41,9 +41,9 @@ data_out_is phases.MessageIn e = cc
 
 pub record AreByteGathered (s : ScenarioValue) (rows : List Row) (dev : ℕ) (all : List Writer) (v : GatheredValue) (b : Bool) : Type 0 where
   pub owned : (id : ProcId) (p : Process) → process_of s id ≡ Some p → p.target ≡ dev → writer_of all p.target p.unit ≡ Some id → (gathering_at v.units p.unit).owner ≡ Some id
-  pub made : (id : ProcId) (p : Process) → process_of s id ≡ Some p → p.target ≡ dev → writer_of all p.target p.unit ≡ Some id → HasCome v p (run_start_of s p (progress_in (run_state s rows).progress id).runs)
+  pub made : (id : ProcId) (p : Process) → process_of s id ≡ Some p → p.target ≡ dev → writer_of all p.target p.unit ≡ Some id → HasCome v p (start_of_run s p (progress_in (run_state s rows).progress id).runs)
   pub present : (p : Process) (n : Connection) → IsRunningIn s rows dev p n → (b || nat_lt 0 (run_state s rows).handshakes.answers) ≡ true → writer_of all p.target p.unit ≡ Some p.id
-  pub come : (p : Process) (n : Connection) → IsRunningIn s rows dev p n → writer_of all p.target p.unit ≡ Some p.id → HasCome v p (run_start_of s p (progress_in (run_state s rows).progress p.id).runs + (run_state s rows).handshakes.answers + one_if b)
+  pub come : (p : Process) (n : Connection) → IsRunningIn s rows dev p n → writer_of all p.target p.unit ≡ Some p.id → HasCome v p (start_of_run s p (progress_in (run_state s rows).progress p.id).runs + (run_state s rows).handshakes.answers + one_if b)
 
 above : (n : ℕ) → nat_lt 0 n ≡ true → 0 < n
 above n h = grind (arith, nat_tests)
@@ -53,7 +53,7 @@ no_byte s rows v h = record {
   owned = h.owned;
   made = h.made;
   present = λ p n r b. h.present p n r (above (run_state s rows).handshakes.answers b);
-  come = λ p n r w. subst (λ (x : ℕ). HasCome v p x) (plus_none (run_start_of s p (progress_in (run_state s rows).progress p.id).runs + (run_state s rows).handshakes.answers)) (h.come p n r w);
+  come = λ p n r w. subst (λ (x : ℕ). HasCome v p x) (plus_none (start_of_run s p (progress_in (run_state s rows).progress p.id).runs + (run_state s rows).handshakes.answers)) (h.come p n r w);
 }
 
 owner_put : (g : Gathering) (place byte : ℕ) → (gathering_with g place byte).owner ≡ g.owner
@@ -81,13 +81,13 @@ own_kept g id e = λ i. if ((λ j. is_same_process (e j) (Some id)) ∙ id_self 
 -- A byte of this process comes to its unit.
 pub byte_more : (s : ScenarioValue) (rows : List Row) (v : GatheredValue) (p : Process) (n : Connection) (place byte : ℕ)
     → IsRunningIn s rows v.dev p n → p.target ≡ v.dev → process_of s p.id ≡ Some p → length v.units ≡ 8 → p.unit < 8 → length p.sent ≤ (gathering_at v.units p.unit).room → IsGatheringOf s (gathering_at v.units p.unit)
-    → place ≡ min (run_start_of s p (progress_in (run_state s rows).progress p.id).runs + (run_state s rows).handshakes.answers) (2 ^ 64 - 1) → run_start_of s p 0 ≡ 0 → is_next_byte s (run_state s rows) (writers s rows) p ≡ true
+    → place ≡ min (start_of_run s p (progress_in (run_state s rows).progress p.id).runs + (run_state s rows).handshakes.answers) (2 ^ 64 - 1) → start_of_run s p 0 ≡ 0 → is_next_byte s (run_state s rows) (writers s rows) p ≡ true
     → AreAllGathered s rows v → AreByteGathered s rows v.dev (writers_with (writers s rows) (Some p)) (record v { units = gathered_with v.units p.unit p.id place byte }) true
 byte_more s rows v p n place byte running at named eight below room is place_is zero_start next h = record {
   owned = λ id q e t w. owned_by id q e t (p.unit == q.unit) refl w;
   made = λ id q e t w. made_by id q e t (p.unit == q.unit) refl w;
   present = λ q m r b. subst (λ (z : Process). writer_of (writers_with (writers s rows) (Some p)) z.target z.unit ≡ Some z.id) (one q m r) first;
-  come = λ q m r w. subst (λ (z : Process). HasCome (record v { units = gathered_with v.units p.unit p.id place byte }) z (run_start_of s z (progress_in (run_state s rows).progress z.id).runs + (run_state s rows).handshakes.answers + 1)) (one q m r) here;
+  come = λ q m r w. subst (λ (z : Process). HasCome (record v { units = gathered_with v.units p.unit p.id place byte }) z (start_of_run s z (progress_in (run_state s rows).progress z.id).runs + (run_state s rows).handshakes.answers + 1)) (one q m r) here;
 }
   where
     k : RunState
@@ -97,7 +97,7 @@ byte_more s rows v p n place byte running at named eight below room is place_is 
     g = gathering_at v.units p.unit
 
     x : ℕ
-    x = run_start_of s p (progress_in k.progress p.id).runs + k.handshakes.answers
+    x = start_of_run s p (progress_in k.progress p.id).runs + k.handshakes.answers
 
     one : (q : Process) (m : Connection) → IsRunningIn s rows v.dev q m → p ≡ q
     one q m r = same_Some p q (sym running.served ∙ r.served)
@@ -115,7 +115,7 @@ byte_more s rows v p n place byte running at named eight below room is place_is 
             subst (λ (z : Gathering). min x (length p.sent) ≤ length z.bytes) (sym (own_kept g p.id (h.owned p.id p named at w))) (h.come p n running w)
         go false e f =
             let two = and_parts ((progress_in k.progress p.id).runs == 0) (k.handshakes.answers == 0) f in
-            let none : x ≡ 0 = (λ i. run_start_of s p (eqb-true (progress_in k.progress p.id).runs 0 two.0 i) + eqb-true k.handshakes.answers 0 two.1 i) ∙ (λ i. zero_start i + 0) in
+            let none : x ≡ 0 = (λ i. start_of_run s p (eqb-true (progress_in k.progress p.id).runs 0 two.0 i) + eqb-true k.handshakes.answers 0 two.1 i) ∙ (λ i. zero_start i + 0) in
             omega (arith, none)
 
     grown : (length (gathering_of g p.id).bytes ≤ length (gathering_with (gathering_of g p.id) place byte).bytes) × (min (x + 1) (length p.sent) ≤ length (gathering_with (gathering_of g p.id) place byte).bytes)
@@ -146,15 +146,15 @@ byte_more s rows v p n place byte running at named eight below room is place_is 
         ∙ owner_put (gathering_of g p.id) place byte ∙ owner_of g p.id ∙ sym (writer_is q t true f) ∙ w
     owned_by id q e t false f w = (λ i. (elsewhere q f i).owner) ∙ h.owned id q e t (sym (writer_is q t false f) ∙ w)
 
-    made_by : (id : ProcId) (q : Process) → process_of s id ≡ Some q → q.target ≡ v.dev → (c : Bool) → (p.unit == q.unit) ≡ c → writer_of (writers_with (writers s rows) (Some p)) q.target q.unit ≡ Some id → HasCome (record v { units = gathered_with v.units p.unit p.id place byte }) q (run_start_of s q (progress_in k.progress id).runs)
+    made_by : (id : ProcId) (q : Process) → process_of s id ≡ Some q → q.target ≡ v.dev → (c : Bool) → (p.unit == q.unit) ≡ c → writer_of (writers_with (writers s rows) (Some p)) q.target q.unit ≡ Some id → HasCome (record v { units = gathered_with v.units p.unit p.id place byte }) q (start_of_run s q (progress_in k.progress id).runs)
     made_by id q e t true f w =
         let ids : p.id ≡ id = same_Some p.id id (sym (writer_is q t true f) ∙ w) in
         let is_one : p ≡ q = same_Some p q (sym named ∙ (λ i. process_of s (ids i)) ∙ e) in
-        subst (λ (z : ProcId). HasCome (record v { units = gathered_with v.units p.unit p.id place byte }) q (run_start_of s q (progress_in k.progress z).runs)) ids
-        (subst (λ (z : Process). HasCome (record v { units = gathered_with v.units p.unit p.id place byte }) z (run_start_of s z (progress_in k.progress p.id).runs)) is_one
-        (less (run_start_of s p (progress_in k.progress p.id).runs) (x + 1) (length p.sent) (length (gathering_at (gathered_with v.units p.unit p.id place byte) p.unit).bytes) (omega arith) here))
+        subst (λ (z : ProcId). HasCome (record v { units = gathered_with v.units p.unit p.id place byte }) q (start_of_run s q (progress_in k.progress z).runs)) ids
+        (subst (λ (z : Process). HasCome (record v { units = gathered_with v.units p.unit p.id place byte }) z (start_of_run s z (progress_in k.progress p.id).runs)) is_one
+        (less (start_of_run s p (progress_in k.progress p.id).runs) (x + 1) (length p.sent) (length (gathering_at (gathered_with v.units p.unit p.id place byte) p.unit).bytes) (omega arith) here))
       where
         less : (a b len most : ℕ) → a ≤ b → min b len ≤ most → min a len ≤ most
         less a b len most l m = omega arith
     made_by id q e t false f w =
-        subst (λ (z : Gathering). min (run_start_of s q (progress_in k.progress id).runs) (length q.sent) ≤ length z.bytes) (sym (elsewhere q f)) (h.made id q e t (sym (writer_is q t false f) ∙ w))
+        subst (λ (z : Gathering). min (start_of_run s q (progress_in k.progress id).runs) (length q.sent) ≤ length z.bytes) (sym (elsewhere q f)) (h.made id q e t (sym (writer_is q t false f) ∙ w))

@@ -8,16 +8,15 @@ use Rattle.std.proofs.lemmas.Option.{same_Some}
 use Rattle.std.proofs.Math.Nat.{add-mul}
 use Rattle.bus_base.specs.declared.ProcId.{ProcId}
 use Rattle.cdb_codec.specs.Cdb.{command_of}
-use Rattle.scenario.specs.Needs.{need_of, sent_of, is_write}
+use Rattle.scenario.specs.Needs.{need_of, sent_of, is_write, sent_count}
 use Rattle.scenario.specs.Value.{ScenarioValue}
 use Rattle.scenario.specs.declared.value.CmdDef.{CmdDef}
-use Rattle.scenario.specs.declared.value.Tag.TheVariants as tags
 use Rattle.scenario.specs.declared.value.Policy.{Policy}
 use Rattle.scenario.specs.declared.value.Policy.TheVariants as policies
-use Rattle.disk_array.specs.Processes.{Process, command_at, process_by, process_if, process_of, payload_bytes, sense_block}
+use Rattle.disk_array.specs.Processes.{Process, command_at, process_by, process_if, process_of, sense_process, command_process}
 use Rattle.bus_dialogue.specs.DataRuns.{run_in}
 use Rattle.scsi_device.specs.Lines.{IsCommandLine}
-use Rattle.target_course.specs.Gathered.{Gathering, gathering_with, sent_room, write_room, most_room, unit_room}
+use Rattle.target_course.specs.Gathered.{Gathering, gathering_with, write_room, most_room, unit_room}
 
 -- ---- a byte more
 
@@ -90,12 +89,6 @@ enough_of s (d ∷ commands) zero c e = cc
 enough_of s (d ∷ commands) (suc zero) c e = subst (λ (x : CmdDef). write_room s c.target c.unit c ≤ max (write_room s c.target c.unit x) (most_room s c.target c.unit commands)) (sym (same_Some d c e)) (omega arith)
 enough_of s (d ∷ commands) (suc (suc n)) c e = let h = enough_of s commands (suc n) c e in omega (arith, h)
 
-abbrev sense_process : ScenarioValue → ProcId → CmdDef → Process
-sense_process s id c = record { id = id; initiator = c.host; target = c.target; unit = c.unit; tag = tags.Untagged; cdb = sense_block; sent = [] }
-
-abbrev whole_process : ScenarioValue → ProcId → CmdDef → Process
-whole_process s id c = record { id = id; initiator = c.host; target = c.target; unit = c.unit; tag = c.tag; cdb = c.cdb; sent = payload_bytes c.payload (sent_of s c) }
-
 sent_below : (s : ScenarioValue) (c : CmdDef) → sent_of s c ≤ need_of s c
 unfolding sent_of
 sent_below s c = go (is_write (command_of c.cdb))
@@ -109,7 +102,7 @@ room_enough s id p lines e = go (command_at s.commands id.command) refl e
   where
     own : (c : CmdDef) → command_at s.commands id.command ≡ Some c → (q : Bool) → id.sense ≡ q → ((process_by s id c).unit < 8) × (length (process_by s id c).sent ≤ unit_room s (process_by s id c).target (process_by s id c).unit)
     own c f true g =
-        subst (λ (z : Bool). ((if z then sense_process s id c else whole_process s id c).unit < 8) × (length (if z then sense_process s id c else whole_process s id c).sent ≤ unit_room s (if z then sense_process s id c else whole_process s id c).target (if z then sense_process s id c else whole_process s id c).unit)) (sym g)
+        subst (λ (z : Bool). ((if z then sense_process id c else command_process s id c).unit < 8) × (length (if z then sense_process id c else command_process s id c).sent ≤ unit_room s (if z then sense_process id c else command_process s id c).target (if z then sense_process id c else command_process s id c).unit)) (sym g)
         ((lines id.command c f).unit, omega arith)
     own c f false g =
         let line = lines id.command c f in
@@ -117,9 +110,9 @@ room_enough s id p lines e = go (command_at s.commands id.command) refl e
         let long = line.sent in
         let few = line.need in
         let below = sent_below s c in
-        let here : write_room s c.target c.unit c ≡ min (sent_of s c) (2 ^ 32 - 1) = λ i. if eq-eqb c.target c.target refl i && eq-eqb c.unit c.unit refl i then sent_room s c else 0 in
+        let here : write_room s c.target c.unit c ≡ min (sent_of s c) (2 ^ 32 - 1) = λ i. if eq-eqb c.target c.target refl i && eq-eqb c.unit c.unit refl i then sent_count s c else 0 in
         let most = enough_of s s.commands id.command c f in
-        subst (λ (z : Bool). ((if z then sense_process s id c else whole_process s id c).unit < 8) × (length (if z then sense_process s id c else whole_process s id c).sent ≤ unit_room s (if z then sense_process s id c else whole_process s id c).target (if z then sense_process s id c else whole_process s id c).unit)) (sym g)
+        subst (λ (z : Bool). ((if z then sense_process id c else command_process s id c).unit < 8) × (length (if z then sense_process id c else command_process s id c).sent ≤ unit_room s (if z then sense_process id c else command_process s id c).target (if z then sense_process id c else command_process s id c).unit)) (sym g)
         (unit, omega (arith, long, few, below, here, most))
 
     go : (c : Option CmdDef) → command_at s.commands id.command ≡ c → process_if s id c ≡ Some p → (p.unit < 8) × (length p.sent ≤ unit_room s p.target p.unit)

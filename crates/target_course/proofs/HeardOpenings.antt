@@ -10,6 +10,7 @@ use Rattle.bus_trace.specs.Terms.{connection}
 use Rattle.bus_trace.specs.Trace.{bus}
 use Rattle.bus_trace.specs.declared.Row.{Row}
 use Rattle.bus_trace.specs.declared.connection.Connection.{Connection}
+use Rattle.bus_trace.proofs.Sets.{same_eq}
 use Rattle.scenario.specs.Value.{ScenarioValue}
 use Rattle.scenario.specs.declared.value.AbortDef.{AbortDef}
 use Rattle.disk_array.specs.Processes.{Process, process_of}
@@ -29,29 +30,24 @@ use Rattle.bus_dialogue.specs.declared.exchange.Phase.{Phase}
 use Rattle.bus_dialogue.specs.declared.exchange.Phase.TheVariants as phases
 use Rattle.bus_dialogue.specs.declared.exchange.Plan.{Plan}
 use Rattle.bus_dialogue.specs.declared.exchange.Said.{Said}
-use Rattle.bus_due.specs.Faithful.{is_unit, same_tag, is_process_named, is_kind, is_abort_named, is_item_named, is_opening_named, is_true_leaving}
+use Rattle.bus_due.specs.Faithful.{is_unit, is_process_named, is_kind, is_abort_named, is_item_named, is_opening_named, is_true_leaving}
 use Rattle.bus_due.specs.Plain.{IsPlain}
 use Rattle.bus_due.specs.RunState.{RunState, agreement_of, bus_of, drives_of, process_served}
 use Rattle.bus_due.specs.RunSteps.{run_state, is_for_process}
 use Rattle.bus_due.specs.Sights.{pace_of, serving_of, leaving}
 use Rattle.scsi_device.specs.Heard as hears
 use Rattle.scsi_device.specs.Heard.{Instructions, instructions, may_leave, is_said, is_known_item, is_of_scenario, is_served, is_opening, is_heard_process, is_heard_in, is_heard, is_to, is_true_turn, is_true_end, is_heard_on, is_heard_row, is_heard_after, heard}
+use Rattle.bus_due.proofs.Lookups.{named_none}
 
 -- ---- phases
-
-same_is : (x y : Bool) → same x y ≡ true → x ≡ y
-same_is true true e = refl
-same_is true false e = cc
-same_is false true e = cc
-same_is false false e = refl
 
 pub phase_same : (a b : LineSet) → same_phase a b ≡ true → phase_of a ≡ phase_of b
 phase_same a b e =
     let two = and_parts (same a.msg b.msg && same a.cd b.cd) (same a.io b.io) e in
     let three = and_parts (same a.msg b.msg) (same a.cd b.cd) two.0 in
-    let m : a.msg ≡ b.msg = same_is a.msg b.msg three.0 in
-    let c : a.cd ≡ b.cd = same_is a.cd b.cd three.1 in
-    let o : a.io ≡ b.io = same_is a.io b.io two.1 in
+    let m : a.msg ≡ b.msg = same_eq a.msg b.msg three.0 in
+    let c : a.cd ≡ b.cd = same_eq a.cd b.cd three.1 in
+    let o : a.io ≡ b.io = same_eq a.io b.io two.1 in
     λ i.
     if m i then (if o i then phases.MessageIn else phases.MessageOut)
     else if c i then (if o i then phases.Status else phases.Command)
@@ -99,13 +95,6 @@ unstruck s k n e phase = last_of (k.handshakes.answers == 0) (bus_of k).atn k.ex
     as_in = λ i. if plain i then nat_lt k.handshakes.requests (run_length_if (policy_of (serving_of s k n.target).def) (serving_of s k n.target).task) else follows_in (serving_of s k n.target) k.handshakes (bus_of k).atn (phase i)
 
 -- ---- what the opening names is what is served
-
-named_none : (said : Said) (p : Process) → is_process_named said (Some p) ≡ true → is_some said.aborts ≡ false
-named_none said p e = go said.aborts (and_parts (is_none said.aborts) (is_unit said.unit p.unit) (and_parts (is_none said.aborts && is_unit said.unit p.unit) (same_tag said.tag p.tag) e).0).0
-  where
-    go : (a : Option AbortKind) → is_none a ≡ true → is_some a ≡ false
-    go None f = refl
-    go (Some x) f = cc
 
 named_abort : (said : Said) (a : AbortDef) → is_abort_named said (Some a) ≡ true → is_some said.aborts ≡ true
 named_abort said a e = go said.aborts (and_parts (is_unit said.unit a.unit) (is_kind said.aborts a.what) e).1

@@ -4,7 +4,6 @@ pub mod Courses
 pub mod CourseBegins
 pub mod CourseAgrees
 pub mod CourseRows
-pub mod ReplySteps
 pub mod ReplyRows
 mod Places
 pub mod Fits

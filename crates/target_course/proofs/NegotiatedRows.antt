@@ -27,11 +27,11 @@ use Rattle.bus_dialogue.specs.declared.exchange.Hearing.{Hearing}
 use Rattle.bus_due.specs.LastingState.{Negotiated, has_negotiated, with_negotiated, pairs_without, negotiated_after_event, negotiated_after}
 use Rattle.bus_due.specs.Plain.{IsPlain, AreOfDevices}
 use Rattle.bus_due.specs.RunState.{RunState}
-use Rattle.bus_due.specs.RunSteps.{run_state, is_for_process, negotiated_by_connection, served_after, item_if, may_negotiate, naming_of, first_exchange, exchange_on, exchange_after, leaving_of}
+use Rattle.bus_due.specs.RunSteps.{run_state, is_for_process, negotiated_by_connection, served_after, item_if, may_negotiate, naming_of, first_exchange, exchange_on, exchange_after, leaving_of, events_of_row}
 use Rattle.bus_due.specs.Defs.{host_of}
 use Rattle.bus_due.specs.Sights.{hearing_of, leaving}
 use Rattle.bus_due.specs.Wants.{ready_of}
-use Rattle.target_course.specs.Negotiated.{NegotiatedValue, nobody_met, opened_in, met_by_opening, is_opening_left, met_by_connection, met_after_reset, met_after_event, met_after_events, negotiated_seen, is_open_to, HasMet, IsOpening, IsOpeningIf, IsNegotiatedOf, IsHeardSo, events_of_row}
+use Rattle.target_course.specs.Negotiated.{NegotiatedValue, nobody_met, opened_in, met_by_opening, is_opening_left, met_by_connection, met_after_reset, met_after_event, met_after_events, negotiated_seen, is_open_to, HasMet, IsOpening, IsOpeningIf, IsNegotiatedOf, IsHeardSo}
 use Rattle.target_course.specs.Progress.{is_phase_left}
 use Rattle.scsi_device.specs.Heard.{heard}
 use Rattle.target_course.proofs.HeardOpenings.{left_told, cause_stays, phase_stays}
@@ -51,8 +51,6 @@ none_of_eight x (suc (suc (suc (suc (suc zero))))) l = refl
 none_of_eight x (suc (suc (suc (suc (suc (suc zero)))))) l = refl
 none_of_eight x (suc (suc (suc (suc (suc (suc (suc zero))))))) l = refl
 none_of_eight x (suc (suc (suc (suc (suc (suc (suc (suc t)))))))) l = absurd (omega arith)
-
--- ---- what is kept of all pairs
 
 -- ---- where no opening lasts
 

@@ -7,15 +7,13 @@ use Rattle.scenario.specs.declared.value.Policy.{Policy}
 use Rattle.scenario.specs.declared.value.Policy.TheVariants as policies
 use Rattle.bus_dialogue.specs.declared.exchange.Task.{Task}
 use Rattle.bus_dialogue.specs.DataRuns.{run_at, run_in}
+use Rattle.scsi_device.proofs.Places.{weaker}
 
 both_past : (x y m : ℕ) → m ≤ x → m ≤ y → min x m ≡ min y m
 both_past x y m p q = min-eq_right p ∙ sym (min-eq_right q)
 
 least : (m : ℕ) → 0 ≤ m
 least m = omega arith
-
-weaker : (m n : ℕ) → m < n → m ≤ n
-weaker m n p = omega arith
 
 above_0 : (b m : ℕ) → 0 < m → 0 < min (suc b) m
 above_0 b m p = omega arith

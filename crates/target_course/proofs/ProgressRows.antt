@@ -25,16 +25,18 @@ use Rattle.bus_due.specs.RunState.{RunState, process_item, process_served}
 use Rattle.bus_due.specs.RunSteps.{run_state, progress_by_leaving, progress_after, leaving_of}
 use Rattle.bus_due.specs.Sights.{leaving, hearing_of}
 use Rattle.bus_due.specs.Telling.{id_of}
-use Rattle.target_course.specs.Progress.{no_counts, counted_if, counts_after, no_pair, half_of, pair_after, pair_at, counts_at, pairs_after, ProgressValue, no_progress, is_phase_left, progress_counted, progress_seen, counts_of, AreCounted, IsProgressOf, IsLeftSo, IsUncounted, AreExactly}
+use Rattle.target_course.specs.Progress.{no_counts, counts_after, no_pair, half_of, pair_after, pair_at, counts_at, pairs_after, ProgressValue, no_progress, is_phase_left, progress_counted, progress_seen, counts_of, AreCounted, IsProgressOf, IsLeftSo, IsUncounted, AreExactly}
 use Rattle.target_course.specs.declared.progress.Counts.{Counts}
 use Rattle.target_course.specs.declared.progress.CountsPair.{CountsPair}
 use Rattle.target_course.proofs.ServedEnds.{ends_are}
 use Rattle.disk_array.proofs.SeatLookups.{same_id_is}
 use Rattle.disk_array.proofs.SoundArrays.{id_is}
+use Rattle.bus_phases.specs.Phases.{count_after}
+use Rattle.bus_due.proofs.Lookups.{other_kept}
 
 -- ---- counts
 
-one_more : (n : ℕ) (now : Bool) → min (n + one_if now) (2 ^ 64 - 1) ≡ counted_if now (min n (2 ^ 64 - 1))
+one_more : (n : ℕ) (now : Bool) → min (n + one_if now) (2 ^ 64 - 1) ≡ count_after now (min n (2 ^ 64 - 1))
 one_more n true = omega arith
 one_more n false = omega arith
 
@@ -82,13 +84,6 @@ found_counted : (all : List ProcessProgress) (a id : ProcId) (l : Leaving) → s
 found_counted all a id l e =
     subst (λ (z : ProcId). counts_of (progress_in (progress_with all z l.done l.counts) id) ≡ counts_with all id l.done l.counts) (sym (same_id_is a id e))
     (self_counted all id l.done l.counts ((λ i. same_id (sym (same_id_is a id e) i) id) ∙ e))
-
-pub other_kept : (all : List ProcessProgress) (a id : ProcId) (x y : Bool) → same_id a id ≡ false → progress_in (progress_with all a x y) id ≡ progress_in all id
-other_kept all a id x y e = go (x || y)
-  where
-    go : (q : Bool) → progress_in (if q then entry_with all a x y ∷ all else all) id ≡ progress_in all id
-    go true = λ i. if e i then entry_with all a x y else progress_in all id
-    go false = refl
 
 counted_so : (all : List ProcessProgress) (id : ProcId) (l : Leaving) → counts_after (counts_of (progress_in all id)) l ≡ counts_with all id l.done l.counts
 counted_so all id l = λ i. record { runs = sym (one_more (progress_in all id).runs l.done) i; recoveries = sym (one_more (progress_in all id).recoveries l.counts) i }
@@ -177,7 +172,7 @@ left_by_other s k v m l ends other h = go (process_served s k) refl ends
 
 -- Nothing is counted.
 same_counts : (c : Counts) (l : Leaving) → IsUncounted l → counts_after c l ≡ c
-same_counts c l u = λ i. record { runs = counted_if (u.done i) c.runs; recoveries = counted_if (u.counts i) c.recoveries }
+same_counts c l u = λ i. record { runs = count_after (u.done i) c.runs; recoveries = count_after (u.counts i) c.recoveries }
 
 uncounted_kept : (s : ScenarioValue) (all : List ProcessProgress) (v : ProgressValue) (known : Option ProcId) (l : Leaving) → IsUncounted l → AreCounted s all v → AreCounted s all (progress_counted v known l)
 uncounted_kept s all v None l u h = h

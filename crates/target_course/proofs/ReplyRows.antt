@@ -14,7 +14,7 @@ use Rattle.bus_trace.specs.Trace.{bus}
 use Rattle.cdb_codec.specs.declared.sense.TheConstants.{PARITY_ERROR, INITIATOR_DETECTED_ERROR}
 use Rattle.scenario.specs.Value.{ScenarioValue}
 use Rattle.disk_array.proofs.SoundArrays
-use Rattle.disk_array.specs.ArrayHistory.{reply_in}
+use Rattle.disk_array.specs.ArrayHistory.{reply_in, shows_run}
 use Rattle.disk_array.specs.ArrayHistory as Play
 use Rattle.disk_array.specs.Execution.{Reply}
 use Rattle.disk_array.specs.Processes.{Process, process_of}
@@ -27,7 +27,7 @@ use Rattle.bus_due.specs.LastingState
 use Rattle.disk_unit.specs.declared.media.Plan.{Plan as UnitPlan}
 use Rattle.disk_unit.specs.declared.unit.Reply.{Reply as UnitReply}
 use Rattle.disk_unit.specs.Plans.{plan_of}
-use Rattle.disk_unit.specs.Units.{told_of}
+use Rattle.disk_unit.specs.Units.{told_of, planned_reply}
 use Rattle.bus_story.specs.BusState.{RowReading, row_reading}
 use Rattle.bus_story.specs.CarriedBytes.{CarriedBytes}
 use Rattle.bus_story.specs.HistoryEvents.{carried_if, end_events, is_completion, row_events_by}
@@ -54,12 +54,13 @@ use Rattle.bus_due.specs.Telling.{events_of_ends, events_of_ends_in, id_of, init
 use Rattle.bus_due.proofs.SameEvents.{events_are}
 use Rattle.scsi_device.specs.Heard.{Instructions, heard, instructions, is_beginning, is_heard, is_heard_after, is_heard_on, is_heard_row, is_new, is_uncounted}
 use Rattle.target_course.specs.Courses.{events_of_target}
-use Rattle.target_course.specs.Replies.{planned_reply, reply_after, shows_run, IsReplyOf, IsOutlookAt}
+use Rattle.target_course.specs.Replies.{reply_after, IsReplyOf, IsOutlookAt}
 use Rattle.target_units.specs.Seated.{reply_told}
 use Rattle.target_course.specs.States.{IsOwnConnection}
-use Rattle.target_course.proofs.ReplySteps.{accept_same, end_replies, fail_replies, refuse_replies, run_replies}
+use Rattle.target_units.proofs.ReplySteps.{accept_same, end_replies, fail_replies, refuse_replies, run_replies}
 use Rattle.bus_base.proofs.Tests.{or_second}
 use Rattle.target_units.proofs.Arrivals.{arrival_replies}
+use Rattle.bus_due.proofs.Lookups.{none_stays}
 
 -- ---- what a target shows as it turns to another phase
 
@@ -156,10 +157,6 @@ ends_keep s a b k d (Some l) h = go (is_completion l d.change) h
     go : (y : Bool) → array_after_events s (Some a) (if y then end_events (carried_if k.story l.item) else []) ≡ Some b → b.replies ≡ a.replies
     go true g = by (carried_if k.story l.item) g
     go false g = let same : a ≡ b = cc in λ i. (sym same i).replies
-
-pub none_stays : (s : ScenarioValue) (l : List Event) → array_after_events s None l ≡ None
-none_stays s [] = refl
-none_stays s (e ∷ l) = let rest : array_after_events s None l ≡ None = none_stays s l in λ i. Play.array_step s e (rest i)
 
 -- ---- a row in a connection of its own
 

@@ -16,12 +16,12 @@ use Rattle.bus_reactions.specs.Reset.{with_reset}
 use Rattle.bus_dialogue.specs.declared.exchange.Leaving.{Leaving}
 use Rattle.bus_dialogue.specs.NextPhase.{leaving_by}
 use Rattle.bus_dialogue.specs.Ends.{offering_by}
-use Rattle.bus_due.specs.Connected.{is_receiving}
 use Rattle.target_units.specs.declared.ready.Ready.{Ready}
 use Rattle.target_course.specs.declared.knowledge.Knowledge.{Knowledge}
 use Rattle.target_course.specs.Servings.{serving_with, AreBytesOf}
 use Rattle.scsi_device.specs.Told.{Told, told, pace_of, flip_by}
 use Rattle.target_course.specs.States.{TargetState, state_of}
+use Rattle.bus_rules.specs.Order.{is_of_device}
 
 abbrev pub myself_by : TargetDef → Told → TargetState → Myself
 myself_by d t i = record { dev = d.dev; latency = d.latency; own = t.lines; since = i.own.row }
@@ -52,7 +52,7 @@ plain_by d t i = due_of_offering d t i (pace_of t None) (offering_of_target t i)
 
 -- It samples a byte that crossed to it in the last row first.
 abbrev pub hand_by : TargetDef → Told → Option FaultDef → TargetState → Option Due
-hand_by d t f i = hand.sample_due (is_receiving t.receiver d.dev) t.last (flip_by f t.last) (plain_by d t i)
+hand_by d t f i = hand.sample_due (is_of_device t.receiver d.dev) t.last (flip_by f t.last) (plain_by d t i)
 
 abbrev pub connected_by : TargetDef → Told → Option FaultDef → TargetState → Connection → Option Due
 connected_by d t f i n = if n.target == d.dev then hand_by d t f i else None

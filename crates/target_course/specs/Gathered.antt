@@ -5,16 +5,13 @@ use Rattle.bus_base.specs.declared.ProcId.{ProcId}
 use Rattle.bus_trace.specs.Trace.{bus}
 use Rattle.bus_trace.specs.declared.Row.{Row}
 use Rattle.bus_trace.specs.declared.connection.Connection.{Connection}
-use Rattle.cdb_codec.specs.Cdb.{command_of}
-use Rattle.scenario.specs.Lookups.{unit_of}
-use Rattle.scenario.specs.Needs.{sent_of}
+use Rattle.scenario.specs.Needs.{sent_count}
 use Rattle.scenario.specs.Value.{ScenarioValue}
 use Rattle.scenario.specs.declared.value.CmdDef.{CmdDef}
 use Rattle.scenario.specs.declared.value.Policy.{Policy}
-use Rattle.disk_array.specs.Order.{range_in}
 use Rattle.disk_array.specs.Processes.{Process, process_of}
 use Rattle.bus_dialogue.specs.Arrivals.{policy_of}
-use Rattle.bus_dialogue.specs.DataRuns.{run_at, run_in}
+use Rattle.bus_dialogue.specs.DataRuns.{run_at}
 use Rattle.bus_dialogue.specs.NextPhase.{phase_of}
 use Rattle.bus_dialogue.specs.declared.exchange.Hearing.{Hearing}
 use Rattle.bus_dialogue.specs.declared.exchange.Phase.TheVariants as phases
@@ -23,9 +20,9 @@ use Rattle.bus_due.specs.Defs.{target_def_of}
 use Rattle.bus_due.specs.LastingState.{progress_in}
 use Rattle.bus_due.specs.RunState.{RunState, bus_of, process_served}
 use Rattle.bus_due.specs.RunSteps.{run_state}
-use Rattle.bus_due.specs.Tasks.{blocks_in, task_of}
+use Rattle.bus_due.specs.Tasks.{task_of}
 use Rattle.bus_due.specs.Telling.{id_of}
-use Rattle.scsi_device.specs.Writes.{brings_byte, block_size, writer_of, writers}
+use Rattle.scsi_device.specs.Writes.{brings_byte, writer_of, writers, start_of_run}
 use Rattle.target_units.specs.Seated.{is_same_process}
 use Rattle.target_course.specs.States.{IsOwnConnection}
 
@@ -72,11 +69,8 @@ gathered_with units n id place byte = slice_set units n (gathering_with (gatheri
 
 -- ---- before any row: room for the longest write of the scenario at the unit
 
-abbrev pub sent_room : ScenarioValue → CmdDef → ℕ
-sent_room s c = min (sent_of s c) (2 ^ 32 - 1)
-
 abbrev pub write_room : ScenarioValue → ℕ → ℕ → CmdDef → ℕ
-write_room s dev unit c = if c.target == dev && c.unit == unit then sent_room s c else 0
+write_room s dev unit c = if c.target == dev && c.unit == unit then sent_count s c else 0
 
 abbrev pub most_room : ScenarioValue → ℕ → ℕ → List CmdDef → ℕ
 most_room s dev unit [] = 0
@@ -138,10 +132,6 @@ IsAtUnit s rows dev w unit =
 
 -- ---- how much of it has come
 
--- Where the n-th run of a process begins, by the size of a block that the scenario says.
-abbrev pub run_start_of : ScenarioValue → Process → ℕ → ℕ
-run_start_of s p n = (run_in (policy_of (target_def_of s p.target)) (blocks_in (range_in (command_of p.cdb))) (block_size (unit_of s p.target p.unit)) 0 n).start
-
 -- So many bytes, of those that the process sends, have come to its unit.
 abbrev pub HasCome : GatheredValue → Process → ℕ → Type 0
 HasCome v p count = min count (length p.sent) ≤ length (gathering_at v.units p.unit).bytes
@@ -157,6 +147,6 @@ pub record IsRunningIn (s : ScenarioValue) (rows : List Row) (dev : ℕ) (p : Pr
 -- run as many bytes as crossed.
 pub record AreAllGathered (s : ScenarioValue) (rows : List Row) (v : GatheredValue) : Type 0 where
   pub owned : (id : ProcId) (p : Process) → process_of s id ≡ Some p → p.target ≡ v.dev → writer_of (writers s rows) p.target p.unit ≡ Some id → (gathering_at v.units p.unit).owner ≡ Some id
-  pub made : (id : ProcId) (p : Process) → process_of s id ≡ Some p → p.target ≡ v.dev → writer_of (writers s rows) p.target p.unit ≡ Some id → HasCome v p (run_start_of s p (progress_in (run_state s rows).progress id).runs)
+  pub made : (id : ProcId) (p : Process) → process_of s id ≡ Some p → p.target ≡ v.dev → writer_of (writers s rows) p.target p.unit ≡ Some id → HasCome v p (start_of_run s p (progress_in (run_state s rows).progress id).runs)
   pub present : (p : Process) (n : Connection) → IsRunningIn s rows v.dev p n → 0 < (run_state s rows).handshakes.answers → writer_of (writers s rows) p.target p.unit ≡ Some p.id
-  pub come : (p : Process) (n : Connection) → IsRunningIn s rows v.dev p n → writer_of (writers s rows) p.target p.unit ≡ Some p.id → HasCome v p (run_start_of s p (progress_in (run_state s rows).progress p.id).runs + (run_state s rows).handshakes.answers)
+  pub come : (p : Process) (n : Connection) → IsRunningIn s rows v.dev p n → writer_of (writers s rows) p.target p.unit ≡ Some p.id → HasCome v p (start_of_run s p (progress_in (run_state s rows).progress p.id).runs + (run_state s rows).handshakes.answers)

@@ -9,8 +9,6 @@ use Rattle.bus_trace.specs.Terms.{connection}
 use Rattle.bus_trace.specs.declared.Row.{Row}
 use Rattle.bus_trace.specs.declared.connection.Connection.{Connection}
 use Rattle.scenario.specs.Value.{ScenarioValue}
-use Rattle.bus_story.specs.BusState.{row_reading}
-use Rattle.bus_story.specs.HistoryEvents.{row_events_by}
 use Rattle.bus_dialogue.specs.NextPhase.{phase_of}
 use Rattle.bus_dialogue.specs.declared.exchange.Cause.TheVariants as causes
 use Rattle.bus_dialogue.specs.declared.exchange.Hearing.{Hearing}
@@ -119,7 +117,3 @@ pub record IsNegotiatedOf (s : ScenarioValue) (rows : List Row) (v : NegotiatedV
 -- In a connection of its own, while RST is false, whether the target has heard an abort in the present MESSAGE OUT phase.
 abbrev pub IsHeardSo : ScenarioValue → List Row → ℕ → Bool → Type 0
 IsHeardSo s rows dev aborts = (n : Connection) → IsOwnConnection rows dev n → (bus rows).rst ≡ false → aborts ≡ is_some (plan_at s rows).said.aborts
-
--- The events that a row shows, the newest first.
-abbrev pub events_of_row : ScenarioValue → List Row → Row → List Event
-events_of_row s rows row = row_events_by s (run_state s rows).story (row_reading (run_state s rows).story.bus_state row) row

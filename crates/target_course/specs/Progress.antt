@@ -1,7 +1,6 @@
 -- How far the processes of a target have come: the data runs that each has made, and the recoveries that were counted for
 -- it (6.6.10, 6.6.13, 6.6.19, 6.6.20).
 use Rattle.std.specs.Prelude.{ℕ, min, ◌≡◌, ◌⊎◌, ◌+◌, ◌-◌, ◌^◌, ◌==◌, ◌&&◌, Bool, true, false, List, length, replicate, Option, Some, None, slice_set, slice_index_or, if◌then◌else◌}
-use Rattle.bus_base.specs.Faults.{counted_on}
 use Rattle.bus_base.specs.declared.ProcId.{ProcId}
 use Rattle.bus_trace.specs.declared.Row.{Row}
 use Rattle.bus_trace.specs.declared.connection.Connection.{Connection}
@@ -17,18 +16,16 @@ use Rattle.target_course.specs.Plans.{leaving_after}
 use Rattle.target_course.specs.States.{IsOwnConnection}
 use Rattle.target_course.specs.declared.progress.Counts.{Counts}
 use Rattle.target_course.specs.declared.progress.CountsPair.{CountsPair}
+use Rattle.bus_phases.specs.Phases.{count_after}
 
 -- ---- of one process; a count stays at the last u64
 
 abbrev pub no_counts : Counts
 no_counts = record { runs = 0; recoveries = 0 }
 
-abbrev pub counted_if : Bool → ℕ → ℕ
-counted_if now count = if now then counted_on count else count
-
 -- A phase is left so.
 abbrev pub counts_after : Counts → Leaving → Counts
-counts_after c l = record { runs = counted_if l.done c.runs; recoveries = counted_if l.counts c.recoveries }
+counts_after c l = record { runs = count_after l.done c.runs; recoveries = count_after l.counts c.recoveries }
 
 -- ---- of each command its own, and those of its automatic REQUEST SENSE
 

@@ -1,27 +1,23 @@
 -- The reply of the process that the target of a connection serves, once it has one.
-use Rattle.std.specs.Prelude.{ℕ, ◌≡◌, Bool, true, false, List, [], ◌∷◌, ◌||◌, Option, Some, None}
+use Rattle.std.specs.Prelude.{ℕ, ◌≡◌, true, false, List, [], ◌∷◌, Option, Some, None}
 use Rattle.bus_base.specs.declared.Event.{Event}
 use Rattle.bus_base.specs.declared.Event.TheVariants as events
 use Rattle.bus_trace.specs.declared.Row.{Row}
 use Rattle.bus_trace.specs.declared.connection.Connection.{Connection}
 use Rattle.bus_trace.specs.Trace.{bus}
 use Rattle.scenario.specs.Value.{ScenarioValue}
-use Rattle.disk_array.specs.ArrayHistory.{reply_in}
-use Rattle.disk_array.specs.Execution.{queue_full}
+use Rattle.disk_array.specs.ArrayHistory.{reply_in, shows_run}
+use Rattle.disk_array.specs.Execution.{queue_full, aborted_reply}
 use Rattle.disk_array.specs.Processes.{Process}
 use Rattle.disk_unit.specs.declared.media.Plan.{Plan}
 use Rattle.disk_unit.specs.declared.unit.Reply.{Reply as UnitReply}
 use Rattle.disk_unit.specs.Plans.{plan_of}
-use Rattle.disk_unit.specs.Units.{told_of}
+use Rattle.disk_unit.specs.Units.{told_of, planned_reply}
 use Rattle.bus_due.specs.RunState.{array_of, process_served}
 use Rattle.bus_due.specs.RunSteps.{run_state}
 use Rattle.bus_due.specs.Tasks.{reply_now}
-use Rattle.target_units.specs.Seated.{aborted_reply, reply_told}
+use Rattle.target_units.specs.Seated.{reply_told}
 use Rattle.target_course.specs.States.{IsOwnConnection}
-
--- It is given where the process runs, as its command would end then, or fails, or is refused.
-abbrev pub planned_reply : Plan → UnitReply
-planned_reply plan = record { status = plan.status; len = plan.in_len; sense = plan.sense }
 
 abbrev pub reply_with : Plan → Event → Option UnitReply → Option UnitReply
 reply_with plan (events.Run id) was = Some (planned_reply plan)
@@ -41,20 +37,6 @@ reply_if plan (Some e) was = reply_with plan e was
 abbrev pub reply_after : Plan → List Event → Option UnitReply → Option UnitReply
 reply_after plan [] was = was
 reply_after plan (e ∷ shown) was = reply_with plan e (reply_after plan shown was)
-
-abbrev pub is_run : Event → Bool
-is_run (events.Run id) = true
-is_run (events.Fail id code) = false
-is_run (events.Refuse id) = false
-is_run (events.Accept id) = false
-is_run (events.End id status) = false
-is_run (events.Lost id) = false
-is_run (events.Aborted host target unit what) = false
-is_run (events.Reset dev) = false
-
-abbrev pub shows_run : List Event → Bool
-shows_run [] = false
-shows_run (e ∷ shown) = is_run e || shows_run shown
 
 -- In a connection of its own, while RST is false.
 abbrev pub IsReplyOf : ScenarioValue → List Row → ℕ → Option UnitReply → Type 0

@@ -1,12 +1,8 @@
 -- What a row shows, as a list of events, the newest first.
-use Rattle.std.specs.Prelude.{List, [], ◌∷◌, Option, Some, None}
+use Rattle.std.specs.Prelude.{List}
 use Rattle.bus_base.specs.declared.Event.{Event}
-use Rattle.bus_dialogue.specs.Events.{newest_with}
+use Rattle.bus_dialogue.specs.Events.{newest_with, event_if}
 use Rattle.target_course.specs.declared.events.Shown.{Shown}
-
-abbrev pub event_if : Option Event → List Event
-event_if None = []
-event_if (Some e) = e ∷ []
 
 abbrev pub shown_list : Shown → List Event
 shown_list s = newest_with (event_if s.second) (event_if s.event)

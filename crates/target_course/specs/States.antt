@@ -5,7 +5,6 @@ use Rattle.bus_trace.specs.declared.Row.{Row}
 use Rattle.bus_trace.specs.declared.connection.Connection.{Connection}
 use Rattle.scenario.specs.declared.value.TargetDef.{TargetDef}
 use Rattle.scenario.specs.Value.{ScenarioValue}
-use Rattle.bus_story.specs.TraceHistory.{is_host}
 use Rattle.bus_trace.specs.Trace.{bus, drives}
 use Rattle.bus_lines.specs.Handshakes.{handshakes}
 use Rattle.bus_reactions.specs.declared.ends.Offering.{Offering}
@@ -25,6 +24,7 @@ use Rattle.target_units.specs.declared.ready.Ready.{Ready}
 use Rattle.target_course.specs.declared.knowledge.Knowledge.{Knowledge}
 use Rattle.target_course.specs.Fits.{AreFit}
 use Rattle.target_course.specs.Servings.{serving_with}
+use Rattle.disk_array.specs.Seats.{is_initiator}
 
 -- ---- what it knows itself
 
@@ -70,7 +70,7 @@ pub record IsTargetLine (s : ScenarioValue) (t : TargetDef) : Type 0 where
   pub below : t.dev < 8
   pub target_is : target_def_of s t.dev ≡ Some t
   pub no_host : host_of s t.dev ≡ None
-  pub is_none : is_host s.hosts t.dev ≡ false
+  pub is_none : is_initiator s.hosts t.dev ≡ false
 
 -- It is the initiator of no connection.
 pub record IsNoInitiator (rows : List Row) (dev : ℕ) : Type 0 where

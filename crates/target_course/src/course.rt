@@ -40,6 +40,7 @@ use bus_dialogue::{Cause, Hearing, Leaving, Messages, Plan, Room, Said, Task};
 use bus_due::{hearings_are_plain, kept_is_plain};
 use bus_trace::{Connection, changes_phase, is_command, is_message_out};
 use cdb_codec::{GOOD, from_cdb};
+use disk_array::tag_number;
 use msg_grammar::MsgIn;
 use scenario::{Tag, TargetDef};
 use std::marker::Model;
@@ -95,15 +96,6 @@ impl Model for Course {
     ghost view = { λ c. record { id = c.id; plan = c.plan; named = c.named; block = c.block.items; known = c.known } };
 
     ghost invariant = { λ c. (length c.block.items ≤ 11) × AreFit c.plan.messages };
-}
-
-fn tag_number(tag: Tag) -> Option<u8>
-    ensures { result ≡ tag_number tag }
-{
-    match tag {
-        Tag::Untagged => None,
-        Tag::Simple(number) | Tag::Ordered(number) | Tag::Head(number) => Some(number),
-    }
 }
 
 fn class_of(tag: Tag) -> Class

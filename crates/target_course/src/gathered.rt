@@ -2,7 +2,7 @@
 ghost use Rattle.std.specs.Prelude.{ℕ, ◌≡◌, ◌<◌, ◌≤◌, ◌+◌, [], ◌∷◌, List, Some, true, length, take, IfOk};
 ghost use Rattle.bus_trace.specs.declared.Row.{Row};
 ghost use Rattle.bus_trace.specs.Terms.{connection as connection_after};
-ghost use Rattle.scenario.specs.Needs.{is_write};
+ghost use Rattle.scenario.specs.Needs.{is_write, sent_count};
 ghost use Rattle.scenario.specs.Value.{ScenarioValue};
 ghost use Rattle.disk_array.specs.Processes.{Process, process_of};
 ghost use Rattle.bus_dialogue.specs.Hearing.{hearing as hearing_in};
@@ -11,8 +11,8 @@ ghost use Rattle.bus_due.specs.LastingState.{progress_in};
 ghost use Rattle.bus_due.specs.Plain.{AreOfDevices};
 ghost use Rattle.bus_due.specs.RunSteps.{run_state};
 ghost use Rattle.scsi_device.specs.Lines.{FitsBus};
-ghost use Rattle.scsi_device.specs.Writes.{is_data_out, brings_byte, written};
-ghost use Rattle.target_course.specs.Gathered.{empty_gathering, gathering_of, gathering_with, bytes_of, gathering_at, gathered_with, sent_room, write_room, unit_room, empty_unit, nothing_gathered, gathered_seen, place_in_run, run_start_of, IsRunningIn, IsGatheredOf, AreAllGathered, IsSentSo, IsAtUnit};
+ghost use Rattle.scsi_device.specs.Writes.{is_data_out, brings_byte, written, start_of_run};
+ghost use Rattle.target_course.specs.Gathered.{empty_gathering, gathering_of, gathering_with, bytes_of, gathering_at, gathered_with, write_room, unit_room, empty_unit, nothing_gathered, gathered_seen, place_in_run, IsRunningIn, IsGatheredOf, AreAllGathered, IsSentSo, IsAtUnit};
 ghost use Rattle.target_units.specs.Seated.{is_same_process};
 
 use crate::data_runs::run_start;
@@ -22,7 +22,7 @@ use bus_dialogue::{Hearing, Phase, Task};
 use bus_due::{hearings_are_plain, kept_is_plain};
 use bus_trace::{Connection, rows_change_one_device};
 use cdb_codec::{CdbFault, Command, from_cdb};
-use scenario::{CmdDef, Policy, Scenario, need};
+use scenario::{CmdDef, Policy, Scenario, need, sent_count};
 use scsi_device::scenarios_fit_the_bus;
 use std::alloc::Global;
 use std::marker::Model;
@@ -71,31 +71,11 @@ fn is_owner(owner: Option<ProcId>, id: ProcId) -> bool
     }
 }
 
-fn is_write(command: Result<Command, CdbFault>) -> bool
-    ensures { result ≡ is_write command }
-{
-    match command {
-        Ok(Command::Write6 { .. } | Command::Write10 { .. }) => true,
-        _ => false,
-    }
-}
-
-#[tactic(auto, unfolding(scenario::specs::Needs::sent_of))]
-fn sent_room(scenario: &Scenario, def: &CmdDef) -> u32
-    ensures { result ≡ sent_room scenario.now def.now }
-{
-    if is_write(from_cdb(def.cdb.as_slice())) {
-        need(scenario, def)
-    } else {
-        0
-    }
-}
-
 fn write_room(scenario: &Scenario, dev: Dev, unit: u8, def: &CmdDef) -> u32
     ensures { result ≡ write_room scenario.now dev unit def.now }
 {
     if def.target == dev && def.unit == unit {
-        sent_room(scenario, def)
+        sent_count(scenario, def)
     } else {
         0
     }
@@ -250,7 +230,7 @@ impl Gathered {
         ensures whole { (s : ScenarioValue) (rows : List Row) (p : Process) (n : Connection) → IsGatheredOf s self.now
             → AreAllGathered s rows self.now → IsRunningIn s rows self.now.dev p n → p.target ≡ self.now.dev
             → unit ≡ p.unit → id ≡ p.id → count ≡ length p.sent → 0 < (run_state s rows).handshakes.answers
-            → length p.sent ≤ run_start_of s p (progress_in (run_state s rows).progress p.id).runs
+            → length p.sent ≤ start_of_run s p (progress_in (run_state s rows).progress p.id).runs
             + (run_state s rows).handshakes.answers → result.now ≡ p.sent }
     {
         self.held(unit, id, count)

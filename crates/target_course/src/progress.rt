@@ -10,11 +10,13 @@ ghost use Rattle.bus_due.specs.Faithful.{faithful};
 ghost use Rattle.bus_due.specs.LastingState.{progress_in};
 ghost use Rattle.bus_due.specs.Plain.{AreOfDevices};
 ghost use Rattle.bus_due.specs.RunSteps.{run_state};
-ghost use Rattle.target_course.specs.Progress.{no_counts, counted_if, counts_after, no_pair, half_of, pair_after, counts_at, no_progress, is_phase_left, progress_counted, progress_seen, counts_of, IsProgressOf, IsLeftSo, AreExactly};
+ghost use Rattle.target_course.specs.Progress.{no_counts, counts_after, no_pair, half_of, pair_after, counts_at, no_progress, is_phase_left, progress_counted, progress_seen, counts_of, IsProgressOf, IsLeftSo, AreExactly};
+ghost use Rattle.bus_phases.specs.Phases.{count_after};
 
 use bus_base::{Dev, NoMemory, ProcId};
 use bus_dialogue::{Hearing, Leaving};
 use bus_due::{hearings_are_plain, kept_is_plain};
+use bus_phases::count_after;
 use bus_trace::{Connection, changes_phase};
 use scenario::Scenario;
 use std::alloc::Global;
@@ -54,12 +56,6 @@ impl Model for Progress {
     ghost view = { λ a. record { dev = a.dev; pairs = a.pairs.items } };
 }
 
-fn counted_if(now: bool, count: u64) -> u64
-    ensures { result ≡ counted_if now count }
-{
-    if now { count.saturating_add(1) } else { count }
-}
-
 fn no_counts() -> Counts
     ensures { result ≡ no_counts }
 {
@@ -84,8 +80,8 @@ impl Counts {
         ensures { result ≡ counts_after self leaving.now }
     {
         Counts {
-            runs: counted_if(leaving.done, self.runs),
-            recoveries: counted_if(leaving.counts, self.recoveries),
+            runs: count_after(leaving.done, self.runs),
+            recoveries: count_after(leaving.counts, self.recoveries),
         }
     }
 }

@@ -5,67 +5,28 @@ ghost use Rattle.bus_trace.specs.declared.connection.Connection.{Connection};
 ghost use Rattle.bus_trace.specs.Terms.{connection};
 ghost use Rattle.bus_trace.specs.Trace.{bus};
 ghost use Rattle.scenario.specs.Value.{ScenarioValue};
-ghost use Rattle.disk_array.specs.Execution.{queue_full};
+ghost use Rattle.disk_array.specs.Execution.{queue_full, aborted_reply};
 ghost use Rattle.disk_array.specs.SoundArray.{HasSeats};
-ghost use Rattle.disk_unit.specs.Units.{told_of};
+ghost use Rattle.disk_unit.specs.Units.{told_of, planned_reply};
 ghost use Rattle.bus_due.specs.Allowed.{allowed};
 ghost use Rattle.bus_due.specs.Plain.{AreOfDevices};
 ghost use Rattle.bus_due.specs.Telling.{telling};
 ghost use Rattle.scsi_device.specs.Heard.{heard};
 ghost use Rattle.target_course.specs.Courses.{events_of_target};
-ghost use Rattle.target_course.specs.Replies.{planned_reply, reply_if, reply_after, IsReplyOf, IsOutlookAt};
-ghost use Rattle.target_units.specs.Seated.{aborted_reply};
+ghost use Rattle.target_course.specs.Replies.{reply_if, reply_after, IsReplyOf, IsOutlookAt};
 ghost use Rattle.target_course.specs.Shown.{shown_list};
 ghost use Rattle.target_course.specs.States.{IsOwnConnection};
 
 use crate::events::Shown;
 use bus_base::Event;
 use bus_due::{hearings_are_plain, kept_is_plain};
-use cdb_codec::{ABORTED_COMMAND, CHECK_CONDITION, QUEUE_FULL, Sense};
-use disk_unit::{Plan, Reply};
-
-// As its command would end.
-fn planned_reply(plan: &Plan) -> Reply
-    ensures { result ≡ planned_reply plan.now }
-{
-    Reply {
-        status: plan.status,
-        len: plan.in_len as usize,
-        sense: plan.sense,
-    }
-}
-
-// It gave up with this code (8.2.14.3).
-fn aborted_reply(code: u8) -> Reply
-    ensures { result ≡ told_of (aborted_reply code) }
-{
-    Reply {
-        status: CHECK_CONDITION,
-        len: 0,
-        sense: Some(Sense {
-            key: ABORTED_COMMAND,
-            asc: code,
-            ascq: 0x00,
-        }),
-    }
-}
-
-// The queue is full (7.3, 7.8.2).
-fn refusal() -> Reply
-    ensures { result ≡ told_of queue_full }
-{
-    Reply {
-        status: QUEUE_FULL,
-        len: 0,
-        sense: None,
-    }
-}
+use disk_unit::{Plan, Reply, aborted_reply, planned_reply, refusal};
 
 fn reply_with(was: Option<Reply>, event: Option<Event>, plan: &Plan) -> Option<Reply>
     ensures { result ≡ reply_if plan.now event was }
 {
     match event {
-        Some(Event::Run(_)) => Some(planned_reply(plan)),
+        Some(Event::Run(_)) => Some(planned_reply(*plan)),
         Some(Event::Fail(_, code)) => Some(aborted_reply(code)),
         Some(Event::Refuse(_)) => Some(refusal()),
         _ => was,

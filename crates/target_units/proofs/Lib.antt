@@ -9,7 +9,7 @@ pub mod Rooms
 pub mod Arrivals
 pub mod UnitSteps
 pub mod UnitRuns
-pub mod Holds
 pub mod UnitTellings
 pub mod Sendings
 pub mod Starts
+pub mod ReplySteps

@@ -4,7 +4,7 @@ use Rattle.std.specs.Prelude.{if◌then◌else◌, ◌==◌, ◌||◌}
 use Rattle.std.specs.List.{list_any}
 use Rattle.std.proofs.lemmas.Bool.{eqb-true, eq-eqb}
 use Rattle.bus_base.specs.declared.ProcId.{ProcId}
-use Rattle.bus_base.proofs.Tests.{wrong}
+use Rattle.bus_base.proofs.Tests.{wrong, eq_self}
 use Rattle.cdb_codec.specs.Cdb.{command_of}
 use Rattle.scenario.specs.declared.value.HostDef.{HostDef}
 use Rattle.disk_array.specs.Execution.{Reply, is_request_sense}
@@ -12,10 +12,12 @@ use Rattle.disk_array.specs.Processes.{Process, same_id}
 use Rattle.disk_array.specs.Units.{RunningProcess, UnitState, guest_at, without_guest}
 use Rattle.disk_array.specs.Steps.{running_if, guests_with_reply, kept_guests}
 use Rattle.disk_array.specs.Seats.{is_initiator}
+use Rattle.disk_array.proofs.SeatReplies.{id_self}
+use Rattle.disk_array.proofs.SeatLookups.{same_id_is}
 use Rattle.tag_queue.specs.Queue.{Queued, has_key, key_of_process}
 use Rattle.disk_unit.specs.Books.{UnitBooks}
 use Rattle.disk_unit.specs.LiveCommands.{LiveCommand, HasLive, IsCurrentOf, AreApart, queued_of, waiting_processes, process_under, has_process, live_but}
-use Rattle.disk_unit.proofs.LiveCommands.{same_id_is, id_self, eqb_self, key_found, process_found, entry_found}
+use Rattle.disk_unit.proofs.LiveCommands.{process_found, entry_found, apart_key}
 use Rattle.bus_due.specs.RunSteps.{is_same_running}
 use Rattle.target_units.specs.Seated.{AreQueued, running_id, entry_id, id_under, current_id, is_same_process}
 
@@ -44,15 +46,6 @@ current_is l u b h = (λ i. id_under (h.arrived i) b.queue.current) ∙ go b.que
 
 -- ---- look-ups
 
-apart_key : (x : LiveCommand) (l : List LiveCommand) (key : ℕ) (p : Process) → has_key (queued_of l) x.key ≡ false → process_under l key ≡ Some p → (x.key == key) ≡ false
-apart_key x l key p h k = go (x.key == key) refl
-  where
-    go : (y : Bool) → (x.key == key) ≡ y → y ≡ false
-    go false z = refl
-    go true z =
-        let same : x.key ≡ key = eqb-true x.key key z in
-        wrong (sym (subst (λ (n : ℕ). has_key (queued_of l) n ≡ true) (sym same) (key_found l key p k)) ∙ h)
-
 pub record IsFound (l : List LiveCommand) (key : ℕ) (id : ProcId) : Type 0 where
   pub process : Process
   pub under : process_under l key ≡ Some process
@@ -65,7 +58,7 @@ found (x ∷ l) id key a h = go (same_id x.process.id id) refl h (λ k. found l 
     go : (y : Bool) → same_id x.process.id id ≡ y → (if y then Some x.key else key_of_process (queued_of l) id) ≡ Some key → (key_of_process (queued_of l) id ≡ Some key → IsFound l key id) → IsFound (x ∷ l) key id
     go true e k more =
         let same : x.key ≡ key = cc in
-        let self : (x.key == x.key) ≡ true = eqb_self x.key in
+        let self : (x.key == x.key) ≡ true = eq_self x.key in
         record {
           process = x.process;
           under = subst (λ (n : ℕ). process_under (x ∷ l) n ≡ Some x.process) same (λ i. if self i then Some x.process else process_under l x.key);

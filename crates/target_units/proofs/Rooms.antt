@@ -25,8 +25,8 @@ use Rattle.disk_array.specs.Processes.{Process, process_of, process_if, process_
 use Rattle.disk_array.specs.Seats.{seat_of, contents_of, context_of}
 use Rattle.disk_array.specs.SoundArray.{IsOwn}
 use Rattle.disk_array.specs.Units.{Array, UnitState, starting_array, starting_unit, starting_units, settled_array, unit_state_at}
+use Rattle.disk_array.proofs.SeatReplies.{id_self}
 use Rattle.disk_unit.specs.Disk.{blocks_written, blocks_written_by, written_of}
-use Rattle.disk_unit.proofs.LiveCommands.{id_self}
 use Rattle.scsi_device.specs.Lines.{FitsBus, IsCommandLine}
 use Rattle.scsi_device.proofs.FitLines.{command_fits, unit_fits}
 use Rattle.scsi_device.proofs.SentBytes.{process_few}
@@ -36,6 +36,7 @@ use Rattle.target_units.specs.Units.{HaveRoom, spare_of, unit_in}
 use Rattle.target_units.specs.Rooms.{blocks_left, blocks_left_at, IsOfLine, AreOfLines, HasRoomFor}
 use Rattle.target_units.proofs.Starts.{start_settled}
 use Rattle.target_units.proofs.UnitTimes.{HasSameExtent, extent_self, extent_more, AreSame, HasMore, one_more, IsLater, step_later}
+use Rattle.disk_array.proofs.SeatLookups.{never_first}
 
 -- ---- the blocks of a unit stay those of its line
 
@@ -302,10 +303,6 @@ no_blocks (Ok (commands.Inquiry room)) = refl
 no_blocks (Ok commands.ReadCapacity) = refl
 no_blocks (Ok (commands.Read10 lba count)) = either 0 (nat_lt lba 0 && nat_le (lba + count) 0)
 no_blocks (Ok (commands.Write10 lba count)) = let none : nat_lt lba 0 ≡ false = grind (arith, nat_tests) in λ i. if none i && nat_le (lba + count) 0 then count else 0
-
-never_first : (cs : List CmdDef) (c : CmdDef) → command_at cs zero ≡ Some c → ⊥
-never_first [] c e = cc
-never_first (d ∷ cs) c e = cc
 
 -- What it writes is among what is left, and is left no more once it has a reply.
 pub among : (s : ScenarioValue) (a : Array) (dev n : ℕ) (p : Process) (new : List (ProcId × Reply)) (r : Reply) → FitsBus s → AreOfLines s a → IsOwn s dev n p → p.id.sense ≡ false → reply_in a.replies p.id ≡ None → HasMore a.replies new → reply_in new p.id ≡ Some r

@@ -18,13 +18,15 @@ use Rattle.cdb_codec.specs.Cdb.{command_of}
 use Rattle.scenario.specs.declared.value.HostDef.{HostDef}
 use Rattle.disk_array.specs.declared.entries.Entry.{Entry}
 use Rattle.disk_array.specs.Contents.{Contents}
-use Rattle.disk_array.specs.Execution.{Reply, CommandContext, Execution, execution, attention_execution, heeds_attention, needs_unit, unit_not_supported, cdb_execution, command_execution, reply_execution, check_condition, block_out_of_range, is_good_range, range_of, is_request_sense, queue_full}
+use Rattle.disk_array.specs.Execution.{Reply, CommandContext, Execution, execution, attention_execution, heeds_attention, needs_unit, unit_not_supported, cdb_execution, command_execution, reply_execution, check_condition, block_out_of_range, is_good_range, range_of, is_request_sense, queue_full, aborted_reply}
 use Rattle.disk_array.specs.Order.{entry_of, choice}
 use Rattle.disk_array.specs.Processes.{Process, same_id}
 use Rattle.disk_array.specs.Units.{RunningProcess, UnitState, with_current, has_no_current, guest_at, without_guest}
 use Rattle.disk_array.specs.Steps.{process_count, running_if, current_with_reply, unit_without, guests_with_reply, kept_running, kept_guests, has_tag}
 use Rattle.disk_array.specs.Seats
 use Rattle.disk_array.specs.Seats.{Seat, unit_with_choice, unit_with_reply, unit_with_contents, unit_kept}
+use Rattle.disk_array.proofs.SeatReplies.{id_self}
+use Rattle.disk_array.proofs.SeatLookups.{same_id_is}
 use Rattle.tag_queue.specs.Queue.{key_of_process}
 use Rattle.tag_queue.specs.declared.those.Those.TheVariants as those
 use Rattle.disk_unit.specs.AtSeats.{IsUnitAt}
@@ -40,10 +42,10 @@ use Rattle.disk_unit.specs.declared.unit.Accepted.{Accepted}
 use Rattle.disk_unit.specs.declared.unit.Accepted.TheVariants as accepted
 use Rattle.disk_unit.specs.declared.unit.Reply.{Reply as UnitReply}
 use Rattle.disk_unit.proofs.AtSeats as seats
-use Rattle.disk_unit.proofs.LiveCommands.{id_self, same_id_is, process_found, room_is}
+use Rattle.disk_unit.proofs.LiveCommands.{process_found, room_is}
 use Rattle.bus_due.specs.RunSteps.{is_same_running}
 use Rattle.target_units.specs.Rooms.{HasRoomFor}
-use Rattle.target_units.specs.Seated.{SeatedState, IsSeated, IsAtSeat, IsSince, current_reply, reply_told, current_id, running_id, is_same_process, seat_time, settled, since_after, reply_kept, with_books, AreQueued, IsProcess, IsNew, IsArrived, IsRun, IsRunLive, can_run, taken_at, HasSent, aborted_reply, state_after_failure, state_after_end, state_ended, state_after_loss, books_after_guest, books_by_guest, IsSensing, IsCut}
+use Rattle.target_units.specs.Seated.{SeatedState, IsSeated, IsAtSeat, IsSince, current_reply, reply_told, current_id, running_id, is_same_process, seat_time, settled, since_after, reply_kept, with_books, AreQueued, IsProcess, IsNew, IsArrived, IsRun, IsRunLive, can_run, taken_at, HasSent, state_after_failure, state_after_end, state_ended, state_after_loss, books_after_guest, books_by_guest, IsSensing, IsCut}
 use Rattle.target_units.proofs.LiveQueue as queue
 
 some_none : {A : Type 0} {X : Type 0} (x : A) → None ≡ Some x → X

@@ -17,9 +17,11 @@ use Rattle.disk_array.specs.Units.{RunningProcess, UnitState, Array, unit_state_
 use Rattle.disk_array.specs.Steps.{step, has_ended, running_if}
 use Rattle.disk_array.specs.Seats
 use Rattle.disk_array.specs.Seats.{Seat, seat_of, seat_if, settled_seat, settled_seat_if, current_of, is_elsewhere, is_of_other_unit}
-use Rattle.disk_array.specs.SoundArray.{IsSound, HasSeats, IsOwn, IsOwnUnit, IsOwnRunning, AllOwnUnits}
+use Rattle.disk_array.specs.SoundArray.{IsSound, HasSeats, IsOwn, IsOwnRunning}
 use Rattle.disk_array.proofs.SeatLaws as laws
-use Rattle.disk_unit.proofs.LiveCommands.{id_self, same_id_is}
+use Rattle.disk_array.proofs.SeatReplies.{id_self}
+use Rattle.disk_array.proofs.SeatLookups.{same_id_is}
+use Rattle.disk_array.proofs.SeatOwn.{own_found}
 use Rattle.bus_due.specs.Wants.{since_of}
 use Rattle.bus_due.specs.RunSteps.{is_same_running, current_times_after}
 use Rattle.target_units.specs.declared.logical.LogicalUnit.{LogicalUnit}
@@ -279,14 +281,6 @@ all_reset s event a b times now dev units last st h seat eight each = record {
 
 -- ---- the process that runs
 
-pub own_unit : (s : ScenarioValue) (us : List UnitState) (t n : ℕ) (u : UnitState) → AllOwnUnits s us → unit_state_at us t n ≡ Some u → IsOwnUnit s u
-own_unit s [] t n u h e = cc
-own_unit s (v ∷ us) t n u h e = go (v.target == t && v.unit == n) e (λ k. own_unit s us t n u h.1 k)
-  where
-    go : (y : Bool) → (if y then Some v else unit_state_at us t n) ≡ Some u → (unit_state_at us t n ≡ Some u → IsOwnUnit s u) → IsOwnUnit s u
-    go true k more = let same : v ≡ u = cc in subst (λ (z : UnitState). IsOwnUnit s z) same h.0
-    go false k more = more k
-
 -- A current process of this number is that process.
 own_current : (s : ScenarioValue) (t n : ℕ) (c : Option RunningProcess) (r : RunningProcess) (p : Process) → IsOwnRunning s t n c → running_if c p.id ≡ Some r → process_of s p.id ≡ Some p → r.process ≡ p
 own_current s t n None r p h e is = cc
@@ -311,7 +305,7 @@ running_there s a dev n u p after sound own there none e =
     go : (x : Option RunningProcess) → running_if u.current p.id ≡ x → Seats.seat_after_run_of (seat_of a dev n) false x ≡ Some after → x ≡ Some (record { process = p; reply = None })
     go None f k = cc
     go (Some r) f k =
-        let same : r.process ≡ p = own_current s u.target u.unit u.current r p (own_unit s a.units dev n u sound.units there).current f own.is in
+        let same : r.process ≡ p = own_current s u.target u.unit u.current r p (own_found s a.units dev n u sound.units there).current f own.is in
         unanswered r.reply refl k same
       where
         unanswered : (y : Option Reply) → r.reply ≡ y → (if is_none y && (false || not (Seats.is_any_held (seat_of a dev n).hold)) then Some (Seats.seat_with_execution (seat_of a dev n) r.process (execution (Seats.context_of (seat_of a dev n) r.process.initiator) r.process.cdb r.process.sent)) else None) ≡ Some after → r.process ≡ p → Some r ≡ Some (record { process = p; reply = None })

@@ -15,9 +15,9 @@ use Rattle.bus_due.specs.Tasks.{room_of, size_of, reply_now}
 use Rattle.target_units.specs.Readies.{ready_unit}
 use Rattle.target_units.specs.Seated.{room_at}
 use Rattle.target_units.specs.Units.{room_if, first_unit, is_before}
-use Rattle.target_units.proofs.UnitSteps.{own_unit}
 use Rattle.disk_array.proofs.SeatSteps.{held_at}
 use Rattle.disk_array.proofs.SeatLookups.{found_target, found_unit}
+use Rattle.disk_array.proofs.SeatOwn.{own_found}
 
 -- ---- a unit that is found
 
@@ -38,20 +38,16 @@ room_is s a dev n sound = go (unit_state_at a.units dev n) refl
 
 -- ---- what is ready first
 
-current_same : (x : Option UnitState) → Seats.current_of x ≡ due.current_of x
-current_same None = refl
-current_same (Some u) = refl
-
 pub ready_is : (s : ScenarioValue) (a : Array) (times : List ℕ) (dev seek n : ℕ) → IsSound s a
     → ready_unit (wants.ready_in (Seats.is_any_held (seat_of a dev n).hold) (Seats.current_of (seat_of a dev n).unit) (due.since_of a.units times dev n + seek)) ≡ ready_unit (due.ready_at a times seek dev n)
-ready_is s a times dev seek n sound = λ i. ready_unit (wants.ready_in (sym (held_is s a dev n sound) i) (current_same (unit_state_at a.units dev n) i) (due.since_of a.units times dev n + seek))
+ready_is s a times dev seek n sound = λ i. ready_unit (wants.ready_in (sym (held_is s a dev n sound) i) (Seats.current_of (unit_state_at a.units dev n)) (due.since_of a.units times dev n + seek))
 
 pub own_number : (s : ScenarioValue) (a : Array) (dev n : ℕ) → IsSound s a → (r : RunningProcess) → Seats.current_of (seat_of a dev n).unit ≡ Some r → r.process.unit ≡ n
 own_number s a dev n sound r e = go (unit_state_at a.units dev n) refl e
   where
     go : (x : Option UnitState) → unit_state_at a.units dev n ≡ x → Seats.current_of x ≡ Some r → r.process.unit ≡ n
     go None f k = cc
-    go (Some u) f k = running u.current (own_unit s a.units dev n u sound.units f).current k ∙ found_unit a.units dev n u f
+    go (Some u) f k = running u.current (own_found s a.units dev n u sound.units f).current k ∙ found_unit a.units dev n u f
       where
         running : (c : Option RunningProcess) → IsOwnRunning s u.target u.unit c → c ≡ Some r → r.process.unit ≡ u.unit
         running None own m = cc

@@ -29,6 +29,7 @@ use Rattle.disk_array.specs.Steps
 use Rattle.disk_array.specs.Steps.{event_step, step, settled_array_if}
 use Rattle.disk_array.specs.Seats.{current_of}
 use Rattle.disk_array.proofs.SeatLookups.{found_target, found_unit}
+use Rattle.disk_array.proofs.SeatReplies.{found_id}
 use Rattle.bus_due.specs.Wants.{since_of}
 use Rattle.bus_due.specs.RunSteps.{is_same_running, current_times_after}
 use Rattle.scsi_device.proofs.Finds.{none_some}
@@ -409,20 +410,12 @@ running_is (u ∷ us) id r e = go (Steps.running_if u.current id) refl e (λ k. 
     go None f k more = more k
     go (Some q) f k more = own u.current (f ∙ k)
 
-guest_is : (guests : List RunningProcess) (id : ProcId) (r : RunningProcess) → guest_at guests id ≡ Some r → same_id r.process.id id ≡ true
-guest_is [] id r e = cc
-guest_is (g ∷ guests) id r e = go (same_id g.process.id id) refl e (λ k. guest_is guests id r k)
-  where
-    go : (y : Bool) → same_id g.process.id id ≡ y → (if y then Some g else guest_at guests id) ≡ Some r → (guest_at guests id ≡ Some r → same_id r.process.id id ≡ true) → same_id r.process.id id ≡ true
-    go true f k more = let same : g ≡ r = cc in (λ i. same_id (sym same i).process.id id) ∙ f
-    go false f k more = more k
-
 pub process_is : (a : Array) (id : ProcId) (r : RunningProcess) → Steps.running_process a id ≡ Some r → same_id r.process.id id ≡ true
 process_is a id r e = go (guest_at a.guests id) refl e
   where
     go : (x : Option RunningProcess) → guest_at a.guests id ≡ x → (if is_some x then x else Steps.running_in a.units id) ≡ Some r → same_id r.process.id id ≡ true
     go None f k = running_is a.units id r k
-    go (Some g) f k = guest_is a.guests id r (f ∙ k)
+    go (Some g) f k = found_id a.guests id r (f ∙ k)
 
 -- It has one.
 abbrev pub IsAnswered : List (ProcId × Reply) → ProcId → Type 0

@@ -7,11 +7,10 @@ use Rattle.bus_base.specs.declared.events.Pick.{Pick}
 use Rattle.cdb_codec.specs.declared.Sense.{Sense}
 use Rattle.cdb_codec.specs.declared.status.TheConstants.{GOOD}
 use Rattle.cdb_codec.specs.Cdb.{command_of}
-use Rattle.cdb_codec.specs.declared.sense.TheConstants.{ABORTED_COMMAND}
 use Rattle.scenario.specs.declared.value.HostDef.{HostDef}
 use Rattle.disk_array.specs.declared.entries.Entry.{Entry}
 use Rattle.disk_array.specs.Contents.{Contents}
-use Rattle.disk_array.specs.Execution.{Reply, CommandContext, execution, is_request_sense, check_condition, sense_of}
+use Rattle.disk_array.specs.Execution.{Reply, CommandContext, execution, is_request_sense, aborted_reply}
 use Rattle.disk_array.specs.Order.{class_of, tag_number, entry_of}
 use Rattle.disk_array.specs.Processes.{Process, same_id}
 use Rattle.disk_array.specs.Units.{RunningProcess, UnitState, guest_at, has_no_current}
@@ -190,9 +189,6 @@ abbrev pub HasSent : Seat → Process → List ℕ → Type 0
 HasSent seat p sent = (execution (context_of seat p.initiator) p.cdb p.sent).reply.status ≡ GOOD → sent ≡ p.sent
 
 -- ---- a command fails
-
-abbrev pub aborted_reply : ℕ → Reply
-aborted_reply code = check_condition (sense_of ABORTED_COMMAND code 0x00)
 
 abbrev pub state_after_failure : SeatedState → ProcId → ℕ → SeatedState
 state_after_failure v id code =

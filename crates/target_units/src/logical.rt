@@ -7,7 +7,7 @@ ghost use Rattle.scenario.specs.declared.value.UnitDef.{UnitDef as UnitLine};
 ghost use Rattle.scenario.specs.Lookups.{unit_of};
 ghost use Rattle.scsi_device.specs.Lines.{FitsBus};
 ghost use Rattle.bus_due.specs.Defs.{target_def_of};
-ghost use Rattle.disk_array.specs.Execution.{Reply as ArrayReply, execution, is_request_sense, queue_full};
+ghost use Rattle.disk_array.specs.Execution.{Reply as ArrayReply, execution, is_request_sense, queue_full, aborted_reply};
 ghost use Rattle.disk_array.specs.Processes.{Process};
 ghost use Rattle.disk_array.specs.Units.{RunningProcess, guest_at, starting_array};
 ghost use Rattle.disk_array.specs.Seats.{Seat, seat_of, settled_seat, seat_after_accept, seat_after_refuse, seat_after_run, seat_after_failure, seat_after_end, seat_after_loss, seat_after_aborted, current_of, running_at, context_of, contents_of, is_any_held, is_initiator};
@@ -16,7 +16,7 @@ ghost use Rattle.disk_unit.specs.Disk.{blocks_written};
 ghost use Rattle.disk_unit.specs.Units.{told_of};
 ghost use Rattle.disk_unit.specs.Plans.{plan_of};
 ghost use Rattle.disk_unit.specs.declared.unit.Accepted.TheVariants as accepted;
-ghost use Rattle.target_units.specs.Seated.{seat_time, running_id, running_entry, running_block, current_reply, IsProcess, IsNew, HasSent, IsSensing, aborted_reply};
+ghost use Rattle.target_units.specs.Seated.{seat_time, running_id, running_entry, running_block, current_reply, IsProcess, IsNew, HasSent, IsSensing};
 ghost use Rattle.target_units.specs.Readies.{ready_unit};
 ghost use Rattle.target_units.specs.Rooms.{HasRoomFor};
 ghost use Rattle.target_units.specs.Fillings.{blocks_at};
@@ -28,7 +28,7 @@ use crate::seated::SeatedUnit;
 use bus_base::{AbortKind, Class, Dev, NoMemory, Ns, ProcId};
 use bus_dialogue::Room;
 use disk_unit::{Accepted, Plan, Reply, SparseBlocks};
-use scenario::{Scenario, TargetDef, UnitDef};
+use scenario::{Scenario, TargetDef, UnitDef, unit_line};
 use std::alloc::Global;
 use std::mem::replace;
 use tag_queue::Entry;
@@ -40,18 +40,6 @@ pub enum LogicalUnit {
     There(SeatedUnit),
     /// It is not there (ANSI X3.131-1994, 7.5.3).
     Absent(AbsentUnit),
-}
-
-// The line of a unit.
-fn unit_line(units: &[UnitDef], target: Dev, unit: u8) -> Option<UnitDef>
-    ensures { result ≡ find (λ (u : UnitLine). u.target == target && u.unit == unit) units.now }
-{
-    for def in units {
-        if def.target == target && def.unit == unit {
-            return Some(*def);
-        }
-    }
-    None
 }
 
 impl LogicalUnit {

@@ -2,7 +2,7 @@
 ghost use Rattle.std.specs.Prelude.{◌≡◌, ◌<◌, ◌≤◌, ◌+◌, ◌-◌, ◌*◌, ◌^◌, min, ◌&&◌, ◌==◌, [], slice_index_or, ℕ, Bool, true, false, List, length, Option, Some, None, is_some, if◌then◌else◌, IfSome, IfOk, nat_le, take, drop};
 ghost use Rattle.cdb_codec.specs.Cdb.{command_of};
 ghost use Rattle.scenario.specs.declared.value.HostDef.{HostDef};
-ghost use Rattle.disk_array.specs.Execution.{Reply as ArrayReply, execution, heeds_attention, is_request_sense, queue_full};
+ghost use Rattle.disk_array.specs.Execution.{Reply as ArrayReply, execution, heeds_attention, is_request_sense, queue_full, aborted_reply};
 ghost use Rattle.disk_array.specs.Processes.{Process, same_id, same_bool};
 ghost use Rattle.disk_array.specs.Units.{RunningProcess, UnitState, guest_at, pick_of, starting_array, starting_unit};
 ghost use Rattle.bus_dialogue.specs.Wants.{ready_in};
@@ -17,7 +17,7 @@ ghost use Rattle.disk_unit.specs.declared.unit.Accepted.TheVariants as accepted;
 ghost use Rattle.target_units.specs.Fillings.{IsFresh, AreFilled, blocks_by_all as blocks_of_all};
 ghost use Rattle.scenario.specs.Value.{ScenarioValue};
 ghost use Rattle.target_units.specs.Rooms.{HasRoomFor};
-ghost use Rattle.target_units.specs.Seated.{SeatedState, IsAtSeat, seat_time, taken_at, running_id, running_entry, running_block, current_reply, current_id, is_same_process, reply_kept, since_after, settled, with_books, IsProcess, IsNew, IsArrived, can_run, IsRun, IsRunLive, HasSent, IsSensing, aborted_reply, state_after_failure, state_after_end, state_after_loss, books_after_guest, IsCut, seated_context, current_entry, block_under, entry_from, ready_by_entry, room_by, room_at};
+ghost use Rattle.target_units.specs.Seated.{SeatedState, IsAtSeat, seat_time, taken_at, running_id, running_entry, running_block, current_reply, current_id, is_same_process, reply_kept, since_after, settled, with_books, IsProcess, IsNew, IsArrived, can_run, IsRun, IsRunLive, HasSent, IsSensing, state_after_failure, state_after_end, state_after_loss, books_after_guest, IsCut, seated_context, current_entry, block_under, entry_from, ready_by_entry, room_by, room_at};
 
 use crate::fillings::{blocks_by_all, blocks_in_all, fill, fill_count};
 use crate::parts::{copy_part, is_sense};
@@ -25,6 +25,7 @@ use crate::ready::Ready;
 use bus_base::{AbortKind, Class, Dev, NoMemory, Ns, Pick, ProcId};
 use bus_dialogue::Room;
 use cdb_codec::{ABORTED_COMMAND, CHECK_CONDITION, GOOD, Sense, sense_bytes};
+use disk_array::same_id;
 use disk_unit::{Accepted, Blocks, DiskMedium, Plan, Reply, SparseBlocks, Unit};
 use scenario::{CmdDef, FillDef, UnitDef};
 use std::alloc::Global;
@@ -58,23 +59,11 @@ impl Model for SeatedUnit {
 
 // ---- the choice
 
-fn same_kind(one: bool, other: bool) -> bool
-    ensures { result ≡ same_bool one other }
-{
-    if one { other } else { !other }
-}
-
-fn is_same_id(one: ProcId, other: ProcId) -> bool
-    ensures { result ≡ same_id one other }
-{
-    one.command == other.command && same_kind(one.sense, other.sense)
-}
-
 fn is_same(one: Option<ProcId>, other: Option<ProcId>) -> bool
     ensures { result ≡ is_same_process one other }
 {
     match (one, other) {
-        (Some(one), Some(other)) => is_same_id(one, other),
+        (Some(one), Some(other)) => same_id(one, other),
         _ => false,
     }
 }

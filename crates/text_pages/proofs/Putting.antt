@@ -1,11 +1,10 @@
 -- Texts that are put one after another.
-use Rattle.std.proofs.Common.{◌≡◌, ℕ, ◌+◌, ◌<◌, ◌≤◌, get_or, List, [], ◌∷◌, ◌++◌, append_assoc, append-nil, drop, refl, ap, sym, subst, ◌∙◌, arith, Bool, true, false, length}
+use Rattle.std.proofs.Common.{◌≡◌, ℕ, ◌+◌, ◌≤◌, List, [], ◌∷◌, ◌++◌, append_assoc, append-nil, drop, refl, ap, sym, subst, ◌∙◌, arith, Bool, true, false, length}
 use Rattle.std.specs.Prelude.{Option, Some, None, IfSome, take}
 use Rattle.std.proofs.lemmas.List.{take-append-drop}
 use Rattle.std.proofs.Math.Seq.{take-append_seam}
 use Rattle.bus_base.specs.Faults.{HasRisen}
 use Rattle.text_pages.specs.Pages.{Place, IsSent, Takes, IsPut, Puts}
-use Rattle.bus_base.proofs.Tests.{dropped}
 
 -- what was taken later, where the bytes taken so far are known
 told : (w next : Option (List ℕ)) (xs held rest text : List ℕ) → w ≡ Some xs → Takes w next held rest text → Takes (Some xs) next held rest text
@@ -133,6 +132,3 @@ pub whole_err : (o n : Place) (text : List ℕ) → Puts o n text → o.failed �
 whole_err o n text put fresh broken empty =
     let lost : IsPut false true o n text = subst (λ x. IsPut x true o n text) fresh (subst (λ y. IsPut o.failed y o n text) broken put.bytes) in
     (taken_front _ _ _ _ text lost.0.1 empty, lost.1)
-
-pub item_next : {A : Type 0} (i : ℕ) (xs : List A) (x : A) → i < length xs → x ≡ get_or xs i x → drop i xs ≡ x ∷ drop (i + 1) xs
-item_next i xs x below is = dropped i xs x below ∙ ap (λ y. y ∷ drop (i + 1) xs) (sym is)

@@ -1,2 +1,3 @@
+pub mod AbortText
 pub mod Held
 pub mod Pages

@@ -20,7 +20,7 @@ use Rattle.bus_story.specs.BusState.{RowReading, row_reading}
 use Rattle.bus_story.specs.Items.{Item, Sent, item_at}
 use Rattle.bus_story.specs.HistoryEvents.{row_events_by}
 use Rattle.bus_story.specs.Story.{Story}
-use Rattle.bus_story.specs.TraceHistory.{is_host, aim_of, is_arbitration_entry, story_with_aim, story_on_free_bus, story_by_change}
+use Rattle.bus_story.specs.TraceHistory.{aim_of, is_arbitration_entry, story_with_aim, story_on_free_bus, story_by_change}
 use Rattle.bus_due.specs.Plain.{AreOfDevices}
 use Rattle.bus_due.specs.RunState.{RunState}
 use Rattle.bus_due.specs.RunSteps.{run_state, run_state_with_events}
@@ -33,6 +33,7 @@ use Rattle.trace_laws.proofs.UnderRst.{line_off, drives_next}
 use Rattle.trace_laws.proofs.NextItems.{IsNextIf, next_is}
 use Rattle.trace_laws.specs.ItemFacts.{IsNext, IsAimed, AimsFit}
 use Rattle.bus_base.proofs.Tests.{wrong, wrong'}
+use Rattle.disk_array.specs.Seats.{is_initiator}
 
 -- ---- aims
 
@@ -76,7 +77,7 @@ apart_is s p row dv lt alone none calm link =
 
 record Moves (s : ScenarioValue) (p : List Row) (row : Row) : Type 0 where
   sent : (run_state s (row ∷ p)).story.sent ≡ (run_state s p).story.sent
-  own : (drives p row.dev).bsy ≡ false → (driven_after row.kind (drives p row.dev)).bsy ≡ true → (bus p).sel ≡ false → is_host s.hosts row.dev ≡ true → IsAimed s (run_state s (row ∷ p)) row.dev
+  own : (drives p row.dev).bsy ≡ false → (driven_after row.kind (drives p row.dev)).bsy ≡ true → (bus p).sel ≡ false → is_initiator s.hosts row.dev ≡ true → IsAimed s (run_state s (row ∷ p)) row.dev
   stays : (rises (drives p row.dev).bsy (driven_after row.kind (drives p row.dev)).bsy && not (bus p).sel) ≡ false → (run_state s (row ∷ p)).story.aims ≡ (run_state s p).story.aims
   others : (dev : ℕ) → dev ≢ row.dev → aim_of (run_state s (row ∷ p)).story.aims dev ≡ aim_of (run_state s p).story.aims dev
 
@@ -131,9 +132,9 @@ moves s p row dv lt alone w still = go (is_arbitration_entry b d) refl
       sent = same true e;
       own = λ z y x h i f.
           subst (λ (v : Sent). IsNext s v row.dev i) (sym (same true e))
-          (next_of s b.sent row.dev (if is_host s.hosts row.dev then item_at s b.sent row.dev row.time else None) i (set_own b.aims row.dev (if is_host s.hosts row.dev then item_at s b.sent row.dev row.time else None) i (sym (ap (λ (v : List (Option Item)). aim_of v row.dev) (aimed true e)) ∙ f)) (by (is_host s.hosts row.dev)));
+          (next_of s b.sent row.dev (if is_initiator s.hosts row.dev then item_at s b.sent row.dev row.time else None) i (set_own b.aims row.dev (if is_initiator s.hosts row.dev then item_at s b.sent row.dev row.time else None) i (sym (ap (λ (v : List (Option Item)). aim_of v row.dev) (aimed true e)) ∙ f)) (by (is_initiator s.hosts row.dev)));
       stays = λ z. wrong (sym e ∙ entry ∙ three (rises (drives p row.dev).bsy (driven_after row.kind (drives p row.dev)).bsy) (not (bus p).sel) ∙ z);
-      others = λ dev ne. ap (λ (v : List (Option Item)). aim_of v dev) (aimed true e) ∙ set_other b.aims row.dev dev (if is_host s.hosts row.dev then item_at s b.sent row.dev row.time else None) ne;
+      others = λ dev ne. ap (λ (v : List (Option Item)). aim_of v dev) (aimed true e) ∙ set_other b.aims row.dev dev (if is_initiator s.hosts row.dev then item_at s b.sent row.dev row.time else None) ne;
     }
       where
         by : (r : Bool) → IsNextIf s b.sent row.dev (if r then item_at s b.sent row.dev row.time else None)
@@ -238,7 +239,7 @@ called_is p row k e = go (bus p).sel refl (call p) refl
 low_fall : (a b : Bool) → a ≡ false → falls a b ≡ false
 low_fall a b e = ap (λ (q : Bool). q && not b) e
 
-fits_contender : (s : ScenarioValue) (p : List Row) (row : Row) → AreOfDevices p → row.dev < 8 → connection p ≡ None → IsApart s p row → AimsFit s p → (dev : ℕ) (a : Arbitration) → dev < 8 → arbitration (row ∷ p) ≡ Some a → (drives (row ∷ p) dev).bsy ≡ true → is_host s.hosts dev ≡ true → IsAimed s (run_state s (row ∷ p)) dev
+fits_contender : (s : ScenarioValue) (p : List Row) (row : Row) → AreOfDevices p → row.dev < 8 → connection p ≡ None → IsApart s p row → AimsFit s p → (dev : ℕ) (a : Arbitration) → dev < 8 → arbitration (row ∷ p) ≡ Some a → (drives (row ∷ p) dev).bsy ≡ true → is_initiator s.hosts dev ≡ true → IsAimed s (run_state s (row ∷ p)) dev
 fits_contender s p row dv lt alone w h dev a l e on host = elim (arbitrates p row a e) [
   | inl x ↦ stands x.0 x.1
   | inr f ↦ begins (free_lines (bus p) f).0 (free_lines (bus p) f).1
@@ -265,7 +266,7 @@ fits_contender s p row dv lt alone w h dev a l e on host = elim (arbitrates p ro
         ]
       where
         go : Moves s p row → dev ≡ row.dev → (r : Bool) → (drives p row.dev).bsy ≡ r → IsAimed s (run_state s q) dev
-        go m same false z = at same (m.own z (own same) off (ap (is_host s.hosts) (sym same) ∙ host))
+        go m same false z = at same (m.own z (own same) off (ap (is_initiator s.hosts) (sym same) ∙ host))
         go m same true z =
             keeps_aim s k (run_state s q) dev m.sent (ap (λ (v : List (Option Item)). aim_of v dev) (m.stays (λ i. rises (z i) (driven_after row.kind (drives p row.dev)).bsy && not (bus p).sel)))
             (before (ap (λ (n : ℕ). (drives p n).bsy) same ∙ z))
@@ -276,7 +277,7 @@ fits_contender s p row dv lt alone w h dev a l e on host = elim (arbitrates p ro
     begins : (bus p).bsy ≡ false → (bus p).sel ≡ false → IsAimed s (run_state s q) dev
     begins off sel = by sel (λ z. wrong (sym z ∙ line_off (λ x. x.bsy) (λ _ _. refl) p off dev l))
 
-fits_caller : (s : ScenarioValue) (p : List Row) (row : Row) → AreOfDevices p → row.dev < 8 → connection p ≡ None → IsApart s p row → RisesWell p row → AimsFit s p → (c : Call) → call (row ∷ p) ≡ Some c → is_host s.hosts c.caller ≡ true → IsAimed s (run_state s (row ∷ p)) c.caller
+fits_caller : (s : ScenarioValue) (p : List Row) (row : Row) → AreOfDevices p → row.dev < 8 → connection p ≡ None → IsApart s p row → RisesWell p row → AimsFit s p → (c : Call) → call (row ∷ p) ≡ Some c → is_initiator s.hosts c.caller ≡ true → IsAimed s (run_state s (row ∷ p)) c.caller
 fits_caller s p row dv lt alone w rule h c e host = go (called_is p row c e)
   where
     q : List Row
@@ -294,14 +295,14 @@ fits_caller s p row dv lt alone w rule h c e host = go (called_is p row c e)
     low : (a b : Bool) → a ≡ true → (rises a b && not (bus p).sel) ≡ false
     low a b z = λ i. rises (z i) b && not (bus p).sel
 
-    by_arbitration : (o : Option Arbitration) → arbitration p ≡ o → is_some o ≡ true → (drives p row.dev).bsy ≡ true → is_host s.hosts row.dev ≡ true → IsAimed s k row.dev
+    by_arbitration : (o : Option Arbitration) → arbitration p ≡ o → is_some o ≡ true → (drives p row.dev).bsy ≡ true → is_initiator s.hosts row.dev ≡ true → IsAimed s k row.dev
     by_arbitration None f z on host = wrong' z
     by_arbitration (Some a) f z on host = h.contends row.dev a lt f on host
 
     go : Called p row c → IsAimed s (run_state s q) c.caller
     go (new off same) =
         let won = rule.won (raised_by p row lt off on) in
-        let own = by_arbitration (arbitration p) refl won.0 won.1 (ap (is_host s.hosts) (sym same) ∙ host) in
+        let own = by_arbitration (arbitration p) refl won.0 won.1 (ap (is_initiator s.hosts) (sym same) ∙ host) in
         subst (λ (n : ℕ). IsAimed s (run_state s q) n) (sym same)
         (keeps_aim s k (run_state s q) row.dev m.sent (ap (λ (v : List (Option Item)). aim_of v row.dev) (m.stays (low (drives p row.dev).bsy _ won.1))) own)
     go (old j f same) =
@@ -309,7 +310,7 @@ fits_caller s p row dv lt alone w rule h c e host = go (called_is p row c e)
         subst (λ (n : ℕ). IsAimed s (run_state s q) n) (sym same)
         (keeps_aim s k (run_state s q) j.caller m.sent
         (ap (λ (v : List (Option Item)). aim_of v j.caller) (m.stays ((λ i. rises (drives p row.dev).bsy (driven_after row.kind (drives p row.dev)).bsy && not (sel i)) ∙ and_no _)))
-        (h.calls j f (ap (is_host s.hosts) (sym same) ∙ host)))
+        (h.calls j f (ap (is_initiator s.hosts) (sym same) ∙ host)))
       where
         and_no : (x : Bool) → (x && false) ≡ false
         and_no true = refl

@@ -8,24 +8,24 @@ use Rattle.scenario.specs.Value.{ScenarioValue}
 use Rattle.disk_array.specs.ArrayHistory.{reply_in}
 use Rattle.disk_array.specs.Contents.{Contents}
 use Rattle.disk_array.specs.Processes.{Process, process_of, same_id}
-use Rattle.disk_array.specs.Execution.{Reply, CommandContext, Execution, execution}
+use Rattle.disk_array.specs.Execution.{Reply, CommandContext, Execution, execution, aborted_reply}
 use Rattle.disk_array.specs.Order.{choice, without_process}
 use Rattle.disk_array.specs.Seats as Seats
 use Rattle.disk_array.specs.Seats.{Seat, seat_of, seat_if, settled_seat, settled_seat_if, current_of, running_at, unit_mapped, unit_with_choice, unit_with_reply, unit_with_contents}
 use Rattle.disk_array.specs.SoundArray.{IsSound, HasSeats}
-use Rattle.disk_array.specs.Units.{RunningProcess, UnitState, Array, unit_state_at, guest_at, without_guest, nexus_of, has_no_current, with_current, settled_array}
+use Rattle.disk_array.specs.Units.{RunningProcess, UnitState, Array, unit_state_at, guest_at, without_guest, nexus_of, has_no_current, with_current, settled_array, without_reply}
 use Rattle.disk_array.specs.Steps as Steps
 use Rattle.disk_array.specs.Steps.{running_if, guests_with_reply, has_ended}
 use Rattle.disk_array.proofs.SeatLaws.{run_law, fail_law}
 use Rattle.disk_array.proofs.SoundArrays.{step_sound}
 use Rattle.bus_books.proofs.Lookups.{self_id}
-use Rattle.trace_laws.specs.Places.{fresh, Waits, Runs, OnUnits, OnGuests, IsAway, IsAtRest, MayRun, IsAnswered}
-use Rattle.trace_laws.proofs.EachProcess.{each_settled, running_id}
+use Rattle.trace_laws.specs.Places.{Waits, Runs, OnUnits, OnGuests, IsAway, IsAtRest, MayRun, IsAnswered}
+use Rattle.trace_laws.proofs.EachProcess.{each_settled}
 use Rattle.trace_laws.proofs.Impossible.{none_some, some_none}
 use Rattle.trace_laws.proofs.OtherProcesses.{reply_at, executed, away_rests}
 use Rattle.trace_laws.proofs.SeatedProcesses.{running_own}
-use Rattle.disk_array.proofs.SeatReplies.{first}
-use Rattle.target_units.specs.Seated.{aborted_reply}
+use Rattle.trace_laws.proofs.ListedReplies.{running_id}
+use Rattle.disk_array.proofs.SeatReplies.{first, guest_replied, no_guest_replied}
 
 -- ---- a reply is given at a seat
 
@@ -34,27 +34,6 @@ record HasIt (guests : List RunningProcess) (current : Option RunningProcess) (i
   found : RunningProcess
   found_is : first (guest_at guests id) (running_if current id) ≡ Some found
   reply_is : found.reply ≡ Some reply
-
-guest_replied : (guests : List RunningProcess) (id : ProcId) (reply : Reply) (g : RunningProcess) → guest_at guests id ≡ Some g → guest_at (guests_with_reply guests id reply) id ≡ Some (record g { reply = Some reply })
-guest_replied [] id reply g e = absurd (none_some g e)
-guest_replied (h ∷ guests) id reply g e = go (same_id h.process.id id) refl e (λ k. guest_replied guests id reply g k)
-  where
-    go : (x : Bool) → same_id h.process.id id ≡ x → (if x then Some h else guest_at guests id) ≡ Some g → (guest_at guests id ≡ Some g → guest_at (guests_with_reply guests id reply) id ≡ Some (record g { reply = Some reply }))
-        → guest_at (if x then record h { reply = Some reply } ∷ guests else h ∷ guests_with_reply guests id reply) id ≡ Some (record g { reply = Some reply })
-    go true z k rest = (λ i. if z i then Some (record h { reply = Some reply }) else guest_at guests id) ∙ ap (λ (r : RunningProcess). Some (record r { reply = Some reply })) (same_Some h g k)
-    go false z k rest = (λ i. if z i then Some h else guest_at (guests_with_reply guests id reply) id) ∙ rest k
-
-guest_none : (guests : List RunningProcess) (id : ProcId) (reply : Reply) → guest_at guests id ≡ None → guest_at (guests_with_reply guests id reply) id ≡ None
-guest_none [] id reply e = refl
-guest_none (h ∷ guests) id reply e = go (same_id h.process.id id) refl e (λ k. guest_none guests id reply k)
-  where
-    some_none : Some h ≡ (let a : Option RunningProcess = None in a) → ⊥
-    some_none k = cc
-
-    go : (x : Bool) → same_id h.process.id id ≡ x → (if x then Some h else guest_at guests id) ≡ None → (guest_at guests id ≡ None → guest_at (guests_with_reply guests id reply) id ≡ None)
-        → guest_at (if x then record h { reply = Some reply } ∷ guests else h ∷ guests_with_reply guests id reply) id ≡ None
-    go true z k rest = absurd (some_none k)
-    go false z k rest = (λ i. if z i then Some h else guest_at (guests_with_reply guests id reply) id) ∙ rest k
 
 -- The current process stays, and has the reply.
 abbrev next_current : Bool → ProcId → Reply → Option UnitState → Option RunningProcess
@@ -95,7 +74,7 @@ replied_has guests held o id reply r e = go (guest_at guests id) refl e
         let there = guest_replied guests id reply g z in
         record { found = record g { reply = Some reply }; found_is = λ i. first (there i) (running_if (next_current held id reply o) id); reply_is = refl }
     go None z k =
-        let gone = guest_none guests id reply z in
+        let gone = no_guest_replied guests id reply z in
         record { found = record r { reply = Some reply }; found_is = (λ i. first (gone i) (running_if (next_current held id reply o) id)) ∙ unit_replied held o id reply r k; reply_is = refl }
 
 same_current : (contents : Contents) (o : Option UnitState) → current_of (unit_mapped (unit_with_contents contents) o) ≡ current_of o
@@ -109,7 +88,7 @@ run_is s a p h =
     (λ i. Steps.settled_array_if (Steps.run_step a (is_some (guest_at a.guests p.id)) (h.running_is i)))
     ∙ (λ i. Steps.settled_array_if (if true && h.free i then Some (Steps.after_execution_at a p (unit_state_at a.units p.target p.unit)) else None))
 
-context_same : (a : Array) (p : Process) → Steps.context_at a (nexus_of p) (unit_state_at a.units p.target p.unit) ≡ Seats.context_of (seat_of a p.target p.unit) p.initiator
+pub context_same : (a : Array) (p : Process) → Steps.context_at a (nexus_of p) (unit_state_at a.units p.target p.unit) ≡ Seats.context_of (seat_of a p.target p.unit) p.initiator
 context_same a p = go (unit_state_at a.units p.target p.unit)
   where
     go : (u : Option UnitState) → Steps.context_at a (nexus_of p) u ≡ record { present = is_some u; contents = Seats.contents_of u; stored = (seat_of a p.target p.unit).senses p.initiator; attention = (seat_of a p.target p.unit).attentions p.initiator }
@@ -129,7 +108,7 @@ run_answers s a b p seats sound e h f = answered
     done : Execution
     done = execution (Seats.context_of seat p.initiator) p.cdb p.sent
 
-    there : running_at seat p.id ≡ Some (fresh p)
+    there : running_at seat p.id ≡ Some (without_reply p)
     there = sym (running_own s a p.id p sound e) ∙ h.running_is
 
     ran : Seat
@@ -140,7 +119,7 @@ run_answers s a b p seats sound e h f = answered
         (sym (ap (λ (x : Option Array). seat_if x p.target p.unit) f) ∙ run_law s a p seats sound e ∙ ap (λ (x : Option RunningProcess). settled_seat_if (Seats.seat_after_run_of seat (is_some (guest_at seat.guests p.id)) x)) there)
 
     it : HasIt (settled_seat ran).guests (current_of (settled_seat ran).unit) p.id done.reply
-    it = replied_has seat.guests (Seats.is_any_held ran.hold) (unit_mapped (unit_with_contents done.contents) seat.unit) p.id done.reply (fresh p)
+    it = replied_has seat.guests (Seats.is_any_held ran.hold) (unit_mapped (unit_with_contents done.contents) seat.unit) p.id done.reply (without_reply p)
         (ap (λ (c : Option RunningProcess). first (guest_at seat.guests p.id) (running_if c p.id)) (same_current done.contents seat.unit) ∙ there)
 
     reply_same : reply_at a p (unit_state_at a.units p.target p.unit) ≡ done.reply
@@ -175,7 +154,7 @@ fail_answers s a b p code seats sound e h f = answered
     seat : Seat
     seat = seat_of a p.target p.unit
 
-    there : running_at seat p.id ≡ Some (fresh p)
+    there : running_at seat p.id ≡ Some (without_reply p)
     there = sym (running_own s a p.id p sound e) ∙ h.running_is
 
     failed : Seat
@@ -186,7 +165,7 @@ fail_answers s a b p code seats sound e h f = answered
         (sym (ap (λ (x : Option Array). seat_if x p.target p.unit) f) ∙ fail_law s a p code seats sound e ∙ ap (λ (x : Option RunningProcess). settled_seat_if (Seats.seat_after_failure_of seat (has_ended a p.id) p (aborted_reply code) x)) there)
 
     it : HasIt (settled_seat failed).guests (current_of (settled_seat failed).unit) p.id (aborted_reply code)
-    it = replied_has seat.guests (Seats.is_any_held seat.hold) seat.unit p.id (aborted_reply code) (fresh p) there
+    it = replied_has seat.guests (Seats.is_any_held seat.hold) seat.unit p.id (aborted_reply code) (without_reply p) there
 
     failed_array : b ≡ settled_array (Steps.with_reply a p.id (aborted_reply code))
     failed_array = sym (same_Some (settled_array (Steps.with_reply a p.id (aborted_reply code))) b (sym (fail_is s a p code h) ∙ f))

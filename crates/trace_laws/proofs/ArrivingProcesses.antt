@@ -13,20 +13,19 @@ use Rattle.cdb_codec.specs.Cdb.{command_of}
 use Rattle.scenario.specs.Value.{ScenarioValue}
 use Rattle.disk_array.specs.ArrayHistory.{reply_in}
 use Rattle.disk_array.specs.Processes.{Process, process_of, same_id}
-use Rattle.disk_array.specs.Execution.{Reply, is_request_sense, queue_full}
+use Rattle.disk_array.specs.Execution.{Reply, is_request_sense, queue_full, aborted_reply}
 use Rattle.disk_array.specs.Order.{choice, process_at_if, picked_place, runnable_by, entry_of, is_head, is_ordered, has_none_before, has_ordered, is_held_back}
-use Rattle.disk_array.specs.Units.{RunningProcess, UnitState, Nexus, Array, is_held, unit_state_at, with_unit, guest_at, has_no_current, with_current, unit_after_choice, units_after_choice, settled_array}
+use Rattle.disk_array.specs.Units.{RunningProcess, UnitState, Nexus, Array, is_held, unit_state_at, with_unit, guest_at, has_no_current, with_current, unit_after_choice, units_after_choice, settled_array, without_reply}
 use Rattle.disk_array.specs.Steps as Steps
 use Rattle.disk_array.specs.Steps.{process_count, running_if, running_in, running_process, is_waiting, has_ended}
 use Rattle.bus_books.proofs.Lookups.{self_id}
-use Rattle.trace_laws.specs.Places.{fresh, Waits, Runs, OnUnits, OnGuests, Each, IsAway, IsUnanswered, IsAtRest, IsUntouched, IsOutside, MayRun, IsAnswered, AreWithin}
+use Rattle.trace_laws.specs.Places.{Waits, Runs, OnUnits, OnGuests, Each, IsAway, IsUnanswered, IsAtRest, IsUntouched, IsOutside, MayRun, IsAnswered, AreWithin}
 use Rattle.trace_laws.proofs.EachProcess.{append_waits, with_units, unit_has, chosen, each_settled}
 use Rattle.trace_laws.proofs.Impossible.{none_some, some_none}
 use Rattle.trace_laws.proofs.OtherProcesses.{away_units}
 use Rattle.trace_laws.proofs.QueueDepths.{unit_within}
 use Rattle.std.proofs.lemmas.Bool.{eqb-true}
 use Rattle.bus_base.proofs.Tests.{and_first, and_second}
-use Rattle.target_units.specs.Seated.{aborted_reply}
 
 -- ---- who is away is not found
 
@@ -86,8 +85,8 @@ still_outside a p (inr e) = inr e
 
 pub guest_may_run : (a : Array) (p : Process) → IsOutside a p → IsUntouched a p.id → MayRun (settled_array (Steps.with_guest a p None)) p
 guest_may_run a p out h = record {
-  running_is = guest_runs a (fresh p) h.away.guests;
-  free = λ i. is_some (guest_new a.guests (fresh p) h.away.guests i) || not (is_held a.holds p.target p.unit);
+  running_is = guest_runs a (without_reply p) h.away.guests;
+  free = λ i. is_some (guest_new a.guests (without_reply p) h.away.guests i) || not (is_held a.holds p.target p.unit);
   reply = h.reply;
   kind = inl (still_outside a p out);
 }
@@ -136,7 +135,7 @@ chosen_alone pick p = go pick (is_head (entry_of p).class) (is_ordered (entry_of
         by j true = first j
         by j false = (λ i. process_at_if (p ∷ []) (picked_place j (if ordered (is_ordered (entry_of p).class) i then 0 ∷ [] else []))) ∙ first j
 
-made_current : (holds : List Nexus) (u : UnitState) (p : Process) → u.waiting ≡ [] → has_no_current u.current ≡ true → is_held holds u.target u.unit ≡ false → (unit_after_choice holds (record u { waiting = u.waiting ++ p ∷ [] })).current ≡ Some (fresh p)
+made_current : (holds : List Nexus) (u : UnitState) (p : Process) → u.waiting ≡ [] → has_no_current u.current ≡ true → is_held holds u.target u.unit ≡ false → (unit_after_choice holds (record u { waiting = u.waiting ++ p ∷ [] })).current ≡ Some (without_reply p)
 made_current holds u p none idle free =
     let new : UnitState = record u { waiting = u.waiting ++ p ∷ [] } in
     (λ i. (if idle i && not (free i) then with_current new (choice u.pick new.waiting) else new).current)
@@ -171,8 +170,8 @@ at_once_may_run a p u e none idle free h =
     let at = found_at a.units p.target p.unit u e in
     let new : UnitState = record u { waiting = u.waiting ++ p ∷ [] } in
     let there : unit_state_at a.units u.target u.unit ≡ Some u = (λ i. unit_state_at a.units (at.target_is i) (at.unit_is i)) ∙ e in
-    let current : running_if (unit_after_choice a.holds new).current p.id ≡ Some (fresh p) = (λ i. running_if (made_current a.holds u p none idle free i) p.id) ∙ (λ i. if self_id p.id i then Some (fresh p) else None) in
-    let runs : running_in (settled_array (queued a p u)).units p.id ≡ Some (fresh p) = running_new a.holds a.units new u p.id (fresh p) h.away.units there current in
+    let current : running_if (unit_after_choice a.holds new).current p.id ≡ Some (without_reply p) = (λ i. running_if (made_current a.holds u p none idle free i) p.id) ∙ (λ i. if self_id p.id i then Some (without_reply p) else None) in
+    let runs : running_in (settled_array (queued a p u)).units p.id ≡ Some (without_reply p) = running_new a.holds a.units new u p.id (without_reply p) h.away.units there current in
     let guest : guest_at a.guests p.id ≡ None = no_guest a.guests p.id h.away.guests in
     let held : is_held a.holds p.target p.unit ≡ false = (λ i. is_held a.holds (sym at.target_is i) (sym at.unit_is i)) ∙ free in
     record {

@@ -13,7 +13,7 @@ use Rattle.disk_array.specs.ArrayHistory.{reply_in}
 use Rattle.disk_array.specs.Execution.{Reply}
 use Rattle.disk_array.specs.Processes.{Process, process_of, same_id}
 use Rattle.disk_array.specs.Steps.{has_ended, running_if, running_in}
-use Rattle.disk_array.specs.Units.{Array, RunningProcess, UnitState, guest_at}
+use Rattle.disk_array.specs.Units.{Array, RunningProcess, UnitState, guest_at, without_reply}
 use Rattle.bus_dialogue.specs.declared.exchange.Cause.{Cause}
 use Rattle.bus_dialogue.specs.declared.exchange.Cause.TheVariants as causes
 use Rattle.bus_dialogue.specs.declared.exchange.Messages.{Messages}
@@ -29,7 +29,7 @@ use Rattle.bus_due.specs.RunSteps.{run_state}
 use Rattle.bus_due.proofs.Plains.{run_state_plain}
 use Rattle.bus_books.proofs.CarriedRows.{process_id}
 use Rattle.trace_laws.specs.AttendanceAsked.{AttendanceAsked, BeginsUnanswered, HasReplyGiven, LeavesAnswered, RepliesGiven}
-use Rattle.trace_laws.specs.Places.{AnsweredOpen, Closes, IsAnswered, IsAtRest, IsAway, IsTaken, IsUnanswered, IsUntouched, OnGuests, OnUnits, PlaceFacts, PlacedAsked, PlacedBefore, PlacedIf, PlacedIn, RunsOpen, completes, disconnects, fresh}
+use Rattle.trace_laws.specs.Places.{AnsweredOpen, Closes, IsAnswered, IsAtRest, IsAway, IsTaken, IsUnanswered, IsUntouched, OnGuests, OnUnits, PlaceFacts, PlacedAsked, PlacedBefore, PlacedIf, PlacedIn, RunsOpen, completes, disconnects}
 use Rattle.trace_laws.specs.Tells.{FailsAsLeft, FailsIn}
 use Rattle.trace_laws.proofs.FirstRows.{begun_first}
 use Rattle.trace_laws.proofs.Impossible.{none_some}
@@ -62,7 +62,7 @@ rests_given a id h r reply e f = go (guest_at a.guests id) refl e
     go (Some x) g z = absurd (away_guest a.guests id x h.guests g)
 
 runs_given : (a : Array) (p : Process) → RunsOpen a p → HasReplyGiven a p.id
-runs_given a p h r reply e f = none_some reply (ap (λ (y : RunningProcess). y.reply) (same_Some (fresh p) r (sym h.runs.running_is ∙ e)) ∙ f)
+runs_given a p h r reply e f = none_some reply (ap (λ (y : RunningProcess). y.reply) (same_Some (without_reply p) r (sym h.runs.running_is ∙ e)) ∙ f)
 
 answered_given : (a : Array) (id : ProcId) → AnsweredOpen a id → HasReplyGiven a id
 answered_given a id h r reply e f =

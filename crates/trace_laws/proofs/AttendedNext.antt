@@ -20,12 +20,13 @@ use Rattle.scenario.specs.Value.{ScenarioValue}
 use Rattle.scenario.specs.Writing.{Obeys}
 use Rattle.disk_array.specs.ArrayHistory.{reply_in}
 use Rattle.disk_array.specs.Units.{Array}
+use Rattle.disk_array.specs.Seats.{is_initiator}
 use Rattle.bus_story.specs.BusState.{RowReading, row_reading}
 use Rattle.bus_story.specs.CarriedBytes.{CarriedBytes, carried_of, is_status_phase}
 use Rattle.bus_story.specs.HistoryEvents.{bus_free_events, carried_if, connection_events, end_events, is_completion, phase_events}
 use Rattle.bus_story.specs.Items.{Item, process, abort}
 use Rattle.bus_story.specs.Links.{Link}
-use Rattle.bus_story.specs.TraceHistory.{aim_of, is_host}
+use Rattle.bus_story.specs.TraceHistory.{aim_of}
 use Rattle.bus_dialogue.specs.declared.exchange.Hearing.{Hearing}
 use Rattle.bus_dialogue.specs.Events.{is_status_next}
 use Rattle.bus_dialogue.specs.NextPhase.{phase_of}
@@ -33,16 +34,17 @@ use Rattle.bus_due.specs.Least.{IsLeast}
 use Rattle.bus_due.specs.Next.{due, IsPrompt}
 use Rattle.bus_due.specs.Plain.{IsPlain}
 use Rattle.bus_due.specs.RunState.{RunState, array_of, bus_of, item_of, or_start}
-use Rattle.bus_due.specs.RunSteps.{item_if, run_state, served_after}
+use Rattle.bus_due.specs.RunSteps.{item_if, run_state, served_after, events_of_row}
 use Rattle.bus_due.specs.Sights.{hearing_of}
 use Rattle.bus_due.specs.Wants.{abort_target, initiator_if, ready_of, target_of}
 use Rattle.bus_due.proofs.Plains.{run_state_plain}
 use Rattle.scsi_device.specs.Heard.{Instructions, instructions, instructions_after, instructions_on, instructions_with}
+use Rattle.scsi_device.proofs.PhaseLines.{command_is}
 use Rattle.bus_books.specs.Knowing.{Knows}
 use Rattle.bus_laws.proofs.Apart.{change_plain}
 use Rattle.bus_laws.proofs.Prompt.{least_is}
 use Rattle.link_laws.specs.LinkStages.{AnyStage, apart, linked}
-use Rattle.trace_laws.specs.Attendance.{AbortsBetween, AnswersBadly, AttendedFacts, IsNotGood, events_of}
+use Rattle.trace_laws.specs.Attendance.{AbortsBetween, AnswersBadly, AttendedFacts, IsNotGood}
 use Rattle.trace_laws.specs.AttendanceAsked.{AttendanceAsked}
 use Rattle.trace_laws.specs.Instructed.{InstructedFacts, KnownIn}
 use Rattle.trace_laws.proofs.BadReplies.{GiveNoGood, events_keep}
@@ -55,7 +57,7 @@ use Rattle.trace_laws.proofs.InstructedTurns.{known_turned}
 use Rattle.trace_laws.proofs.Joint.{NextStood, Stood, link_connection}
 use Rattle.trace_laws.proofs.KnownLeavings.{known_after}
 use Rattle.trace_laws.proofs.OpeningRows.{status_is}
-use Rattle.trace_laws.proofs.PhaseLines.{command_is, out_no_status}
+use Rattle.trace_laws.proofs.PhaseLines.{out_no_status}
 use Rattle.trace_laws.proofs.RowAttendance.{no_item}
 use Rattle.trace_laws.proofs.ShownEvents.{row_shows}
 use Rattle.trace_laws.proofs.UnderRst.{quiet_at_end}
@@ -94,7 +96,7 @@ called_for s p row n alone e selects was = by_call (call p) refl (made_is p row 
             let caller : n.initiator ≡ c.caller = ap (λ (w : Connection). w.initiator) (sym same) ∙ ap (λ (q : Bool). if q then x.called else c.caller) re in
             let target : n.target ≡ x.called = ap (λ (w : Connection). w.target) (sym same) ∙ ap (λ (q : Bool). if q then c.caller else x.called) re in
             let d : IsDueCall s p c.caller x = was c x ec f in
-            let host : is_host s.hosts c.caller ≡ true = d.host_is ∙ ap not re in
+            let host : is_initiator s.hosts c.caller ≡ true = d.host_is ∙ ap not re in
             ap (λ (dev : ℕ). target_of s (aim_of k.story.aims dev)) caller
             ∙ sym (ap (λ (q : Bool). if q then target_of s (aim_of k.story.aims c.caller) else initiator_if (ready_of s k c.caller)) host) ∙ d.callee_is
             ∙ ap (λ (y : ℕ). Some y) (sym target)
@@ -226,7 +228,7 @@ attended_next s p row h = record { aborts = λ n e off. aborts n e off (kind n e
         own : CarriedBytes
         own = carried_of k.story.carried id
 
-        shows : events_of s p row ≡ connection_events s k.story l d
+        shows : events_of_row s p row ≡ connection_events s k.story l d
         shows =
             row_shows s k.story row d l knows.link_is (ap (λ (x : Change). x.after.rst) c ∙ off)
             ∙ (λ x. if is_some ((next ∙ e) x) then connection_events s k.story l d else bus_free_events s l l.last)
@@ -255,7 +257,7 @@ attended_next s p row h = record { aborts = λ n e off. aborts n e off (kind n e
                 fails_first s k n.target id b known after (h.asked.leaves n id con calm off b ep (ap item_of knows.link_is ∙ item))
                 (ap is_status_next (g.whereto turned (sym pl.begun ∙ b)) ∙ sym (status_is g.change.after) ∙ status_next) shown refused
 
-        gives : (g : Goes s p row n) → GiveNoGood (events_of s p row)
+        gives : (g : Goes s p row n) → GiveNoGood (events_of_row s p row)
         gives g = subst GiveNoGood (sym (shows ∙ ap (λ (x : Option Item). if changes_phase d.change then phase_events s k.story (carried_if k.story x) d.change else if is_completion l d.change then end_events (carried_if k.story x) else []) item)) (by (changes_phase d.change) refl (is_completion l d.change))
           where
             by : (x : Bool) → changes_phase d.change ≡ x → (y : Bool) → GiveNoGood (if x then phase_events s k.story (Some own) d.change else if y then end_events (Some own) else [])
@@ -263,13 +265,13 @@ attended_next s p row h = record { aborts = λ n e off. aborts n e off (kind n e
             by false ep true = (refl, tt)
             by false ep false = tt
 
-        by_facts : RowFacts s p row n → GiveNoGood (events_of s p row)
+        by_facts : RowFacts s p row n → GiveNoGood (events_of_row s p row)
         by_facts (stays g) = gives g
         by_facts (ends_here g) = none_some n (sym g.stopped ∙ e)
 
         by_array : (o : Option Array) → j.array ≡ o → is_some o ≡ true → IsNotGood (reply_in (array_of s j).replies id)
         by_array None z some = absurd cc
-        by_array (Some a) z some = subst (λ (o : Option Array). IsNotGood (reply_in (or_start s o).replies id)) (sym z) (events_keep s k.array id (events_of s p row) (by_facts r.facts) bad_of a z)
+        by_array (Some a) z some = subst (λ (o : Option Array). IsNotGood (reply_in (or_start s o).replies id)) (sym z) (events_keep s k.array id (events_of_row s p row) (by_facts r.facts) bad_of a z)
 
     answers : (n : Connection) → connection q ≡ Some n → (bus q).rst ≡ false → n.reselected ≡ false → (instructions s q).known ≡ false → RowKindOf s p row n → AnswersBadly s j
     answers n e off re unknown (begins_now alone f) = answers_first n alone e off re

@@ -9,6 +9,7 @@ use Rattle.bus_trace.specs.Changes.{change_of, implies}
 use Rattle.bus_trace.specs.Phases.{changes_phase, is_message_in}
 use Rattle.bus_trace.specs.Terms.{connection}
 use Rattle.bus_trace.specs.Trace.{bus, drives, last_time}
+use Rattle.bus_trace.proofs.Sets.{same_self}
 use Rattle.bus_phases.specs.Dialogue.{dialogue}
 use Rattle.bus_lines.specs.Handshakes.{handshakes}
 use Rattle.scenario.specs.Value.{ScenarioValue}
@@ -25,7 +26,7 @@ use Rattle.bus_laws.specs.Rows.{row_of_lines, row_of_fault, change_to}
 use Rattle.bus_laws.proofs.Rows.{fault_change}
 use Rattle.link_laws.specs.Phases.{ends}
 use Rattle.link_laws.proofs.EndDues.{offering_with}
-use Rattle.link_laws.proofs.Moves.{initiator_moves, target_moves, phase_same, same_self, no_rise}
+use Rattle.link_laws.proofs.Moves.{initiator_moves, target_moves, phase_same, no_rise}
 use Rattle.trace_laws.specs.Attention.{MessageRow, keeps, asks, answers, Attention}
 use Rattle.trace_laws.proofs.Driven.{no_third}
 use Rattle.trace_laws.proofs.Impossible.{none_some}

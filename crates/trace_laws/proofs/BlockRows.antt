@@ -29,10 +29,10 @@ use Rattle.bus_due.specs.RunState.{RunState}
 use Rattle.bus_due.specs.RunSteps.{run_state_after}
 use Rattle.bus_books.specs.Rows.{IsRowIn, reading_in}
 use Rattle.bus_books.proofs.InConnection.{reading_is}
-use Rattle.bus_books.proofs.Lookups.{carried_id, put_there, id_is, self_id}
+use Rattle.bus_books.proofs.Lookups.{id_is, self_id}
 use Rattle.trace_laws.proofs.CommandCounts.{is_refusal}
-use Rattle.trace_laws.proofs.PointerStorySteps.{message_id}
-use Rattle.bus_story.proofs.StorySteps.{ends_keep, check_keeps, carried_link}
+use Rattle.bus_story.proofs.StorySteps.{ends_keep, check_keeps, carried_link, message_id}
+use Rattle.bus_story.proofs.CarriedLists.{carried_id, carried_with}
 
 abbrev pub block_in : Story → ProcId → List ℕ
 block_in b id = (carried_of b.carried id).block
@@ -44,7 +44,7 @@ undo_of (Some l) = l.undo
 -- ---- one is put in the list
 
 put_block : (all : List CarriedBytes) (c : CarriedBytes) (id : ProcId) (q : List ℕ → Type 0) → (c.id ≡ id → q c.block) → q (carried_of all id).block → q (carried_of (with_carried all c) id).block
-put_block all c id q own other = subst (λ (x : CarriedBytes). q x.block) (sym (put_there all c id)) (go (same_id c.id id) refl)
+put_block all c id q own other = subst (λ (x : CarriedBytes). q x.block) (sym (carried_with all c id)) (go (same_id c.id id) refl)
   where
     go : (r : Bool) → same_id c.id id ≡ r → q (if r then c else carried_of all id).block
     go true e = own (id_is c.id id e)
@@ -55,7 +55,7 @@ put_flags : (all : List CarriedBytes) (c : CarriedBytes) (x id : ProcId) → c.i
 put_flags all c x id ex eb = put_block all c id (λ bytes. bytes ≡ (carried_of all id).block) (λ e. eb ∙ ap (λ (y : ProcId). (carried_of all y).block) (sym ex ∙ e)) refl
 
 put_own_block : (all : List CarriedBytes) (c : CarriedBytes) (id : ProcId) → c.id ≡ id → (carried_of (with_carried all c) id).block ≡ c.block
-put_own_block all c id e = ap (λ (x : CarriedBytes). x.block) (put_there all c id ∙ ap (λ (q : Bool). if q then c else carried_of all id) (ap (λ (x : ProcId). same_id x id) e ∙ self_id id))
+put_own_block all c id e = ap (λ (x : CarriedBytes). x.block) (carried_with all c id ∙ ap (λ (q : Bool). if q then c else carried_of all id) (ap (λ (x : ProcId). same_id x id) e ∙ self_id id))
 
 -- ---- events
 

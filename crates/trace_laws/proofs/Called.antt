@@ -18,8 +18,9 @@ use Rattle.scenario.specs.Value.{ScenarioValue}
 use Rattle.disk_array.specs.SoundArray.{AllOwnUnits, HasSeats}
 use Rattle.disk_array.specs.Units.{Array}
 use Rattle.disk_array.proofs.SoundArrays.{history_sound, start_units}
+use Rattle.disk_array.specs.Seats.{is_initiator}
 use Rattle.bus_story.specs.Samples.{latency_of}
-use Rattle.bus_story.specs.TraceHistory.{is_host, aim_of, trace_history}
+use Rattle.bus_story.specs.TraceHistory.{aim_of, trace_history}
 use Rattle.bus_reactions.specs.declared.due.Due.{Due}
 use Rattle.bus_due.specs.Least.{IsLeast}
 use Rattle.bus_due.specs.Plain.{AreOfDevices}
@@ -56,7 +57,7 @@ callee_at s p c = callee s (run_state s p) c (aim_of (run_state s p).story.aims 
 
 pub record IsDueCall (s : ScenarioValue) (p : List Row) (c : ℕ) (x : Calling) : Type 0 where
   pub callee_is : callee_at s p c ≡ Some x.called
-  pub host_is : is_host s.hosts c ≡ not x.reselects
+  pub host_is : is_initiator s.hosts c ≡ not x.reselects
 
 abbrev pub IsCalled : ScenarioValue → List Row → Type 0
 IsCalled s p = (k : Call) (x : Calling) → call p ≡ Some k → k.calling ≡ Some x → IsDueCall s p k.caller x
@@ -110,7 +111,7 @@ keeps_all s p row dv lt h alone calm before after =
     ((λ i. rises g.own.bsy g.next.bsy && not (before i)) ∙ and_false (rises g.own.bsy g.next.bsy)) fal
 
 same_callee : (s : ScenarioValue) (p q : List Row) (c : ℕ) → KeepsAll s p q → callee_at s q c ≡ callee_at s p c
-same_callee s p q c k = λ i. if is_host s.hosts c then target_of s (aim_of (k.aims i) c) else initiator_if (k.wishes.ready c i)
+same_callee s p q c k = λ i. if is_initiator s.hosts c then target_of s (aim_of (k.aims i) c) else initiator_if (k.wishes.ready c i)
 
 -- ---- the caller drives both IDs
 
@@ -142,14 +143,14 @@ first_called s p row k x (after_arbitration c t h) calm always least e none new 
     let w = is_there s p row.dev due least.is_due in
     let at : stage p ≡ InCalling (won_call c t) = stage_is p _ _ _ _ h.stands in
     let is = is_calling s c w.0 (drives p c) (own_time p c) (callee_at s p c) due (sym (calls_due s p c w.0 t (drives p c) always.devices h.caller_below (ap (latency_of s) (sym dev) ∙ w.1) h.stands.connection_is at refl) ∙ ap (unreset_due s p) (sym dev) ∙ least.is_due) in
-    let m : Bool = is_host s.hosts c in
+    let m : Bool = is_initiator s.hosts c in
     let next : (change_of p row).next ≡ both_ids m c is.k = ap (λ (y : Kind). driven_after y (drives p row.dev)) is.kind_is in
     let two = is_call m c is.k h.caller_below is.below is.apart in
     let called : x.called ≡ is.k = ap (λ (y : Calling). y.called) (sym made.0) ∙ (λ i. other_id (next i) (sym caller i)) ∙ two.other in
     let io : x.reselects ≡ not m = ap (λ (y : Calling). y.reselects) (sym made.0) ∙ ap (λ (l : LineSet). l.io) next in
     record {
       callee_is = ap (callee_at s p) (sym caller) ∙ is.names ∙ ap (λ (y : ℕ). Some y) (sym called);
-      host_is = ap (is_host s.hosts) (sym caller) ∙ sym (ap not io ∙ not_not m);
+      host_is = ap (is_initiator s.hosts) (sym caller) ∙ sym (ap not io ∙ not_not m);
     }
 
 -- ---- any row
@@ -223,14 +224,14 @@ made_of s p c t x n u own d same = record { selects = λ z. selecting z; reselec
         let r : x.reselects ≡ false = ap (λ (w : Connection). w.reselected) same ∙ z in
         let i : n.initiator ≡ c = ap (λ (w : Connection). w.initiator) (sym same) ∙ ap (λ (q : Bool). if q then x.called else c) r in
         let g : n.target ≡ x.called = ap (λ (w : Connection). w.target) (sym same) ∙ ap (λ (q : Bool). if q then c else x.called) r in
-        selects_for s k n (ap (is_host s.hosts) i ∙ d.host_is ∙ ap not r) (ap (callee_at s p) i ∙ d.callee_is ∙ ap (λ (w : ℕ). Some w) (sym g))
+        selects_for s k n (ap (is_initiator s.hosts) i ∙ d.host_is ∙ ap not r) (ap (callee_at s p) i ∙ d.callee_is ∙ ap (λ (w : ℕ). Some w) (sym g))
 
     reselecting : n.reselected ≡ true → IsReadyFor s k n
     reselecting z =
         let r : x.reselects ≡ true = ap (λ (w : Connection). w.reselected) same ∙ z in
         let i : n.initiator ≡ x.called = ap (λ (w : Connection). w.initiator) (sym same) ∙ ap (λ (q : Bool). if q then x.called else c) r in
         let g : n.target ≡ c = ap (λ (w : Connection). w.target) (sym same) ∙ ap (λ (q : Bool). if q then c else x.called) r in
-        reselects_by s k n u own (ap (is_host s.hosts) g ∙ d.host_is ∙ ap not r) (ap (callee_at s p) g ∙ d.callee_is ∙ ap (λ (w : ℕ). Some w) (sym i))
+        reselects_by s k n u own (ap (is_initiator s.hosts) g ∙ d.host_is ∙ ap not r) (ap (callee_at s p) g ∙ d.callee_is ∙ ap (λ (w : ℕ). Some w) (sym i))
 
 pub made_for : (s : ScenarioValue) (p : List Row) (t : ℕ) (n : Connection) → AreUnits s → HasSeats s → AreOfDevices p → IsCalled s p → connection_of (call p) t ≡ Some n → IsMadeFor s (run_state s p) n
 made_for s p t n u seats dv was e = by_call (call p) refl e

@@ -20,6 +20,7 @@ use Rattle.bus_story.specs.Items.{Item, process, abort, has_item}
 use Rattle.bus_story.specs.Links.{Link, link_after_name}
 use Rattle.bus_story.specs.Story.{Story}
 use Rattle.bus_story.specs.TraceHistory.{story_with_carried, story_after_out, story_after_in, story_after_byte, carried_after_fault_if, story_after_fault}
+use Rattle.bus_story.proofs.CarriedLists.{carried_id}
 use Rattle.bus_due.specs.RunState.{RunState, bus_of, carried_here}
 use Rattle.bus_due.specs.RunSteps.{run_state_after}
 use Rattle.bus_books.specs.Giving.{Gives}
@@ -27,7 +28,7 @@ use Rattle.bus_books.specs.Knowing.{Knows}
 use Rattle.bus_books.specs.Rows.{RowKind, still, strikes, crosses, turns, IsRowIn, IsFirstRow, reading_in}
 use Rattle.bus_books.specs.Traces.{GoesOn, Books}
 use Rattle.bus_books.proofs.InConnection.{InConnection, in_connection}
-use Rattle.bus_books.proofs.Lookups.{put_other, carried_id}
+use Rattle.bus_books.proofs.Lookups.{put_other}
 use Rattle.trace_laws.specs.ClearFacts.{StandsClear, ClearBooks}
 use Rattle.trace_laws.specs.DataPointers.{UndoesServed, is_marked}
 use Rattle.trace_laws.specs.Failures.{IsClear}

@@ -22,6 +22,7 @@ use Rattle.bus_story.specs.BusState.{row_reading}
 use Rattle.bus_story.specs.HistoryEvents.{is_complete, is_completion, carried_if, end_events, row_events_by}
 use Rattle.bus_story.specs.Items.{Item, process}
 use Rattle.bus_story.specs.Links.{Link, LastMessage, plain, complete, last_in}
+use Rattle.bus_story.proofs.CarriedLists.{carried_id}
 use Rattle.bus_dialogue.specs.declared.exchange.Messages.{Messages}
 use Rattle.bus_dialogue.specs.declared.exchange.Next.{Next}
 use Rattle.bus_dialogue.specs.declared.exchange.Phase.{Phase}
@@ -35,7 +36,6 @@ use Rattle.bus_books.specs.Knowing.{Knows}
 use Rattle.bus_books.specs.Rows.{RowKind, still, strikes, crosses, turns}
 use Rattle.bus_books.specs.Traces.{GoesOn}
 use Rattle.bus_books.proofs.InConnection.{InConnection, in_connection}
-use Rattle.bus_books.proofs.Lookups.{carried_id}
 use Rattle.bus_laws.proofs.Prompt.{least_is}
 use Rattle.trace_laws.specs.Closes.{IsCompleting, HasClosed, CloseBooks, CloseFacts}
 use Rattle.trace_laws.specs.LastTalks.{LastGiven, still_stays, to_close, to_save, closed, LastBy}

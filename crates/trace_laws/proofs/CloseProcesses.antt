@@ -11,8 +11,8 @@ use Rattle.disk_array.specs.Steps as Steps
 use Rattle.disk_array.specs.Steps.{has_ended, running_process}
 use Rattle.disk_array.specs.Units.{RunningProcess, Array, settled_array}
 use Rattle.bus_books.proofs.Lookups.{self_id}
-use Rattle.trace_laws.proofs.EachProcess.{running_id}
 use Rattle.trace_laws.proofs.Impossible.{none_some}
+use Rattle.trace_laws.proofs.ListedReplies.{running_id}
 
 -- Where END is a step, the process has ended after it.
 pub ended_after : (s : ScenarioValue) (a b : Array) (id : ProcId) (status : ℕ) → Steps.step s (events.End id status) a ≡ Some b → has_ended b id ≡ true

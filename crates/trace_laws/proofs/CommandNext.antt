@@ -37,11 +37,11 @@ use Rattle.bus_due.specs.RunState.{RunState, bus_of, carried_here}
 use Rattle.bus_due.specs.RunSteps.{run_state}
 use Rattle.bus_due.specs.Sights.{serving_of, leaving}
 use Rattle.bus_due.proofs.Plains.{run_state_plain}
-use Rattle.scsi_device.specs.Heard.{is_message}
+use Rattle.scsi_device.specs.Heard.{is_message, is_command_phase}
 use Rattle.scsi_device.specs.Lines.{AreUnits}
 use Rattle.bus_books.specs.Carrying.{CarriesOwn}
 use Rattle.bus_books.specs.Items.{IsItem, is_process, is_abort}
-use Rattle.bus_books.specs.Reactions.{IsOver, is_command_phase}
+use Rattle.bus_books.specs.Reactions.{IsOver}
 use Rattle.bus_books.specs.Rows.{RowKind, still, strikes, crosses, turns, IsRowIn}
 use Rattle.bus_books.specs.Speaking.{Speaks}
 use Rattle.bus_books.specs.Traces.{Books, GoesOn}

@@ -25,7 +25,8 @@ use Rattle.bus_due.specs.RunState.{RunState, bus_of, carried_here}
 use Rattle.bus_due.specs.RunSteps.{run_state_after}
 use Rattle.bus_books.specs.Hearing.{is_in_phase}
 use Rattle.bus_books.specs.Rows.{IsRowIn}
-use Rattle.bus_books.proofs.Gives.{requests_stay, struck_same}
+use Rattle.bus_books.proofs.Gives.{requests_stay}
+use Rattle.bus_lines.proofs.Early.{struck_same}
 use Rattle.bus_books.proofs.InConnection.{InConnection, in_connection, SamePhase, same_phase_is}
 use Rattle.trace_laws.specs.Commands.{IsNone, IsNoneOrAll, dialogue_of, block_count, Counts, IsUntaken, IsBeforeCommand, Restores, GivesBefore, opens_given, restores_given, AnswersBefore, opens_answered, restores_refused, restores_answered, TakesBlock, GivesFor, AnswersFor, SaysFor, StandsIn, CommandBooks}
 use Rattle.trace_laws.proofs.CommandTurns.{SameBlocks, no_block_as, undo_as, serves_as, item_as, same_blocks}

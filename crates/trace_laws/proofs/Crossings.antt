@@ -13,6 +13,7 @@ use Rattle.bus_trace.specs.Phases.{changes_phase, is_message_out, is_message_in}
 use Rattle.bus_trace.specs.Terms.{connection, receiver_in}
 use Rattle.bus_trace.specs.Trace.{bus, drives, last_time}
 use Rattle.bus_trace.proofs.OddParity.{byte_odd, byte_back}
+use Rattle.bus_trace.proofs.Sets.{same_self}
 use Rattle.bus_phases.specs.Dialogue.{dialogue}
 use Rattle.bus_lines.specs.Handshakes.{handshakes}
 use Rattle.scenario.specs.Value.{ScenarioValue}
@@ -41,7 +42,7 @@ use Rattle.link_laws.specs.Phases.{ends}
 use Rattle.link_laws.proofs.EndDues.{offering_with, answering_with}
 use Rattle.link_laws.proofs.Leaves.{may_leave}
 use Rattle.link_laws.proofs.LinkObeys.{same_phases}
-use Rattle.link_laws.proofs.Moves.{phase_same, same_self, no_rise}
+use Rattle.link_laws.proofs.Moves.{phase_same, no_rise}
 use Rattle.link_laws.proofs.PhaseEnds.{leaves_lines}
 use Rattle.trace_laws.proofs.Driven.{message_at, message_follows, Driven, no_third}
 use Rattle.trace_laws.proofs.InPhase.{offered_in, follows_in_message}
@@ -49,9 +50,9 @@ use Rattle.trace_laws.proofs.Kept.{EndRow, turn, row_in, initiator_end, target_e
 use Rattle.trace_laws.proofs.LinkRows as rows
 use Rattle.trace_laws.proofs.LinkRows.{LinkRow, is_pulsed, is_unasked}
 use Rattle.trace_laws.proofs.Steps.{IsDriven, HasValues}
-use Rattle.trace_laws.proofs.Tests.{none_both, not_first}
+use Rattle.trace_laws.proofs.Tests.{none_both}
 use Rattle.trace_laws.proofs.Turns.{freed_bus, freed_connection}
-use Rattle.bus_base.proofs.Tests.{wrong, wrong'}
+use Rattle.bus_base.proofs.Tests.{wrong, wrong', not_first}
 
 -- The connection goes on with the row.
 pub record Goes (s : ScenarioValue) (p : List Row) (row : Row) (n : Connection) : Type 0 where

@@ -15,6 +15,7 @@ use Rattle.bus_trace.specs.Changes.{change_of, falls}
 use Rattle.bus_trace.specs.Phases.{changes_phase, is_message_in}
 use Rattle.bus_trace.specs.Terms.{call, connection, connection_after, connection_of}
 use Rattle.bus_trace.specs.Trace.{bus, drives, last_time, line_times}
+use Rattle.bus_trace.proofs.Sets.{same_self}
 use Rattle.bus_rules.specs.Reset.{only_rst}
 use Rattle.scenario.specs.Value.{ScenarioValue}
 use Rattle.scenario.specs.Writing.{Obeys}
@@ -39,7 +40,7 @@ use Rattle.bus_laws.proofs.Rows.{drives_other, drives_own, fault_change}
 use Rattle.bus_laws.proofs.Together.{by_calm, by_reset, reset_or_calm}
 use Rattle.link_laws.specs.LinkStages.{AnyStage, LinkStage, apart, linked, when_offering, when_pulsing, when_selected, when_settling, when_shaking, when_turning}
 use Rattle.link_laws.specs.Phases.{ends}
-use Rattle.link_laws.proofs.Moves.{phase_same, same_self, target_moves}
+use Rattle.link_laws.proofs.Moves.{phase_same, target_moves}
 use Rattle.trace_laws.proofs.ConnectionRows.{ConnectionRow, RowKindOf, begins_now, connection_row, goes_now, row_kind, stage_of_connection}
 use Rattle.trace_laws.proofs.Blocks.{commands_are}
 use Rattle.trace_laws.proofs.ByteValues.{byte_values}

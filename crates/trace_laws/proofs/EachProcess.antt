@@ -16,17 +16,16 @@ use Rattle.scenario.specs.Value.{ScenarioValue}
 use Rattle.disk_array.specs.Processes.{Process, process_of, same_id}
 use Rattle.disk_array.specs.Execution.{Reply, Execution, execution, is_request_sense, commands_cleared, check_condition, queue_full, sense_of}
 use Rattle.disk_array.specs.Order.{without_process, choice, chosen_place, entries_of, process_at, process_at_if}
-use Rattle.disk_array.specs.Units.{RunningProcess, UnitState, Nexus, Array, is_held, unit_state_at, with_unit, guest_at, without_guest, nexus_of, has_no_current, with_current, unit_after_choice, units_after_choice, settled_array, senses_without, nexuses_without, sense_of_nexus}
+use Rattle.disk_array.specs.Units.{RunningProcess, UnitState, Nexus, Array, is_held, unit_state_at, with_unit, guest_at, without_guest, nexus_of, has_no_current, with_current, unit_after_choice, units_after_choice, settled_array, senses_without, nexuses_without, sense_of_nexus, without_reply}
 use Rattle.disk_array.specs.Steps as Steps
 use Rattle.disk_array.specs.Steps.{is_of_unit, has_tag}
-use Rattle.bus_books.proofs.Lookups.{id_is}
-use Rattle.trace_laws.specs.Places.{fresh, Waits, Runs, OnUnit, OnUnits, OnGuests, Each}
+use Rattle.trace_laws.specs.Places.{Waits, Runs, OnUnit, OnUnits, OnGuests, Each}
 use Rattle.trace_laws.proofs.Impossible.{none_some}
-use Rattle.target_units.proofs.UnitTimes.{process_is}
+use Rattle.trace_laws.proofs.ListedReplies.{running_id}
 
 -- ---- lists
 
-pub append_waits : (q : RunningProcess → Type 0) (waiting : List Process) (p : Process) → Waits q waiting → q (fresh p) → Waits q (waiting ++ p ∷ [])
+pub append_waits : (q : RunningProcess → Type 0) (waiting : List Process) (p : Process) → Waits q waiting → q (without_reply p) → Waits q (waiting ++ p ∷ [])
 append_waits q [] p h g = (g, tt)
 append_waits q (w ∷ waiting) p h g = (h.0, append_waits q waiting p h.1 g)
 
@@ -46,15 +45,15 @@ kept_waits q drops (p ∷ waiting) h = go (drops p) (kept_waits q drops waiting 
     go true k = k
     go false k = (h.0, k)
 
-at_waits : (q : RunningProcess → Type 0) (waiting : List Process) (place : ℕ) (p : Process) → Waits q waiting → process_at waiting place ≡ Some p → q (fresh p)
+at_waits : (q : RunningProcess → Type 0) (waiting : List Process) (place : ℕ) (p : Process) → Waits q waiting → process_at waiting place ≡ Some p → q (without_reply p)
 at_waits q [] place p h e = absurd (none_some p e)
-at_waits q (w ∷ waiting) zero p h e = subst (λ (x : Process). q (fresh x)) (same_Some w p e) h.0
+at_waits q (w ∷ waiting) zero p h e = subst (λ (x : Process). q (without_reply x)) (same_Some w p e) h.0
 at_waits q (w ∷ waiting) (suc place) p h e = at_waits q waiting place p h.1 e
 
-choice_waits : (q : RunningProcess → Type 0) (u : UnitState) (p : Process) → Waits q u.waiting → choice u.pick u.waiting ≡ Some p → q (fresh p)
+choice_waits : (q : RunningProcess → Type 0) (u : UnitState) (p : Process) → Waits q u.waiting → choice u.pick u.waiting ≡ Some p → q (without_reply p)
 choice_waits q u p h e = go (chosen_place u.pick (entries_of u.waiting)) e
   where
-    go : (x : Option ℕ) → process_at_if u.waiting x ≡ Some p → q (fresh p)
+    go : (x : Option ℕ) → process_at_if u.waiting x ≡ Some p → q (without_reply p)
     go None k = absurd (none_some p k)
     go (Some place) k = at_waits q u.waiting place p h k
 
@@ -210,7 +209,7 @@ status_same a p reply = go (reply.status == CHECK_CONDITION) (reply.status == GO
 -- ---- an event
 
 pub record Admits (s : ScenarioValue) (q g : RunningProcess → Type 0) (id : ProcId) : Type 0 where
-  pub waits : (p : Process) → process_of s id ≡ Some p → q (fresh p)
+  pub waits : (p : Process) → process_of s id ≡ Some p → q (without_reply p)
   pub comes : (p : Process) (reply : Option Reply) → process_of s id ≡ Some p → g (record { process = p; reply = reply })
   pub runs : KeptAsReplied id q
   pub is_guest : KeptAsReplied id g
@@ -234,7 +233,7 @@ accepted : (s : ScenarioValue) (q g : RunningProcess → Type 0) (a : Array) (id
 accepted s q g a id own h = go (process_of s id) refl
   where
     guest : (p : Process) → process_of s id ≡ Some p → Each q g (Steps.with_guest a p None)
-    guest p e = record { units = h.units; guests = append_guests g a.guests (fresh p) h.guests (own.comes p None e) }
+    guest p e = record { units = h.units; guests = append_guests g a.guests (without_reply p) h.guests (own.comes p None e) }
 
     by : (p : Process) → process_of s id ≡ Some p → (u : Option UnitState) → unit_state_at a.units p.target p.unit ≡ u → IfEach q g (Steps.accept_step_at a p u)
     by p e None f = guest p e
@@ -263,10 +262,6 @@ refused s q g a id own h = go (process_of s id) refl
     go : (p : Option Process) → process_of s id ≡ p → IfEach q g (Steps.refuse_step a p)
     go None e = tt
     go (Some p) e = by p e (unit_state_at a.units p.target p.unit)
-
--- The process that runs is found by its id.
-pub running_id : (a : Array) (id : ProcId) (r : RunningProcess) → Steps.running_process a id ≡ Some r → r.process.id ≡ id
-running_id a id r e = id_is r.process.id id (process_is a id r e)
 
 replied_each : (q g : RunningProcess → Type 0) (a : Array) (id : ProcId) (reply : Reply) → KeptAsReplied id q → KeptAsReplied id g → Each q g a → Each q g (Steps.with_reply a id reply)
 replied_each q g a id reply f k h = record { units = replied_units q a.units id reply f h.units; guests = replied_guests g a.guests id reply k h.guests }

@@ -19,15 +19,14 @@ use Rattle.scenario.specs.declared.value.AbortDef.{AbortDef}
 use Rattle.scenario.specs.declared.value.CmdDef.{CmdDef}
 use Rattle.scenario.specs.declared.value.HostDef.{HostDef}
 use Rattle.scenario.specs.declared.value.TargetDef.{TargetDef}
-use Rattle.scenario.specs.declared.value.Tag.TheVariants as tags
-use Rattle.scenario.specs.Needs.{sent_of}
 use Rattle.scenario.specs.Value.{ScenarioValue}
 use Rattle.bus_base.specs.declared.ProcId.{ProcId}
-use Rattle.disk_array.specs.Processes.{Process, command_at, payload_bytes, process_by, process_if, process_of, sense_block}
+use Rattle.disk_array.specs.Processes.{Process, command_at, process_by, process_if, process_of, sense_process, command_process}
+use Rattle.disk_array.specs.Seats.{is_initiator}
 use Rattle.bus_story.specs.HistoryEvents.{abort_line_at}
 use Rattle.bus_story.specs.Items.{Item, process, abort}
 use Rattle.bus_story.specs.Samples.{host_latency, target_latency}
-use Rattle.bus_story.specs.TraceHistory.{is_host, aim_of}
+use Rattle.bus_story.specs.TraceHistory.{aim_of}
 use Rattle.bus_due.specs.Defs.{host_of, target_def_of}
 use Rattle.bus_due.specs.Plain.{AreOfDevices}
 use Rattle.bus_due.specs.RunSteps.{run_state}
@@ -46,24 +45,24 @@ use Rattle.bus_base.proofs.Tests.{wrong, wrong'}
 
 -- ---- the lines of the scenario
 
-pub host_found : (hosts : List HostDef) (dev : ℕ) → is_host hosts dev ≡ true → is_some (find (λ (h : HostDef). h.dev == dev) hosts) ≡ true
+pub host_found : (hosts : List HostDef) (dev : ℕ) → is_initiator hosts dev ≡ true → is_some (find (λ (h : HostDef). h.dev == dev) hosts) ≡ true
 host_found [] dev e = e
 host_found (h ∷ hosts) dev e = go (h.dev == dev) (host_found hosts dev) e
   where
-    go : (q : Bool) → (is_host hosts dev ≡ true → is_some (find (λ (h : HostDef). h.dev == dev) hosts) ≡ true) → (q || is_host hosts dev) ≡ true → is_some (if q then Some h else find (λ (h : HostDef). h.dev == dev) hosts) ≡ true
+    go : (q : Bool) → (is_initiator hosts dev ≡ true → is_some (find (λ (h : HostDef). h.dev == dev) hosts) ≡ true) → (q || is_initiator hosts dev) ≡ true → is_some (if q then Some h else find (λ (h : HostDef). h.dev == dev) hosts) ≡ true
     go true more z = refl
     go false more z = more z
 
-host_any : (hosts : List HostDef) (dev : ℕ) → is_some (find (λ (h : HostDef). h.dev == dev) hosts) ≡ true → is_host hosts dev ≡ true
+host_any : (hosts : List HostDef) (dev : ℕ) → is_some (find (λ (h : HostDef). h.dev == dev) hosts) ≡ true → is_initiator hosts dev ≡ true
 host_any [] dev e = e
 host_any (h ∷ hosts) dev e = go (h.dev == dev) (host_any hosts dev) e
   where
-    go : (q : Bool) → (is_some (find (λ (h : HostDef). h.dev == dev) hosts) ≡ true → is_host hosts dev ≡ true) → is_some (if q then Some h else find (λ (h : HostDef). h.dev == dev) hosts) ≡ true → (q || is_host hosts dev) ≡ true
+    go : (q : Bool) → (is_some (find (λ (h : HostDef). h.dev == dev) hosts) ≡ true → is_initiator hosts dev ≡ true) → is_some (if q then Some h else find (λ (h : HostDef). h.dev == dev) hosts) ≡ true → (q || is_initiator hosts dev) ≡ true
     go true more z = refl
     go false more z = more z
 
 -- A device of the scenario that is no initiator is a target.
-target_found : (s : ScenarioValue) (dev : ℕ) → HasDevice s dev → is_host s.hosts dev ≡ false → is_some (target_def_of s dev) ≡ true
+target_found : (s : ScenarioValue) (dev : ℕ) → HasDevice s dev → is_initiator s.hosts dev ≡ false → is_some (target_def_of s dev) ≡ true
 target_found s dev d none = go (target_def_of s dev) (host_of s dev) refl d.latency_is
   where
     go : (t : Option TargetDef) (h : Option HostDef) → host_of s dev ≡ h → target_latency t (host_latency h) ≡ Some d.latency → is_some t ≡ true
@@ -73,20 +72,14 @@ target_found s dev d none = go (target_def_of s dev) (host_of s dev) refl d.late
 
 -- ---- the ends of a process, and of what an initiator calls for
 
-abbrev pub sense_of : ScenarioValue → ProcId → CmdDef → Process
-sense_of s id c = record { id = id; initiator = c.host; target = c.target; unit = c.unit; tag = tags.Untagged; cdb = sense_block; sent = [] }
-
-abbrev pub told_of : ScenarioValue → ProcId → CmdDef → Process
-told_of s id c = record { id = id; initiator = c.host; target = c.target; unit = c.unit; tag = c.tag; cdb = c.cdb; sent = payload_bytes c.payload (sent_of s c) }
-
 -- The first is an initiator, the second none.
 abbrev AreHosts : ScenarioValue → ℕ → ℕ → Type 0
-AreHosts s a b = (is_host s.hosts a ≡ true) × (is_host s.hosts b ≡ false)
+AreHosts s a b = (is_initiator s.hosts a ≡ true) × (is_initiator s.hosts b ≡ false)
 
 by_command : (s : ScenarioValue) (id : ProcId) (c : CmdDef) → AreHosts s c.host c.target → AreHosts s (process_by s id c).initiator (process_by s id c).target
 by_command s id c h = go id.sense
   where
-    go : (q : Bool) → AreHosts s (if q then sense_of s id c else told_of s id c).initiator (if q then sense_of s id c else told_of s id c).target
+    go : (q : Bool) → AreHosts s (if q then sense_process id c else command_process s id c).initiator (if q then sense_process id c else command_process s id c).target
     go true = h
     go false = h
 
@@ -100,18 +93,18 @@ process_ends s id p fits e = go (command_at s.commands id.command) refl
         subst (λ (x : Process). AreHosts s x.initiator x.target) (same_Some (process_by s id c) p (sym (ap (process_if s id) z) ∙ e)) (by_command s id c (line.host_is, line.target_is))
 
 -- What an initiator calls is none.
-aim_target : (s : ScenarioValue) (aim : Option Item) (n : ℕ) → FitsBus s → target_of s aim ≡ Some n → is_host s.hosts n ≡ false
+aim_target : (s : ScenarioValue) (aim : Option Item) (n : ℕ) → FitsBus s → target_of s aim ≡ Some n → is_initiator s.hosts n ≡ false
 aim_target s None n fits e = absurd (none_some n e)
 aim_target s (Some (process id)) n fits e = go (process_of s id) refl
   where
-    go : (o : Option Process) → process_of s id ≡ o → is_host s.hosts n ≡ false
+    go : (o : Option Process) → process_of s id ≡ o → is_initiator s.hosts n ≡ false
     go None z = absurd (none_some n (sym (ap target_if z) ∙ e))
-    go (Some p) z = ap (is_host s.hosts) (sym (same_Some p.target n (sym (ap target_if z) ∙ e))) ∙ (process_ends s id p fits z).1
+    go (Some p) z = ap (is_initiator s.hosts) (sym (same_Some p.target n (sym (ap target_if z) ∙ e))) ∙ (process_ends s id p fits z).1
 aim_target s (Some (abort k)) n fits e = go (abort_line_at s.aborts k) refl
   where
-    go : (o : Option AbortDef) → abort_line_at s.aborts k ≡ o → is_host s.hosts n ≡ false
+    go : (o : Option AbortDef) → abort_line_at s.aborts k ≡ o → is_initiator s.hosts n ≡ false
     go None z = absurd (none_some n (sym (ap abort_target z) ∙ e))
-    go (Some a) z = ap (is_host s.hosts) (sym (same_Some a.target n (sym (ap abort_target z) ∙ e))) ∙ (abort_fits s k a fits z).target_is
+    go (Some a) z = ap (is_initiator s.hosts) (sym (same_Some a.target n (sym (ap abort_target z) ∙ e))) ∙ (abort_fits s k a fits z).target_is
 
 -- ---- a connection begins
 
@@ -121,21 +114,21 @@ due_ends s p c t x n fits dv d same there = go x.reselects refl
     made : IsMadeFor s (run_state s p) n
     made = made_of s p c t x n (units_are s fits) (own_units s p (seats_are s fits) dv) d same
 
-    ends : is_host s.hosts n.initiator ≡ true → is_host s.hosts n.target ≡ false → HasEnds s n
+    ends : is_initiator s.hosts n.initiator ≡ true → is_initiator s.hosts n.target ≡ false → HasEnds s n
     ends host none = record { initiator = host_found s.hosts n.initiator host; target = target_found s n.target there none }
 
     go : (q : Bool) → x.reselects ≡ q → HasEnds s n
     go true r =
         let g : n.target ≡ c = ap (λ (w : Connection). w.target) (sym same) ∙ ap (λ (q : Bool). if q then c else x.called) r in
         let ready = made.reselects (ap (λ (w : Connection). w.reselected) (sym same) ∙ r) in
-        ends (ap (is_host s.hosts) (sym ready.initiator_is) ∙ (process_ends s ready.ready.process.id ready.process fits ready.process_is).0) (ap (is_host s.hosts) g ∙ d.host_is ∙ ap not r)
+        ends (ap (is_initiator s.hosts) (sym ready.initiator_is) ∙ (process_ends s ready.ready.process.id ready.process fits ready.process_is).0) (ap (is_initiator s.hosts) g ∙ d.host_is ∙ ap not r)
     go false r =
         let i : n.initiator ≡ c = ap (λ (w : Connection). w.initiator) (sym same) ∙ ap (λ (q : Bool). if q then x.called else c) r in
         let g : n.target ≡ x.called = ap (λ (w : Connection). w.target) (sym same) ∙ ap (λ (q : Bool). if q then c else x.called) r in
-        let host : is_host s.hosts c ≡ true = d.host_is ∙ ap not r in
+        let host : is_initiator s.hosts c ≡ true = d.host_is ∙ ap not r in
         let aim = aim_of (run_state s p).story.aims c in
         let called : target_of s aim ≡ Some x.called = sym (ap (λ (q : Bool). if q then target_of s aim else initiator_if (ready_of s (run_state s p) c)) host) ∙ d.callee_is in
-        ends (ap (is_host s.hosts) i ∙ host) (ap (is_host s.hosts) g ∙ aim_target s aim x.called fits called)
+        ends (ap (is_initiator s.hosts) i ∙ host) (ap (is_initiator s.hosts) g ∙ aim_target s aim x.called fits called)
 
 made_ends : (s : ScenarioValue) (p : List Row) (t : ℕ) (n : Connection) → FitsBus s → AreOfDevices p → IsCalled s p → HasDevice s n.target → connection_of (call p) t ≡ Some n → HasEnds s n
 made_ends s p t n fits dv was there e = by_call (call p) refl e

@@ -12,11 +12,11 @@ use Rattle.bus_story.specs.Items.{Item}
 use Rattle.bus_story.specs.Links.{link_of}
 use Rattle.bus_story.specs.Story.{Story}
 use Rattle.bus_story.specs.TraceHistory.{aim_of, story_after_connection, story_by_change, story_on_bus, story_with_restored, story_with_sent}
+use Rattle.bus_story.proofs.StorySteps.{free_carried}
 use Rattle.bus_due.specs.RunState.{RunState, carried_here}
 use Rattle.bus_due.specs.RunSteps.{run_state_after}
 use Rattle.trace_laws.specs.Failures.{IsClear}
 use Rattle.trace_laws.proofs.FailureBytes.{SameFail, clear_as, events_fail, restored_clear}
-use Rattle.trace_laws.proofs.ShownReplies.{free_carries}
 
 -- But for the events of the row.
 changed_fails : (s : ScenarioValue) (k : RunState) (row : Row) (b : Story) (id : ProcId) → story_by_change s k.story (row_reading k.story.bus_state row) row ≡ b → SameFail (carried_of b.carried id) (carried_here (run_state_after s k row) id)
@@ -64,5 +64,5 @@ apart_clear s k row id con h =
 
     go : (q : Bool) (o : Option Connection) → IsClear (carried_of (if q then record k.story { link = None } else story_on_bus s k.story None o d row).carried id)
     go true o = h
-    go false None = subst (λ (all : List CarriedBytes). IsClear (carried_of all id)) (sym (free_carries s k.story d row)) h
+    go false None = subst (λ (all : List CarriedBytes). IsClear (carried_of all id)) (sym (free_carried s k.story d row)) h
     go false (Some n) = begun_clear k.story n id h

@@ -24,14 +24,14 @@ use Rattle.bus_story.specs.Items.{Item, process, abort}
 use Rattle.bus_story.specs.Links.{Link, last_out, last_in, link_after_name}
 use Rattle.bus_story.specs.Story.{Story, by_abort, by_reset, is_aborted, is_sense_stopped, marked_refused, marked_shown, story_after_event, story_after_events}
 use Rattle.bus_story.specs.TraceHistory.{story_with_restored, story_with_carried, is_parity_error, story_after_out, carried_after_message_if, story_after_message, story_after_in, carried_after_byte_if, story_after_byte, story_after_fault, story_in_connection, story_on_bus, story_by_change}
+use Rattle.bus_story.proofs.StorySteps.{message_id, ends_carried, check_carried}
+use Rattle.bus_story.proofs.CarriedLists.{carried_id, carried_with}
 use Rattle.bus_due.specs.RunState.{RunState, carried_here}
 use Rattle.bus_due.specs.RunSteps.{run_state_after}
 use Rattle.bus_books.specs.Rows.{IsRowIn, reading_in}
 use Rattle.bus_books.proofs.InConnection.{reading_is}
-use Rattle.bus_books.proofs.Lookups.{id_is, carried_id, put_there, put_own}
+use Rattle.bus_books.proofs.Lookups.{id_is, put_own}
 use Rattle.trace_laws.specs.Failures.{IsClear, UndoesClear}
-use Rattle.trace_laws.proofs.PointerStorySteps.{message_id}
-use Rattle.trace_laws.proofs.ShownReplies.{checked, all_ended}
 use Rattle.bus_base.proofs.Tests.{wrong}
 
 pub record SameFail (c d : CarriedBytes) : Type 0 where
@@ -51,7 +51,7 @@ abbrev KeepsFail : List CarriedBytes → List CarriedBytes → Type 0
 KeepsFail before after = (id : ProcId) → SameFail (carried_of before id) (carried_of after id)
 
 puts_fail : (all : List CarriedBytes) (c : CarriedBytes) → SameFail (carried_of all c.id) c → KeepsFail all (with_carried all c)
-puts_fail all c w id = subst (λ (x : CarriedBytes). SameFail (carried_of all id) x) (sym (put_there all c id)) (go (same_id c.id id) refl)
+puts_fail all c w id = subst (λ (x : CarriedBytes). SameFail (carried_of all id) x) (sym (carried_with all c id)) (go (same_id c.id id) refl)
   where
     go : (q : Bool) → same_id c.id id ≡ q → SameFail (carried_of all id) (if q then c else carried_of all id)
     go true f = subst (λ (x : ProcId). SameFail (carried_of all x) c) (id_is c.id id f) w
@@ -70,10 +70,10 @@ event_fails s b (events.Accept p) = as_before b.carried b.carried refl
 event_fails s b (events.Refuse p) = own_marks b.carried p (marked_refused (carried_of b.carried p)) refl (record { failure = refl; struck = refl })
 event_fails s b (events.Run p) = own_marks b.carried p (marked_shown (carried_of b.carried p)) refl (record { failure = refl; struck = refl })
 event_fails s b (events.Fail p code) = own_marks b.carried p (marked_shown (carried_of b.carried p)) refl (record { failure = refl; struck = refl })
-event_fails s b (events.End p status) = as_before b.carried (story_after_event s b (events.End p status)).carried (checked _ p status)
+event_fails s b (events.End p status) = as_before b.carried (story_after_event s b (events.End p status)).carried (check_carried _ p status)
 event_fails s b (events.Lost p) = as_before b.carried b.carried refl
-event_fails s b (events.Aborted h t u what) = as_before b.carried (story_after_event s b (events.Aborted h t u what)).carried (all_ended (is_aborted h t u what) (is_sense_stopped h t u what) by_abort 1 s.commands b)
-event_fails s b (events.Reset dev) = as_before b.carried (story_after_event s b (events.Reset dev)).carried (all_ended (λ c. true) (λ c. true) by_reset 1 s.commands b)
+event_fails s b (events.Aborted h t u what) = as_before b.carried (story_after_event s b (events.Aborted h t u what)).carried (ends_carried (is_aborted h t u what) (is_sense_stopped h t u what) by_abort 1 s.commands b)
+event_fails s b (events.Reset dev) = as_before b.carried (story_after_event s b (events.Reset dev)).carried (ends_carried (λ c. true) (λ c. true) by_reset 1 s.commands b)
 
 pub events_fail : (s : ScenarioValue) (b : Story) (shown : List Event) → KeepsFail b.carried (story_after_events s b shown).carried
 events_fail s b [] id = same_fail (carried_of b.carried id)
@@ -142,7 +142,7 @@ out_clear b l m id undo h = go (is_parity_error m) l.undo undo
     go : (q : Bool) (o : Option CarriedBytes) → UndoesClear o → IsClear (carried_of (story_with_carried (record b { link = Some (record l { last = last_out m l }) }) (if q then o else None)).carried id)
     go false o w = h
     go true None w = h
-    go true (Some u) w = subst IsClear (sym (put_there b.carried u id)) (by (same_id u.id id))
+    go true (Some u) w = subst IsClear (sym (carried_with b.carried u id)) (by (same_id u.id id))
       where
         by : (q : Bool) → IsClear (if q then u else carried_of b.carried id)
         by true = w
@@ -161,7 +161,7 @@ clear_message c (to_initiator.SimpleTag n) h = h
 clear_message c (to_initiator.Sdtr a) h = h
 
 put_clear : (all : List CarriedBytes) (c : CarriedBytes) (p id : ProcId) → c.id ≡ p → (IsClear (carried_of all p) → IsClear c) → IsClear (carried_of all id) → IsClear (carried_of (with_carried all c) id)
-put_clear all c p id same f h = subst IsClear (sym (put_there all c id)) (go (same_id c.id id) refl)
+put_clear all c p id same f h = subst IsClear (sym (carried_with all c id)) (go (same_id c.id id) refl)
   where
     go : (q : Bool) → same_id c.id id ≡ q → IsClear (if q then c else carried_of all id)
     go true z = f (subst (λ (x : ProcId). IsClear (carried_of all x)) (sym (sym same ∙ id_is c.id id z)) h)

@@ -17,6 +17,7 @@ use Rattle.bus_story.specs.HistoryEvents.{carried_if}
 use Rattle.bus_story.specs.Items.{process}
 use Rattle.bus_story.specs.Links.{Link}
 use Rattle.bus_story.specs.TraceHistory.{story_with_carried, carried_after_fault_if, story_after_fault}
+use Rattle.bus_story.proofs.CarriedLists.{carried_id}
 use Rattle.bus_dialogue.specs.declared.exchange.Phase.{Phase}
 use Rattle.bus_dialogue.specs.declared.exchange.Phase.TheVariants as phases
 use Rattle.bus_dialogue.specs.NextPhase.{phase_of}
@@ -24,15 +25,16 @@ use Rattle.bus_due.specs.Plain.{IsPlain, crossed, crossed_if}
 use Rattle.bus_due.specs.RunState.{RunState, bus_of, carried_here}
 use Rattle.bus_due.specs.RunSteps.{run_state, run_state_after}
 use Rattle.bus_lines.specs.Effect.{effect}
-use Rattle.bus_books.specs.Reactions.{is_command_phase}
 use Rattle.bus_books.specs.Rows.{IsRowIn}
-use Rattle.bus_books.proofs.Lookups.{carried_id, put_own}
+use Rattle.bus_books.proofs.Lookups.{put_own}
 use Rattle.trace_laws.proofs.FailureBytes.{SameFail, same_fail, row_carries}
 use Rattle.trace_laws.proofs.LinkRows as rows
 use Rattle.trace_laws.proofs.LinkRows.{LinkRow}
-use Rattle.trace_laws.proofs.PhaseLines.{data_in_lines, data_out_io, command_is, is_data_phase}
+use Rattle.trace_laws.proofs.PhaseLines.{data_in_lines, is_data_phase}
 use Rattle.bus_base.proofs.Tests.{wrong, wrong'}
 use Rattle.link_laws.proofs.Faults.{some_device}
+use Rattle.scsi_device.specs.Heard.{is_command_phase}
+use Rattle.scsi_device.proofs.PhaseLines.{command_is, no_input}
 
 -- ---- it strikes the byte of the last row
 
@@ -107,7 +109,7 @@ struck_by c b phase e = go phase e (is_command b) (command_is b ∙ ap is_comman
     go phases.Command w true z r y = (refl, refl)
     go phases.Command w false z r y = wrong' z
     go phases.DataOut w true z r y = wrong z
-    go phases.DataOut w false z true y = (refl, λ i. Some (if data_out_io b w i then INITIATOR_DETECTED_ERROR else PARITY_ERROR))
+    go phases.DataOut w false z true y = (refl, λ i. Some (if no_input b w i then INITIATOR_DETECTED_ERROR else PARITY_ERROR))
     go phases.DataOut w false z false y = wrong' y
     go phases.DataIn w true z r y = wrong z
     go phases.DataIn w false z true y = (refl, λ i. Some (if (data_in_lines b w).2 i then INITIATOR_DETECTED_ERROR else PARITY_ERROR))

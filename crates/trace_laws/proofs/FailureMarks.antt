@@ -20,10 +20,11 @@ use Rattle.bus_story.specs.Items.{process}
 use Rattle.bus_story.specs.Links.{Link}
 use Rattle.bus_story.specs.Story.{Story, story_after_event, story_after_events}
 use Rattle.bus_story.specs.TraceHistory.{story_by_change}
+use Rattle.bus_story.proofs.CarriedLists.{carried_id}
 use Rattle.bus_due.specs.RunState.{RunState, carried_here}
 use Rattle.bus_due.specs.RunSteps.{run_state_after}
 use Rattle.bus_books.specs.Rows.{IsRowIn}
-use Rattle.bus_books.proofs.Lookups.{self_id, carried_id}
+use Rattle.bus_books.proofs.Lookups.{self_id}
 use Rattle.trace_laws.specs.Tells.{UndoesAnswers}
 use Rattle.trace_laws.proofs.ListedReplies.{replies_to}
 use Rattle.trace_laws.proofs.RowItems.{row_shows}

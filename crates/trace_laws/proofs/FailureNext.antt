@@ -42,7 +42,8 @@ use Rattle.bus_books.specs.Knowing.{Knows}
 use Rattle.bus_books.specs.Rows.{RowKind, still, strikes, crosses, turns}
 use Rattle.bus_books.specs.Speaking.{Speaks}
 use Rattle.bus_books.specs.Traces.{GoesOn}
-use Rattle.bus_books.proofs.Gives.{requests_stay, struck_same, in_io, few_messages}
+use Rattle.bus_books.proofs.Gives.{requests_stay, in_io, few_messages}
+use Rattle.bus_lines.proofs.Early.{struck_same}
 use Rattle.bus_books.proofs.Hearable.{heard_next}
 use Rattle.bus_books.proofs.InConnection.{in_connection, reading_is}
 use Rattle.trace_laws.specs.Failures.{IsClear, UndoesClear, clear, GivesFailure, FailTalk, FailTalks, FailFacts, FailsBy, SentAsLeft}
@@ -76,7 +77,7 @@ abbrev pub is_restore : MsgIn → Bool
 is_restore to_initiator.RestorePointers = true
 is_restore _ = false
 
-abbrev RestoresNone : MsgIn → Type 0
+abbrev pub RestoresNone : MsgIn → Type 0
 RestoresNone m = is_restore m ≡ false
 
 tag_restores : (t : Tag) → OnMessage RestoresNone (tag_named t)

@@ -12,9 +12,10 @@ use Rattle.scenario.specs.declared.value.Tag.{Tag}
 use Rattle.scenario.specs.declared.value.Tag.TheVariants as tags
 use Rattle.scenario.specs.Value.{ScenarioValue}
 use Rattle.disk_array.specs.Processes.{Process}
+use Rattle.disk_array.specs.Order.{tag_number}
 use Rattle.bus_story.specs.BusState.{row_reading}
 use Rattle.bus_story.specs.HistoryEvents.{link_events, row_events_by}
-use Rattle.bus_story.specs.Items.{Item, process, abort, has_item, Sent, tag_number_if}
+use Rattle.bus_story.specs.Items.{Item, process, abort, has_item, Sent}
 use Rattle.bus_story.specs.Links.{Link, link_of}
 use Rattle.bus_story.specs.Story.{Story, story_after_events}
 use Rattle.bus_story.specs.TraceHistory.{aim_of, story_with_restored, story_with_sent, story_after_connection, story_on_bus, story_by_change}
@@ -119,9 +120,9 @@ are_names p = (refl, go p.tag refl)
   where
     go : (t : Tag) → p.tag ≡ t → OnMessage (IsNameOf p) (tag_named t)
     go tags.Untagged e = tt
-    go (tags.Simple n) e = ap tag_number_if e
-    go (tags.Ordered n) e = ap tag_number_if e
-    go (tags.Head n) e = ap tag_number_if e
+    go (tags.Simple n) e = ap tag_number e
+    go (tags.Ordered n) e = ap tag_number e
+    go (tags.Head n) e = ap tag_number e
 
 fresh_link : (sense : Bool) (n : Connection) (item : Option Item) → last_well sense (link_of n item) ≡ true
 fresh_link true n item = refl

@@ -34,6 +34,7 @@ use Rattle.bus_due.specs.RunSteps.{run_state}
 use Rattle.bus_due.proofs.Plains.{run_state_plain}
 use Rattle.scsi_device.specs.Heard.{Instructions, gives_status, instructions, is_answered, is_command_phase, is_heard, is_heard_after, is_heard_in, is_heard_on, is_heard_process, is_heard_row, is_instructed, is_known_item, is_message, is_new, is_of_scenario, is_opening, is_opening_in, is_said, is_served, is_true_end, is_unanswered, moves_data}
 use Rattle.scsi_device.proofs.FitLines.{obeys_fits, units_are}
+use Rattle.scsi_device.proofs.PhaseLines.{phase_is_command}
 use Rattle.bus_books.proofs.Blocks.{same_self}
 use Rattle.bus_books.specs.Items.{IsItem, is_process, is_abort}
 use Rattle.bus_books.specs.Knowing.{Knows}
@@ -99,14 +100,6 @@ begun_of k e = go k.exchange.begun (is_opening_in (phase_of (bus_of k)) k.exchan
     go true r z = refl
     go false r z = wrong z
 
-command_of_phase : (x : Phase) → is_command_phase x ≡ true → x ≡ phases.Command
-command_of_phase phases.Command e = refl
-command_of_phase phases.MessageOut e = wrong' e
-command_of_phase phases.MessageIn e = wrong' e
-command_of_phase phases.DataIn e = wrong' e
-command_of_phase phases.DataOut e = wrong' e
-command_of_phase phases.Status e = wrong' e
-
 -- ---- what it has been told, and where it stands
 
 known_data : (told : Bool) (k : RunState) (x : Phase) → KnownIn told k.exchange.plan x → moves_data x k.exchange.plan.next ≡ true → told ≡ true
@@ -139,12 +132,12 @@ heard_process s k n i books told v after at = and_from _ _ (unless n.reselected 
     instructed e =
         let w = told.selected e in
         all_three _ _ _ (w.named after v)
-        (implication (is_command_phase (phase_of (bus_of k))) _ (λ z. ap (λ (x : ProcId). same_bytes i.block (carried_here k x).block) same ∙ ap (same_bytes i.block) (sym (w.carried begun (command_of_phase (phase_of (bus_of k)) z) v)) ∙ same_self i.block))
+        (implication (is_command_phase (phase_of (bus_of k))) _ (λ z. ap (λ (x : ProcId). same_bytes i.block (carried_here k x).block) same ∙ ap (same_bytes i.block) (sym (w.carried begun (phase_is_command (phase_of (bus_of k)) z) v)) ∙ same_self i.block))
         (implication i.known _ (λ z. let b = w.block z v in and_from _ _ b.0 (ap (same_bytes i.block) (sym b.1) ∙ same_self i.block)))
 
     unknown : is_command_phase (phase_of (bus_of k)) ≡ true → i.known ≡ false
     unknown z =
-        let phase = command_of_phase (phase_of (bus_of k)) z in
+        let phase = phase_is_command (phase_of (bus_of k)) z in
         let takes : TakesBlock s k n = subst (λ (x : Phase). StandsIn s k n x) phase (books.begun begun) in
         subst (λ (x : Phase). KnownIn i.known k.exchange.plan x) phase (stage takes.1.selected)
 

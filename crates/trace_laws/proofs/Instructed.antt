@@ -1,7 +1,6 @@
 -- Of a prompt trace: what the target of a connection has been told in it.
-use Rattle.std.proofs.Common.{ℕ, ◌≡◌, ◌<◌, Bool, true, false, ◌==◌, ◌∙◌, List, [], ◌∷◌, Option, Some, None, refl, sym, ap, subst}
+use Rattle.std.proofs.Common.{ℕ, ◌≡◌, ◌<◌, Bool, true, false, ◌∙◌, List, [], ◌∷◌, Option, Some, None, sym, ap, subst}
 use Rattle.std.specs.Prelude.{if◌then◌else◌, is_some}
-use Rattle.std.proofs.lemmas.Bool.{and_parts, eqb-true}
 use Rattle.std.proofs.lemmas.Option.{same_Some}
 use Rattle.bus_base.specs.declared.ProcId.{ProcId}
 use Rattle.bus_trace.specs.LineSet.{LineSet}
@@ -15,7 +14,7 @@ use Rattle.cdb_codec.specs.Cdb.{has_group_len}
 use Rattle.scenario.specs.Value.{ScenarioValue}
 use Rattle.scenario.specs.Writing.{Obeys}
 use Rattle.bus_story.specs.BusState.{row_reading}
-use Rattle.bus_story.specs.Right.{same_bytes}
+use Rattle.bus_story.proofs.SameBytes.{bytes_are}
 use Rattle.bus_due.specs.Faithful.{is_item_named, is_opening_named}
 use Rattle.bus_due.specs.Least.{IsLeast}
 use Rattle.bus_due.specs.Next.{due, IsPrompt}
@@ -46,16 +45,7 @@ use Rattle.trace_laws.proofs.InstructedLeavings.{LeavesTold, leaves_told}
 use Rattle.trace_laws.proofs.InstructedRows.{begins_told, cross_told, stay_told}
 use Rattle.trace_laws.proofs.Joint.{Stood, NextStood}
 use Rattle.trace_laws.proofs.PhaseLines.{out_lines}
-use Rattle.bus_base.proofs.Tests.{wrong, wrong', or_other}
-
-pub bytes_are : (a b : List ℕ) → same_bytes a b ≡ true → a ≡ b
-bytes_are [] [] e = refl
-bytes_are [] (y ∷ b) e = wrong' e
-bytes_are (x ∷ a) [] e = wrong' e
-bytes_are (x ∷ a) (y ∷ b) e =
-    let both = and_parts (x == y) (same_bytes a b) e in
-    let rest = bytes_are a b both.1 in
-    λ i. eqb-true x y both.0 i ∷ rest i
+use Rattle.bus_base.proofs.Tests.{wrong, or_other}
 
 -- ---- the row leaves a phase
 

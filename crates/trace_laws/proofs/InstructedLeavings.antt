@@ -28,6 +28,7 @@ use Rattle.bus_due.specs.RunState.{RunState, bus_of, carried_here}
 use Rattle.bus_due.specs.RunSteps.{run_state}
 use Rattle.bus_due.specs.Sights.{hearing_of, leaving, serving_of}
 use Rattle.scsi_device.specs.Heard.{Instructions, instructions, instructions_on, instructions_with, is_command_phase, is_name, is_opening, is_opening_in}
+use Rattle.scsi_device.proofs.PhaseLines.{command_is}
 use Rattle.bus_books.specs.Hearing.{HasPhase, is_out_phase}
 use Rattle.bus_books.specs.Rows.{IsRowIn, reading_in}
 use Rattle.bus_books.proofs.InConnection.{InConnection, in_connection}
@@ -39,7 +40,7 @@ use Rattle.trace_laws.proofs.InstructedSteps.{told_with}
 use Rattle.trace_laws.proofs.InstructedTurns.{block_turned, enters_known, known_turned, opening_turned, out_is, refused_known, told_before}
 use Rattle.trace_laws.proofs.KnownLeavings.{Fits, FitsPhase, fits, known_after}
 use Rattle.trace_laws.proofs.OpeningRows.{opens_at}
-use Rattle.trace_laws.proofs.PhaseLines.{out_phase, command_is}
+use Rattle.trace_laws.proofs.PhaseLines.{out_phase}
 use Rattle.bus_base.proofs.Tests.{wrong, wrong'}
 
 -- ---- lines

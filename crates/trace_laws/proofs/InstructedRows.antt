@@ -24,9 +24,9 @@ use Rattle.bus_due.specs.RunState.{RunState, bus_of}
 use Rattle.bus_due.specs.RunSteps.{first_exchange, exchange_after, item_if, leaving_of, run_state, served_after}
 use Rattle.bus_due.specs.Sights.{hearing_of}
 use Rattle.bus_due.specs.Wants.{ready_of}
-use Rattle.scsi_device.specs.Heard.{Instructions, instructions, instructions_after, instructions_on, is_opening, is_opening_in, no_instructions}
+use Rattle.scsi_device.specs.Heard.{Instructions, instructions, instructions_after, instructions_on, is_opening, is_opening_in, no_instructions, is_command_phase}
+use Rattle.scsi_device.proofs.PhaseLines.{command_is}
 use Rattle.bus_books.specs.Knowing.{Knows}
-use Rattle.bus_books.specs.Reactions.{is_command_phase}
 use Rattle.bus_books.specs.Rows.{IsFirstRow, IsRowIn, reading_in}
 use Rattle.bus_books.specs.Traces.{Begins}
 use Rattle.bus_books.proofs.InConnection.{InConnection, in_connection, same_phase_is}
@@ -37,7 +37,6 @@ use Rattle.trace_laws.proofs.CommandMessages.{crossed_else, same_item, tells}
 use Rattle.trace_laws.proofs.CommandStays.{phase_same}
 use Rattle.trace_laws.proofs.CommandTurns.{same_blocks}
 use Rattle.trace_laws.proofs.InstructedSteps.{SameStage, byte_told, same_told, told_byte, told_none, told_with, with_byte}
-use Rattle.trace_laws.proofs.PhaseLines.{command_is}
 use Rattle.bus_base.proofs.Tests.{wrong, wrong'}
 
 -- ---- the first row

@@ -19,9 +19,10 @@ use Rattle.scenario.specs.declared.value.CmdDef.{CmdDef}
 use Rattle.scenario.specs.Value.{ScenarioValue}
 use Rattle.scenario.specs.Writing.{Obeys}
 use Rattle.disk_array.specs.Processes.{Process, process_of, process_if, process_by, command_at}
+use Rattle.disk_array.specs.Order.{same_number, tag_number}
 use Rattle.bus_story.specs.BusState.{RowReading, row_reading, message_in, whole_in}
-use Rattle.bus_story.specs.Items.{Item, process, has_item, command_item, Sent, is_open, tag_number_if, is_tag_clash}
-use Rattle.bus_story.specs.Links.{Link, same_number, is_open_sense, link_after_name}
+use Rattle.bus_story.specs.Items.{Item, process, has_item, command_item, Sent, is_open, is_tag_clash}
+use Rattle.bus_story.specs.Links.{Link, is_open_sense, link_after_name}
 use Rattle.bus_story.specs.TraceHistory.{aim_of, story_on_free_bus}
 use Rattle.bus_dialogue.specs.Exchange.{bytes_of_messages}
 use Rattle.bus_dialogue.specs.NextPhase.{phase_of}
@@ -300,13 +301,13 @@ found_by s k n l w h el ei et opens m is of unit = by m is of unit
         go false z = z
         go true z = wrong (sym (ap is_sense_item (sym w.served_is ∙ (h.senses x z).0)) ∙ w.command)
 
-    named : (u : ℕ) (tag : Option ℕ) → u ≡ p.unit → ((x : Option ℕ) → same_number x tag ≡ true → is_tag_clash x (tag_number_if p.tag) ≡ true) → IsNamed s b l.initiator l.target u tag p.id.command
+    named : (u : ℕ) (tag : Option ℕ) → u ≡ p.unit → ((x : Option ℕ) → same_number x tag ≡ true → is_tag_clash x (tag_number p.tag) ≡ true) → IsNamed s b l.initiator l.target u tag p.id.command
     named u tag eu clash = record {
       def = it.def;
       def_is = it.def_is;
       nexus = (λ i. it.host i == (ei ∙ sym w.initiator_is) i && it.target i == (et ∙ sym w.target_is) i && it.unit i == eu i) ∙ (λ i. eq_self p.initiator i && eq_self p.target i && eq_self p.unit i);
       opens = open_is;
-      tagged = λ x e. ap (λ (t : Option ℕ). is_tag_clash x t) (ap tag_number_if it.tag) ∙ clash x e;
+      tagged = λ x e. ap (λ (t : Option ℕ). is_tag_clash x t) (ap tag_number it.tag) ∙ clash x e;
       senseless = senseless;
     }
 
@@ -319,8 +320,8 @@ found_by s k n l w h el ei et opens m is of unit = by m is of unit
     by to_initiator.SavePointer z f u = wrong' z
     by to_initiator.RestorePointers z f u = wrong' z
     by to_initiator.Disconnect z f u = wrong' z
-    by (to_initiator.Identify lun) z f u = to _ (named_is s b l.initiator l.target lun None p.id.command h.clash (named lun None u (λ x e. none_clashes x (tag_number_if p.tag) e)))
-    by (to_initiator.SimpleTag tag) z f u = to _ (named_is s b l.initiator l.target l.unit (Some tag) p.id.command h.clash (named l.unit (Some tag) u (λ x e. clashes_self x (tag_number_if p.tag) (Some tag) e (sym f))))
+    by (to_initiator.Identify lun) z f u = to _ (named_is s b l.initiator l.target lun None p.id.command h.clash (named lun None u (λ x e. none_clashes x (tag_number p.tag) e)))
+    by (to_initiator.SimpleTag tag) z f u = to _ (named_is s b l.initiator l.target l.unit (Some tag) p.id.command h.clash (named l.unit (Some tag) u (λ x e. clashes_self x (tag_number p.tag) (Some tag) e (sym f))))
     by (to_initiator.Sdtr offer) z f u = wrong' z
     by to_initiator.Reject z f u = wrong' z
 

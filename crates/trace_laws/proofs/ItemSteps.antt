@@ -21,17 +21,18 @@ use Rattle.disk_array.specs.Execution.{is_request_sense}
 use Rattle.disk_array.specs.Units.{RunningProcess, UnitState, Array, unit_state_at, is_held, starting_units}
 use Rattle.disk_array.specs.Steps as Steps
 use Rattle.disk_array.specs.ArrayHistory as Play
+use Rattle.disk_array.specs.Seats.{current_of}
 use Rattle.bus_story.specs.BusState.{RowReading}
 use Rattle.bus_story.specs.Items.{Item, process, abort, same_item, has_item, Sent}
 use Rattle.bus_story.specs.Story.{Story, story_after_event, story_after_events}
 use Rattle.bus_story.specs.TraceHistory.{aim_of, is_arbitration_entry, story_with_aim, story_without_answer, story_with_try, story_after_calling_by, story_after_calling, story_on_free_bus}
 use Rattle.bus_dialogue.specs.declared.exchange.Leaving.{Leaving}
 use Rattle.bus_dialogue.specs.Wants.{Ready, ready_in, is_ready_before, first_ready}
-use Rattle.bus_dialogue.specs.PhaseBytes.{one_if}
-use Rattle.bus_due.specs.LastingState.{ProcessProgress, progress_in, progress_with}
+use Rattle.bus_due.specs.LastingState.{progress_in}
 use Rattle.bus_due.specs.RunState.{RunState, or_start, array_of, process_served}
 use Rattle.bus_due.specs.RunSteps.{array_after_events, progress_by_leaving, progress_after}
-use Rattle.bus_due.specs.Wants.{current_of, since_of, seek_of, ready_at, ready_among, ready_of}
+use Rattle.bus_due.specs.Wants.{since_of, seek_of, ready_at, ready_among, ready_of}
+use Rattle.bus_due.proofs.Lookups.{other_kept}
 use Rattle.bus_books.proofs.CarriedRows.{process_id}
 use Rattle.trace_laws.proofs.Impossible.{none_some}
 use Rattle.trace_laws.proofs.QueuedProcesses.{map_units, unit_at, stays_queued, step_units}
@@ -205,16 +206,6 @@ checked_up b c g h n e = g.grows.over _ (h n (ap (λ (x : List ℕ). list_any (�
 
 -- ---- how far a process has come
 
-pub other_progress : (all : List ProcessProgress) (p id : ProcId) (runs recovers : Bool) → same_id p id ≡ false → progress_in (progress_with all p runs recovers) id ≡ progress_in all id
-other_progress all p id runs recovers e = go (runs || recovers)
-  where
-    new : ProcessProgress
-    new = record { id = p; runs = (progress_in all p).runs + one_if runs; recoveries = (progress_in all p).recoveries + one_if recovers }
-
-    go : (q : Bool) → progress_in (if q then new ∷ all else all) id ≡ progress_in all id
-    go true = ap (λ (x : Bool). if x then new else progress_in all id) e
-    go false = refl
-
 -- Only the process that is served comes on.
 pub progress_kept : (s : ScenarioValue) (k : RunState) (d : RowReading) (before after : Option Connection) (l : Leaving) (id : ProcId) → ((p : Process) → process_served s k ≡ Some p → same_id p.id id ≡ false) → progress_in (progress_after s k d before after l) id ≡ progress_in k.progress id
 progress_kept s k d None after l id h = refl
@@ -223,5 +214,5 @@ progress_kept s k d (Some m) (Some n) l id h = go (changes_phase d.change && k.e
   where
     go : (q : Bool) (o : Option Process) → process_served s k ≡ o → progress_in (if q then progress_by_leaving k o l else k.progress) id ≡ progress_in k.progress id
     go true None e = refl
-    go true (Some p) e = other_progress k.progress p.id id l.done l.counts (h p e)
+    go true (Some p) e = other_kept k.progress p.id id l.done l.counts (h p e)
     go false o e = refl

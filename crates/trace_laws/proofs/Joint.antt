@@ -40,11 +40,12 @@ use Rattle.bus_due.specs.Sights.{serving_at, identify_byte}
 use Rattle.bus_due.specs.Wants.{ready_of}
 use Rattle.bus_due.proofs.Plains.{run_state_plain}
 use Rattle.scsi_device.specs.Lines.{AreUnits}
+use Rattle.scsi_device.specs.Heard.{is_command_phase}
 use Rattle.bus_story.specs.Links.{Link}
 use Rattle.bus_books.specs.Knowing.{Knows}
 use Rattle.bus_books.specs.Carrying.{SendsOwn}
 use Rattle.bus_books.specs.Hearing.{is_in_phase, is_out_phase, HasPhase, LeavesWhole}
-use Rattle.bus_books.specs.Reactions.{IsOver, is_command_phase}
+use Rattle.bus_books.specs.Reactions.{IsOver}
 use Rattle.bus_books.specs.Traces.{IsReadyFor, Begins, GoesOn, Ends, RowOf, apart as row_apart, begins, goes_on as row_goes_on, ends as row_ends, under_reset, Books}
 use Rattle.bus_books.proofs.Aims.{aims_are}
 use Rattle.bus_books.proofs.MessageRules.{row_keeps, end_keeps}

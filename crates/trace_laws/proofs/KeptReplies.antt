@@ -13,8 +13,8 @@ use Rattle.disk_array.specs.Steps
 use Rattle.disk_array.specs.Steps.{step, running_process}
 use Rattle.disk_array.specs.Units.{Array, guest_at}
 use Rattle.bus_due.specs.RunSteps.{array_after_events}
-use Rattle.trace_laws.proofs.ListedReplies.{end_lists, settles, accepted, refused, ran, replies_to}
-use Rattle.disk_array.proofs.ArrayReplies.{fail_lists, loss_lists, abort_lists, took, reset_lists}
+use Rattle.trace_laws.proofs.ListedReplies.{settles, accepted, refused, ran, replies_to}
+use Rattle.disk_array.proofs.ArrayReplies.{fail_lists, loss_lists, abort_lists, took, reset_lists, end_lists}
 
 -- ---- an event
 

@@ -9,6 +9,7 @@ use Rattle.bus_phases.specs.Half.{is_nil}
 use Rattle.msg_grammar.specs.declared.message.MsgOut.{MsgOut}
 use Rattle.msg_grammar.specs.declared.message.MsgOut.TheVariants as to_target
 use Rattle.msg_grammar.specs.Messages.{form_out, got_out, out_bytes}
+use Rattle.msg_grammar.specs.Grammar.{is_abort}
 use Rattle.scenario.specs.declared.value.AbortDef.{AbortDef}
 use Rattle.scenario.specs.Value.{ScenarioValue}
 use Rattle.bus_story.specs.BusState.{whole_out}
@@ -23,12 +24,12 @@ use Rattle.scsi_device.specs.Lines.{AreUnits}
 use Rattle.bus_books.specs.Listening.{Understanding, nothing_understood, understood, understood_byte}
 use Rattle.bus_books.specs.Speaking.{AreWordsHeard, AreWordsFor, opens, refuses, answers, rejects_data, rejects_status, IsSpeaking}
 use Rattle.bus_books.proofs.Saying.{says_byte, says_more}
-use Rattle.trace_laws.proofs.OutMessages.{is_abort_out, next_half}
+use Rattle.trace_laws.proofs.OutMessages.{next_half}
 use Rattle.bus_base.proofs.Tests.{wrong, wrong'}
 
 abbrev pub is_abort_message : Option MsgOut → Bool
 is_abort_message None = false
-is_abort_message (Some m) = is_abort_out m
+is_abort_message (Some m) = is_abort m
 
 -- The last byte makes such a message whole.
 abbrev EndsAbort : List ℕ → List ℕ → Type 0
@@ -93,7 +94,7 @@ last_aborts s n m a x d byte u line cause w e last = go h.rest refl
         (λ i. is_abort_message (whole_out (got_out (half i ++ (e ∙ says_byte x.speech x.plan d h) i ∷ []))))
         ∙ ends_at nothing_understood h.before h.byte (subst (λ (y : List ℕ). EndsAbort [] y) all (words_end s n m a x x.plan.cause u line cause w.words_for))
 
-pub abort_last : (l : Link) (m : MsgOut) → is_abort_out m ≡ true → last_out m l ≡ abortive
+pub abort_last : (l : Link) (m : MsgOut) → is_abort m ≡ true → last_out m l ≡ abortive
 abort_last l to_target.Abort e = refl
 abort_last l to_target.AbortTag e = refl
 abort_last l to_target.ClearQueue e = refl

@@ -7,6 +7,7 @@ use Rattle.msg_grammar.specs.declared.message.MsgIn.TheVariants as to_initiator
 use Rattle.msg_grammar.specs.declared.message.MsgOut.{MsgOut}
 use Rattle.msg_grammar.specs.declared.message.MsgOut.TheVariants as to_target
 use Rattle.msg_grammar.specs.Messages.{FitsIn, form_in, got_in, in_bytes}
+use Rattle.msg_grammar.specs.Grammar.{is_abort}
 use Rattle.bus_story.specs.BusState.{whole_in}
 use Rattle.bus_story.specs.Links.{Link, LastMessage, plain, complete, disconnect, last_in, last_out}
 use Rattle.bus_dialogue.specs.declared.exchange.Cause.{Cause}
@@ -20,7 +21,6 @@ use Rattle.bus_books.specs.Listening.{half_after}
 use Rattle.bus_books.proofs.Hearable.{heard_next}
 use Rattle.trace_laws.specs.Tells.{IsClosing, is_short}
 use Rattle.trace_laws.specs.LastTalks.{SaysEnd, EndsWell, stays, closes, saves, LastGiven, still_stays, to_close, to_save, closed, CompletesBy, EndsWellIf}
-use Rattle.trace_laws.proofs.OutMessages.{is_abort_out}
 use Rattle.trace_laws.proofs.Tests.{less_apart}
 use Rattle.trace_laws.proofs.UndoneRows.{empty_front}
 use Rattle.bus_base.proofs.Tests.{wrong, wrong'}
@@ -152,7 +152,7 @@ first_given l m next count (saves f both) zero last = to_save f both (inl zero) 
 
 -- ---- a byte of MESSAGE OUT
 
-pub out_last : (l : Link) (m : MsgOut) → is_abort_out m ≡ false → l.before ≡ plain → last_out m l ≡ plain
+pub out_last : (l : Link) (m : MsgOut) → is_abort m ≡ false → l.before ≡ plain → last_out m l ≡ plain
 out_last l to_target.Abort e b = wrong e
 out_last l to_target.AbortTag e b = wrong e
 out_last l to_target.ClearQueue e b = wrong e

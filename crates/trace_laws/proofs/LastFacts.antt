@@ -50,7 +50,8 @@ use Rattle.bus_books.specs.Knowing.{Knows}
 use Rattle.bus_books.specs.Rows.{RowKind, still, strikes, crosses, turns}
 use Rattle.bus_books.specs.Speaking.{IsSpeaking}
 use Rattle.bus_books.specs.Traces.{GoesOn}
-use Rattle.bus_books.proofs.Gives.{requests_stay, struck_same, in_io}
+use Rattle.bus_books.proofs.Gives.{requests_stay, in_io}
+use Rattle.bus_lines.proofs.Early.{struck_same}
 use Rattle.bus_books.proofs.InConnection.{in_connection, reading_is}
 use Rattle.trace_laws.specs.ItemTalks.{frees_bus}
 use Rattle.trace_laws.specs.LastTalks.{EndsWell, stays, LastBy, LastTalk, LastTalks, AbortTalks, LastFacts}

@@ -15,6 +15,7 @@ use Rattle.bus_phases.specs.Dialogue.{fresh_bytes, byte_out, byte_in, byte_else}
 use Rattle.msg_grammar.specs.declared.message.MsgIn.{MsgIn}
 use Rattle.msg_grammar.specs.declared.message.MsgOut.{MsgOut}
 use Rattle.msg_grammar.specs.Messages.{got_in, got_out}
+use Rattle.msg_grammar.specs.Grammar.{is_abort}
 use Rattle.scenario.specs.Value.{ScenarioValue}
 use Rattle.bus_story.specs.BusState.{whole_in, whole_out, message_in, message_out}
 use Rattle.bus_story.specs.Items.{Item, process}
@@ -37,7 +38,7 @@ use Rattle.trace_laws.specs.LastTalks.{EndsWellIf, LastBy, LastTalk}
 use Rattle.trace_laws.proofs.Impossible.{none_some}
 use Rattle.trace_laws.proofs.LastBytes.{Hears, Given, given_on, out_last, ends_if, given_as}
 use Rattle.trace_laws.proofs.OfferRows.{request_rises}
-use Rattle.trace_laws.proofs.OutMessages.{is_abort_out, NoAbort, out_is_no_abort, last_is_whole}
+use Rattle.trace_laws.proofs.OutMessages.{NoAbort, out_is_no_abort, last_is_whole}
 use Rattle.trace_laws.proofs.PhaseLines.{out_in, out_phase, in_phase}
 use Rattle.trace_laws.proofs.RowItems.{LinkAfter, says, hears, stays, heard_link, link_crossed, link_still}
 use Rattle.trace_laws.proofs.UndoneAnswers.{same_phase_of}
@@ -170,7 +171,7 @@ cross_out s k row n c l m id g ep en b here em h = go (link_crossed s k row n c 
         ap (λ (x : Dialogue). x.is_last) (in_connection s k row n c false true (is_fault row.kind) g.goes.row_is ep en refl).dialogue_is
         ∙ (λ x. (if here x then byte_out d byte (not c.after.atn) else if is_message_in c.before then byte_in d byte else byte_else d c.before byte).is_last)
 
-    no_abort : (x : MsgOut) → message_out d c true ≡ Some x → is_abort_out x ≡ false
+    no_abort : (x : MsgOut) → message_out d c true ≡ Some x → is_abort x ≡ false
     no_abort x e =
         subst NoAbort (sym said ∙ e)
         (out_is_no_abort s n id k.exchange d byte g.units (subst (λ (y : Option Item). IsSpeaking s n y k.exchange d) g.served_is speaking) (g.goes.says here en).0)

@@ -1,37 +1,23 @@
 -- The plain disk array lists the reply of a process with the event that shows it, and keeps it.
-use Rattle.std.proofs.Common.{ℕ, ◌≡◌, Bool, true, false, List, [], ◌∷◌, ◌++◌, ◌∙◌, refl, sym, ap, subst, Option, Some, None}
-use Rattle.std.specs.Prelude.{if◌then◌else◌, not, ◌&&◌, ◌||◌, ◌==◌, is_some, is_none, nat_lt}
+use Rattle.std.proofs.Common.{◌≡◌, Bool, true, false, List, [], ◌∷◌, ◌∙◌, refl, sym, ap, subst, Option, Some, None}
+use Rattle.std.specs.Prelude.{if◌then◌else◌, not, ◌&&◌, ◌||◌, is_some, is_none}
 use Rattle.bus_base.specs.declared.Event.{Event}
 use Rattle.bus_base.specs.declared.Event.TheVariants as events
 use Rattle.bus_base.specs.declared.ProcId.{ProcId}
 use Rattle.cdb_codec.specs.declared.sense.TheConstants.{ABORTED_COMMAND}
-use Rattle.cdb_codec.specs.declared.status.TheConstants.{GOOD, CHECK_CONDITION}
-use Rattle.cdb_codec.specs.Cdb.{command_of}
 use Rattle.scenario.specs.Value.{ScenarioValue}
 use Rattle.disk_array.specs.ArrayHistory.{reply_in}
-use Rattle.disk_array.specs.Execution.{Reply, Execution, execution, is_request_sense, queue_full, check_condition, sense_of}
+use Rattle.disk_array.specs.Execution.{Reply, Execution, execution, queue_full, check_condition, sense_of}
 use Rattle.disk_array.specs.Processes.{Process, process_of, same_id}
-use Rattle.disk_array.specs.Units.{RunningProcess, UnitState, Array, unit_state_at, with_unit, guest_at, is_held, nexus_of, senses_without, nexuses_without, settled_array}
+use Rattle.disk_array.specs.Units.{RunningProcess, UnitState, Array, unit_state_at, guest_at, is_held, nexus_of, settled_array}
 use Rattle.disk_array.specs.Steps
 use Rattle.disk_array.specs.Steps.{step, settled_array_if, running_if, running_process}
 use Rattle.bus_books.proofs.CarriedRows.{process_id}
 use Rattle.bus_books.proofs.Lookups.{id_is}
-use Rattle.disk_array.proofs.ArrayReplies.{fail_lists, executed_lists, refuse_lists, loss_lists, abort_lists, took, reset_lists}
+use Rattle.disk_array.proofs.ArrayReplies.{fail_lists, executed_lists, refuse_lists, loss_lists, abort_lists, took, reset_lists, end_lists, accept_lists}
 use Rattle.target_units.proofs.LiveQueue.{guest_id}
 
 -- ---- what it lists after an event
-
-accept_lists : (a c : Array) (p : Process) (x : Option UnitState) → Steps.accept_step_at a p x ≡ Some c → c.replies ≡ a.replies
-accept_lists a c p None e = took (Steps.with_guest a p None) c a.replies e refl
-accept_lists a c p (Some u) e = either (is_request_sense (command_of p.cdb)) e
-  where
-    queue : (y : Bool) → (if y then Some (record a { units = with_unit a.units (record u { waiting = u.waiting ++ p ∷ [] }) }) else None) ≡ Some c → c.replies ≡ a.replies
-    queue false k = cc
-    queue true k = took (record a { units = with_unit a.units (record u { waiting = u.waiting ++ p ∷ [] }) }) c a.replies k refl
-
-    either : (y : Bool) → (if y then Some (Steps.with_guest a p None) else Steps.queue_step a p u) ≡ Some c → c.replies ≡ a.replies
-    either true k = took (Steps.with_guest a p None) c a.replies k refl
-    either false k = queue (nat_lt (Steps.process_count u) u.depth) k
 
 pub record ListsOne (id : ProcId) (before after : List (ProcId × Reply)) : Type 0 where
   pub reply : Reply
@@ -50,23 +36,6 @@ run_lists a c guest r e = go (is_none r.reply && (guest || not (is_held a.holds 
     go false k = cc
     go true k = record { reply = done.reply; lists = took next c ((r.process.id, done.reply) ∷ a.replies) k (executed_lists a r.process (unit_state_at a.units r.process.target r.process.unit) done) }
 
-pub end_lists : (a c : Array) (status : ℕ) (x : Option RunningProcess) → Steps.end_step a status x ≡ Some c → c.replies ≡ a.replies
-end_lists a c status None e = cc
-end_lists a c status (Some r) e = given r.reply e
-  where
-    kept : (reply : Reply) (y z : Bool) → (if y then record a { senses = (nexus_of r.process, reply.sense) ∷ senses_without a.senses (nexus_of r.process); holds = nexus_of r.process ∷ nexuses_without a.holds (nexus_of r.process) } else if z then record a { senses = senses_without a.senses (nexus_of r.process); holds = nexuses_without a.holds (nexus_of r.process) } else a).replies ≡ a.replies
-    kept reply true z = refl
-    kept reply false true = refl
-    kept reply false false = refl
-
-    ended : (reply : Reply) (y : Bool) → (if y then Some (Steps.array_without (Steps.after_status a r.process reply) r.process.id) else None) ≡ Some c → c.replies ≡ a.replies
-    ended reply false k = cc
-    ended reply true k = took (Steps.array_without (Steps.after_status a r.process reply) r.process.id) c a.replies k (kept reply (reply.status == CHECK_CONDITION) (reply.status == GOOD && is_request_sense (command_of r.process.cdb)))
-
-    given : (o : Option Reply) → Steps.end_step_with a r.process status o ≡ Some c → c.replies ≡ a.replies
-    given None k = cc
-    given (Some reply) k = ended reply (reply.status == status) k
-
 -- ---- the process that runs is of its number
 
 pub current_id : (units : List UnitState) (id : ProcId) (r : RunningProcess) → Steps.running_in units id ≡ Some r → r.process.id ≡ id
@@ -81,7 +50,7 @@ current_id (u ∷ units) id r e = go (λ k. current_id units id r k) u.current e
     go later None k = later k
     go later (Some q) k = inner later q (same_id q.process.id id) refl k
 
-running_id : (a : Array) (id : ProcId) (r : RunningProcess) → running_process a id ≡ Some r → r.process.id ≡ id
+pub running_id : (a : Array) (id : ProcId) (r : RunningProcess) → running_process a id ≡ Some r → r.process.id ≡ id
 running_id a id r e = go (guest_at a.guests id) refl e
   where
     go : (x : Option RunningProcess) → guest_at a.guests id ≡ x → (if is_some x then x else Steps.running_in a.units id) ≡ Some r → r.process.id ≡ id

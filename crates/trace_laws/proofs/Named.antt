@@ -57,7 +57,7 @@ use Rattle.trace_laws.proofs.NamedFirst.{found_by, first_sent, first_link}
 use Rattle.trace_laws.proofs.NamedTurns.{named_on}
 use Rattle.trace_laws.proofs.PhaseLines.{in_phase, out_phase}
 use Rattle.bus_base.proofs.Tests.{wrong, wrong', or_true}
-use Rattle.bus_books.proofs.Faith.{is_data_out}
+use Rattle.scsi_device.specs.Writes.{is_data_out}
 
 -- ---- before any row
 

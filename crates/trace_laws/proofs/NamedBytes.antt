@@ -10,9 +10,10 @@ use Rattle.scenario.specs.declared.value.Tag.{Tag}
 use Rattle.scenario.specs.declared.value.Tag.TheVariants as tags
 use Rattle.scenario.specs.Value.{ScenarioValue}
 use Rattle.disk_array.specs.Processes.{Process}
+use Rattle.disk_array.specs.Order.{tag_number}
 use Rattle.bus_story.specs.BusState.{whole_in}
 use Rattle.bus_story.specs.CarriedBytes.{CarriedBytes}
-use Rattle.bus_story.specs.Items.{Sent, tag_number_if}
+use Rattle.bus_story.specs.Items.{Sent}
 use Rattle.bus_story.specs.Links.{Link, named_item}
 use Rattle.bus_dialogue.specs.declared.exchange.Messages.{Messages}
 use Rattle.bus_dialogue.specs.Exchange.{bytes_of_messages, message_bytes, from_byte, one_message}
@@ -28,17 +29,17 @@ use Rattle.bus_base.proofs.Tests.{wrong}
 -- ---- tagged or not
 
 pub data Tagged (p : Process) : Type 0 where
-  bare : tag_named p.tag ≡ None → tag_number_if p.tag ≡ None → Tagged p
-  numbered : (n : ℕ) → tag_named p.tag ≡ Some (to_initiator.SimpleTag n) → tag_number_if p.tag ≡ Some n → Tagged p
+  bare : tag_named p.tag ≡ None → tag_number p.tag ≡ None → Tagged p
+  numbered : (n : ℕ) → tag_named p.tag ≡ Some (to_initiator.SimpleTag n) → tag_number p.tag ≡ Some n → Tagged p
 
 pub tagged_is : (p : Process) → Tagged p
 tagged_is p = go p.tag refl
   where
     go : (t : Tag) → p.tag ≡ t → Tagged p
-    go tags.Untagged e = bare (ap tag_named e) (ap tag_number_if e)
-    go (tags.Simple n) e = numbered n (ap tag_named e) (ap tag_number_if e)
-    go (tags.Ordered n) e = numbered n (ap tag_named e) (ap tag_number_if e)
-    go (tags.Head n) e = numbered n (ap tag_named e) (ap tag_number_if e)
+    go tags.Untagged e = bare (ap tag_named e) (ap tag_number e)
+    go (tags.Simple n) e = numbered n (ap tag_named e) (ap tag_number e)
+    go (tags.Ordered n) e = numbered n (ap tag_named e) (ap tag_number e)
+    go (tags.Head n) e = numbered n (ap tag_named e) (ap tag_number e)
 
 pub all_bytes : (p : Process) (messages : Messages) (tag : Option MsgIn) → messages ≡ naming_messages p → tag_named p.tag ≡ tag → bytes_of_messages messages ≡ (0x80 + p.unit) ∷ message_bytes tag
 all_bytes p messages tag e t = ap bytes_of_messages e ∙ ap (λ (m : Option MsgIn). (0x80 + p.unit) ∷ message_bytes m) t
@@ -85,7 +86,7 @@ Next s sent l undo p messages count m = NamesOn p (after_name s sent l undo m) m
 not_yet : {A : Type 0} (bytes other : List ℕ) (count : ℕ) → bytes ≡ other → count < length other → count ≡ length bytes → A
 not_yet bytes other count e lt z = let l = ap (λ (x : List ℕ). length x) e in absurd (omega arith)
 
-bare_on : (s : ScenarioValue) (sent : Sent) (l : Link) (undo : Option CarriedBytes) (n : Connection) (p : Process) (messages : Messages) (count : ℕ) → p.unit < 8 → messages ≡ naming_messages p → tag_named p.tag ≡ None → tag_number_if p.tag ≡ None → l.initiator ≡ n.initiator → l.target ≡ n.target → IsFoundBy s n sent p → count < 1
+bare_on : (s : ScenarioValue) (sent : Sent) (l : Link) (undo : Option CarriedBytes) (n : Connection) (p : Process) (messages : Messages) (count : ℕ) → p.unit < 8 → messages ≡ naming_messages p → tag_named p.tag ≡ None → tag_number p.tag ≡ None → l.initiator ≡ n.initiator → l.target ≡ n.target → IsFoundBy s n sent p → count < 1
     → Next s sent l undo p messages count (next_in ((0x80 + p.unit) ∷ []) count)
 bare_on s sent l undo n p messages zero lt e tag number ei et found z =
     subst (λ (m : Option MsgIn). Next s sent l undo p messages 0 m) (sym (identify_got p.unit lt).0)
@@ -95,7 +96,7 @@ bare_on s sent l undo n p messages zero lt e tag number ei et found z =
     })
 bare_on s sent l undo n p messages (suc count) lt e tag number ei et found z = absurd omega (arith, z)
 
-numbered_on : (s : ScenarioValue) (sent : Sent) (l : Link) (undo : Option CarriedBytes) (n : Connection) (p : Process) (messages : Messages) (count t : ℕ) → p.unit < 8 → messages ≡ naming_messages p → tag_named p.tag ≡ Some (to_initiator.SimpleTag t) → tag_number_if p.tag ≡ Some t → l.initiator ≡ n.initiator → l.target ≡ n.target → IsFoundBy s n sent p → ((count == 0) ≡ false → l.unit ≡ p.unit) → count < 3
+numbered_on : (s : ScenarioValue) (sent : Sent) (l : Link) (undo : Option CarriedBytes) (n : Connection) (p : Process) (messages : Messages) (count t : ℕ) → p.unit < 8 → messages ≡ naming_messages p → tag_named p.tag ≡ Some (to_initiator.SimpleTag t) → tag_number p.tag ≡ Some t → l.initiator ≡ n.initiator → l.target ≡ n.target → IsFoundBy s n sent p → ((count == 0) ≡ false → l.unit ≡ p.unit) → count < 3
     → Next s sent l undo p messages count (next_in ((0x80 + p.unit) ∷ 0x20 ∷ t ∷ []) count)
 numbered_on s sent l undo n p messages zero t lt e tag number ei et found u z =
     subst (λ (m : Option MsgIn). Next s sent l undo p messages 0 m) (sym (identify_got p.unit lt).0)
@@ -108,7 +109,7 @@ numbered_on s sent l undo n p messages (suc (suc zero)) t lt e tag number ei et 
     (record { names = all e (λ w. u refl); heard = λ w. ap (λ (x : Option ℕ). is_some (named_item sent s.commands l x)) (sym number) ∙ found l ei et (u refl) })
 numbered_on s sent l undo n p messages (suc (suc (suc count))) t lt e tag number ei et found u z = absurd omega (arith, z)
 
-alone_on : (s : ScenarioValue) (sent : Sent) (l : Link) (undo : Option CarriedBytes) (n : Connection) (p : Process) (messages : Messages) (count t : ℕ) (m : MsgIn) → tag_named p.tag ≡ Some m → messages ≡ one_message m → m ≡ to_initiator.SimpleTag t → tag_number_if p.tag ≡ Some t → l.initiator ≡ n.initiator → l.target ≡ n.target → IsFoundBy s n sent p → l.unit ≡ p.unit → count < 2
+alone_on : (s : ScenarioValue) (sent : Sent) (l : Link) (undo : Option CarriedBytes) (n : Connection) (p : Process) (messages : Messages) (count t : ℕ) (m : MsgIn) → tag_named p.tag ≡ Some m → messages ≡ one_message m → m ≡ to_initiator.SimpleTag t → tag_number p.tag ≡ Some t → l.initiator ≡ n.initiator → l.target ≡ n.target → IsFoundBy s n sent p → l.unit ≡ p.unit → count < 2
     → Next s sent l undo p messages count (next_in (0x20 ∷ t ∷ []) count)
 alone_on s sent l undo n p messages zero t m tag e is number ei et found u z =
     subst (λ (x : Option MsgIn). Next s sent l undo p messages 0 x) (sym (tag_begins [] refl))

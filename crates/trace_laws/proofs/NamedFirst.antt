@@ -10,10 +10,12 @@ use Rattle.scenario.specs.declared.value.CmdDef.{CmdDef}
 use Rattle.scenario.specs.declared.value.Tag.{Tag}
 use Rattle.scenario.specs.Value.{ScenarioValue}
 use Rattle.disk_array.specs.Processes.{Process, command_at, process_by, process_if, process_of}
+use Rattle.disk_array.specs.Order.{same_number, tag_number}
+use Rattle.disk_array.proofs.SeatLookups.{number_same}
 use Rattle.bus_story.specs.BusState.{RowReading, row_reading}
 use Rattle.bus_story.specs.HistoryEvents.{link_events, row_events_by}
-use Rattle.bus_story.specs.Items.{process, Sent, has_item, command_item, is_open, tag_number_if}
-use Rattle.bus_story.specs.Links.{link_of, is_of_nexus, is_open_sense, same_number, named_item, named_item_from}
+use Rattle.bus_story.specs.Items.{process, Sent, has_item, command_item, is_open}
+use Rattle.bus_story.specs.Links.{link_of, is_of_nexus, is_open_sense, named_item, named_item_from}
 use Rattle.bus_story.specs.Items.{sense_item}
 use Rattle.bus_story.specs.Story.{story_after_events}
 use Rattle.bus_story.specs.TraceHistory.{aim_of, story_with_restored, story_with_sent, story_by_change, story_on_bus}
@@ -28,27 +30,23 @@ use Rattle.bus_story.proofs.StorySteps.{events_link}
 
 -- ---- a command that is open is found by its nexus
 
-is_found : (b : Sent) (i t u : ℕ) (tag : Option ℕ) (n j : ℕ) (c : CmdDef) (commands : List CmdDef) → command_at commands (suc j) ≡ Some c → is_of_nexus c i t u ≡ true → is_open b (n + j) ≡ true → same_number (tag_number_if c.tag) tag ≡ true → is_some (named_item_from b i t u tag n commands) ≡ true
+is_found : (b : Sent) (i t u : ℕ) (tag : Option ℕ) (n j : ℕ) (c : CmdDef) (commands : List CmdDef) → command_at commands (suc j) ≡ Some c → is_of_nexus c i t u ≡ true → is_open b (n + j) ≡ true → same_number (tag_number c.tag) tag ≡ true → is_some (named_item_from b i t u tag n commands) ≡ true
 is_found b i t u tag n j c [] e nexus open_is same = absurd (none_some c e)
 is_found b i t u tag n zero c (d ∷ commands) e nexus open_is same =
     let first : d ≡ c = same_Some d c e in
     ap (λ (q : Bool). is_some (if q then Some (command_item n) else if is_of_nexus d i t u && is_open_sense b n && same_number None tag then Some (sense_item n) else named_item_from b i t u tag (n + 1) commands))
-    ((λ k. is_of_nexus (first k) i t u && is_open b n && same_number (tag_number_if (first k).tag) tag) ∙ (λ k. nexus k && (ap (is_open b) (zero_more n) ∙ open_is) k && same k))
+    ((λ k. is_of_nexus (first k) i t u && is_open b n && same_number (tag_number (first k).tag) tag) ∙ (λ k. nexus k && (ap (is_open b) (zero_more n) ∙ open_is) k && same k))
   where
     zero_more : (m : ℕ) → m ≡ m + 0
     zero_more m = omega arith
 is_found b i t u tag n (suc j) c (d ∷ commands) e nexus open_is same =
-    go (is_of_nexus d i t u && is_open b n && same_number (tag_number_if d.tag) tag) (is_of_nexus d i t u && is_open_sense b n && same_number None tag)
+    go (is_of_nexus d i t u && is_open b n && same_number (tag_number d.tag) tag) (is_of_nexus d i t u && is_open_sense b n && same_number None tag)
     (is_found b i t u tag (n + 1) j c commands e nexus (ap (is_open b) (sym (plus_one n j)) ∙ open_is) same)
   where
     go : (q r : Bool) → is_some (named_item_from b i t u tag (n + 1) commands) ≡ true → is_some (if q then Some (command_item n) else if r then Some (sense_item n) else named_item_from b i t u tag (n + 1) commands) ≡ true
     go true r z = refl
     go false true z = refl
     go false false z = z
-
-same_self : (o : Option ℕ) → same_number o o ≡ true
-same_self None = refl
-same_self (Some n) = eq_self n
 
 record IsCommand (s : ScenarioValue) (p : Process) : Type 0 where
   line : CmdDef
@@ -84,8 +82,8 @@ found_by s b n p e command sent over ei et l li lt lu = by p.id.command refl
     nexus : is_of_nexus c.line l.initiator l.target l.unit ≡ true
     nexus = (λ i. host i == l.initiator && target i == l.target && unit i == l.unit) ∙ (λ i. eq_self l.initiator i && eq_self l.target i && eq_self l.unit i)
 
-    tag : same_number (tag_number_if c.line.tag) (tag_number_if p.tag) ≡ true
-    tag = ap (λ (t : Tag). same_number (tag_number_if t) (tag_number_if p.tag)) (sym (λ i. (process_by s (record { command = p.id.command; sense = command i }) c.line).tag) ∙ ap (λ (x : Process). x.tag) c.is) ∙ same_self (tag_number_if p.tag)
+    tag : same_number (tag_number c.line.tag) (tag_number p.tag) ≡ true
+    tag = ap (λ (t : Tag). same_number (tag_number t) (tag_number p.tag)) (sym (λ i. (process_by s (record { command = p.id.command; sense = command i }) c.line).tag) ∙ ap (λ (x : Process). x.tag) c.is) ∙ number_same (tag_number p.tag)
 
     id_is : p.id ≡ record { command = p.id.command; sense = false }
     id_is = λ i. record { command = p.id.command; sense = command i }
@@ -97,9 +95,9 @@ found_by s b n p e command sent over ei et l li lt lu = by p.id.command refl
     zero_none [] = refl
     zero_none (x ∷ commands) = refl
 
-    by : (m : ℕ) → p.id.command ≡ m → is_some (named_item b s.commands l (tag_number_if p.tag)) ≡ true
+    by : (m : ℕ) → p.id.command ≡ m → is_some (named_item b s.commands l (tag_number p.tag)) ≡ true
     by zero z = absurd (none_some c.line (sym (zero_none s.commands) ∙ ap (command_at s.commands) (sym z) ∙ c.line_is))
-    by (suc j) z = is_found b l.initiator l.target l.unit (tag_number_if p.tag) 1 j c.line s.commands (ap (command_at s.commands) (sym z) ∙ c.line_is) nexus (ap (is_open b) (one-add j ∙ sym z) ∙ is_open_there) tag
+    by (suc j) z = is_found b l.initiator l.target l.unit (tag_number p.tag) 1 j c.line s.commands (ap (command_at s.commands) (sym z) ∙ c.line_is) nexus (ap (is_open b) (one-add j ∙ sym z) ∙ is_open_there) tag
 
 -- ---- the first row
 

@@ -31,6 +31,7 @@ use Rattle.bus_dialogue.specs.Words.{tag_named}
 use Rattle.bus_due.specs.Defs.{host_of}
 use Rattle.bus_due.specs.RunState.{RunState}
 use Rattle.bus_due.specs.Sights.{hearing_of, leaving}
+use Rattle.bus_due.proofs.Stills.{still_talk}
 use Rattle.bus_books.specs.Giving.{OnMessage, OnMessages, Gives}
 use Rattle.bus_books.specs.Hearing.{is_in_phase}
 use Rattle.bus_books.specs.Knowing.{IsNoName}
@@ -38,7 +39,7 @@ use Rattle.bus_books.specs.Rows.{reading_in}
 use Rattle.bus_books.specs.Traces.{GoesOn}
 use Rattle.bus_books.proofs.Gives.{byte_messages, in_io, few_messages, in_same}
 use Rattle.bus_books.proofs.Hearable.{heard_next}
-use Rattle.bus_books.proofs.InConnection.{exchange_by, same_phase_is}
+use Rattle.bus_books.proofs.InConnection.{same_phase_is}
 use Rattle.trace_laws.specs.Named.{Names, all, tag_alone, NamedBy, known, said, refused}
 use Rattle.trace_laws.proofs.NamedBytes.{names_on, names_of_link}
 use Rattle.trace_laws.proofs.NamedSteps.{named_as, naming_as, byte_item, name_ends, IsNoEnd, name_last, out_last}
@@ -81,7 +82,7 @@ kept true p = (refl, refl, refl)
 kept false p = (refl, refl, refl)
 
 pub crosses_on : (s : ScenarioValue) (k : RunState) (row : Row) (n : Connection) (c : Change) (dev : ℕ) (b' : Sent) (o' : Option Link) → GoesOn s k row n c → Gives k → changes_phase c ≡ false → receiver_in n c ≡ Some dev → ((l : Link) → k.story.link ≡ Some l → is_complete l.last ≡ false → b' ≡ k.story.sent) → ((l : Link) → k.story.link ≡ Some l → o' ≡ Some (link_by s k.story l true (message_out k.story.bus_state.dialogue c true) (message_in k.story.bus_state.dialogue c true))) → NamedBy s n k.story.sent k.story.link k.exchange k.handshakes c.before
-    → NamedBy s n b' o' (exchange_by false true false (host_of s n.initiator) (hearing_of k row (reading_in k.story.bus_state n c true)) (leaving s k n.target) k.exchange) (handshakes_on (Some n) c row.time k.handshakes) c.after
+    → NamedBy s n b' o' (still_talk false true false (host_of s n.initiator) (hearing_of k row (reading_in k.story.bus_state n c true)) (leaving s k n.target) k.exchange) (handshakes_on (Some n) c row.time k.handshakes) c.after
 crosses_on s k row n c dev b' o' g gv ep er eb eo h = go h
   where
     d : Dialogue
@@ -97,7 +98,7 @@ crosses_on s k row n c dev b' o' g gv ep er eb eo h = go h
     w = hearing_of k row (reading_in k.story.bus_state n c true)
 
     x' : Exchange
-    x' = exchange_by false true false (host_of s n.initiator) (hearing_of k row (reading_in k.story.bus_state n c true)) (leaving s k n.target) k.exchange
+    x' = still_talk false true false (host_of s n.initiator) (hearing_of k row (reading_in k.story.bus_state n c true)) (leaving s k n.target) k.exchange
 
     -- a message of MESSAGE IN is one of those that are planned
     heard : (q : MsgIn → Type 0) → OnMessages q k.exchange.plan.messages → (r : Bool) → is_message_in c.before ≡ r → OnMessage q (message_in k.story.bus_state.dialogue c true)
@@ -108,7 +109,7 @@ crosses_on s k row n c dev b' o' g gv ep er eb eo h = go h
         (heard_next q k.exchange.plan.messages k.story.bus_state.dialogue.half k.handshakes.requests (c.after.data_bits % 256) gv.fit z given y.0 y.1)
     heard q z false f = subst (λ (v : Bool). OnMessage q (if v then whole_in (got_in (k.story.bus_state.dialogue.half ++ c.after.data_bits % 256 ∷ [])) else None)) (sym f) tt
 
-    go : NamedBy s n k.story.sent k.story.link k.exchange k.handshakes c.before → NamedBy s n b' o' (exchange_by false true false (host_of s n.initiator) (hearing_of k row (reading_in k.story.bus_state n c true)) (leaving s k n.target) k.exchange) (handshakes_on (Some n) c row.time k.handshakes) c.after
+    go : NamedBy s n k.story.sent k.story.link k.exchange k.handshakes c.before → NamedBy s n b' o' (still_talk false true false (host_of s n.initiator) (hearing_of k row (reading_in k.story.bus_state n c true)) (leaving s k n.target) k.exchange) (handshakes_on (Some n) c row.time k.handshakes) c.after
     go (known l e i q) =
         known (link_by s k.story l true (message_out k.story.bus_state.dialogue c true) (message_in k.story.bus_state.dialogue c true)) (eo l e)
         (ap (λ (z : Option Item). is_some z) (byte_item s k.story.sent l (carried_if k.story l.item) (message_out k.story.bus_state.dialogue c true) (message_in k.story.bus_state.dialogue c true) (heard IsNoName q (is_message_in c.before) refl)) ∙ i)
@@ -129,7 +130,7 @@ crosses_on s k row n c dev b' o' g gv ep er eb eo h = go h
         let last = name_last s k.story.sent l undo message (subst (λ (v : Option MsgIn). OnMessage IsNoEnd v) into (heard IsNoEnd (names_no_end p l k.exchange.plan.messages k.handshakes.requests names) (is_message_in c.before) refl)) nm.last nm.before in
         let count : (handshakes_on (Some n) c row.time k.handshakes).requests ≡ k.handshakes.requests + 1 = request_rises n c row.time dev k.handshakes ep (in_io c.before m) er _ y.1 (few_messages k.exchange.plan.messages) in
         let next : Exchange = record k.exchange { speech = record k.exchange.speech { asked = request_after k.exchange.speech.asked (message_in k.story.bus_state.dialogue c true) } } in
-        named_as s n b' b' o' o' (exchange_by false true false (host_of s n.initiator) (hearing_of k row (reading_in k.story.bus_state n c true)) (leaving s k n.target) k.exchange) next (handshakes_on (Some n) c row.time k.handshakes) (handshakes_on (Some n) c row.time k.handshakes) c.after c.after refl refl
+        named_as s n b' b' o' o' (still_talk false true false (host_of s n.initiator) (hearing_of k row (reading_in k.story.bus_state n c true)) (leaving s k n.target) k.exchange) next (handshakes_on (Some n) c row.time k.handshakes) (handshakes_on (Some n) c row.time k.handshakes) c.after c.after refl refl
         (λ i. record {
           begun = k.exchange.begun;
           speech = if e i then speech_after_byte k.exchange.speech else speech_after_request k.exchange.speech (message_in k.story.bus_state.dialogue c true);
@@ -145,7 +146,7 @@ crosses_on s k row n c dev b' o' g gv ep er eb eo h = go h
         eo l nm.link_is ∙ (λ i. Some (after_byte s k.story.sent l undo (message_out k.story.bus_state.dialogue c true) (if e i then whole_in (got_in (k.story.bus_state.dialogue.half ++ c.after.data_bits % 256 ∷ [])) else None))) in
         let next : Exchange = heard_byte k.exchange k.story.bus_state.dialogue.is_last (whole_out (got_out (fresh_bytes k.story.bus_state.dialogue ++ c.after.data_bits % 256 ∷ []))) in
         let same = kept k.story.bus_state.dialogue.is_last k.exchange.plan in
-        named_as s n b' b' o' o' (exchange_by false true false (host_of s n.initiator) (hearing_of k row (reading_in k.story.bus_state n c true)) (leaving s k n.target) k.exchange) next (handshakes_on (Some n) c row.time k.handshakes) (handshakes_on (Some n) c row.time k.handshakes) c.after c.after refl refl
+        named_as s n b' b' o' o' (still_talk false true false (host_of s n.initiator) (hearing_of k row (reading_in k.story.bus_state n c true)) (leaving s k n.target) k.exchange) next (handshakes_on (Some n) c row.time k.handshakes) (handshakes_on (Some n) c row.time k.handshakes) c.after c.after refl refl
         (λ i. record {
           begun = k.exchange.begun;
           speech = if m i then speech_after_byte k.exchange.speech else speech_after_request k.exchange.speech (message_in k.story.bus_state.dialogue c true);

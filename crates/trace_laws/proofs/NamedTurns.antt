@@ -37,14 +37,16 @@ use Rattle.bus_due.specs.Defs.{host_of}
 use Rattle.bus_due.specs.RunState.{RunState, bus_of}
 use Rattle.bus_due.specs.RunSteps.{run_state_after}
 use Rattle.bus_due.specs.Sights.{serving_of, hearing_of, leaving}
+use Rattle.bus_due.proofs.Stills.{still_talk}
 use Rattle.bus_books.specs.Giving.{OnMessages, Gives}
 use Rattle.bus_books.specs.Hearing.{is_in_phase}
 use Rattle.bus_books.specs.Knowing.{IsNoName}
 use Rattle.bus_books.specs.Rows.{RowKind, still, strikes, crosses, turns, IsRowIn, reading_in}
 use Rattle.bus_books.specs.Speaking.{Speaks}
 use Rattle.bus_books.specs.Traces.{GoesOn}
-use Rattle.bus_books.proofs.Gives.{requests_stay, struck_same}
-use Rattle.bus_books.proofs.InConnection.{InConnection, in_connection, exchange_by, same_phase_is}
+use Rattle.bus_books.proofs.Gives.{requests_stay}
+use Rattle.bus_lines.proofs.Early.{struck_same}
+use Rattle.bus_books.proofs.InConnection.{InConnection, in_connection, same_phase_is}
 use Rattle.bus_books.proofs.Leavings.{left_messages}
 use Rattle.trace_laws.specs.Named.{Names, IsNaming, NamedBy, known, said, refused, Named}
 use Rattle.trace_laws.specs.Offers.{is_detected, IsHeardOut, opens, repeats, answers_it, detects, Offers}
@@ -64,7 +66,7 @@ use Rattle.bus_books.proofs.Speaks.{asking}
 
 -- ---- no names
 
-nameless_turn : (host : Option HostDef) (x : Exchange) (w : Hearing) (l : Leaving) → OnMessages IsNoName x.plan.messages → OnMessages IsNoName l.messages → OnMessages IsNoName (exchange_by true false false host w l x).plan.messages
+nameless_turn : (host : Option HostDef) (x : Exchange) (w : Hearing) (l : Leaving) → OnMessages IsNoName x.plan.messages → OnMessages IsNoName l.messages → OnMessages IsNoName (still_talk true false false host w l x).plan.messages
 nameless_turn host x w l was next = go (is_message_out w.change.after) w.begun
   where
     refusal : (q : Bool) → OnMessages IsNoName (if q then from_byte x.plan.messages (w.offered - 1) else x.plan.messages)
@@ -109,7 +111,7 @@ zero_bytes : {A : Type 0} (n : ℕ) → 0 < n → 0 ≡ n → A
 zero_bytes n lt e = absurd (omega arith)
 
 turns_on : (s : ScenarioValue) (k : RunState) (row : Row) (n : Connection) (c : Change) (b' : Sent) (o' : Option Link) → GoesOn s k row n c → (c.after.msg ≡ true → c.after.cd ≡ true) → Speaks s k n → Gives k → Offers k → changes_phase c ≡ true → (k.exchange.begun ≡ true → (leaving s k n.target).to ≡ Some (phase_of c.after)) → ((l : Link) → k.story.link ≡ Some l → is_complete l.last ≡ false → b' ≡ k.story.sent) → o' ≡ k.story.link → NamedBy s n k.story.sent k.story.link k.exchange k.handshakes c.before
-    → NamedBy s n b' o' (exchange_by true false false (host_of s n.initiator) (hearing_of k row (reading_in k.story.bus_state n c false)) (leaving s k n.target) k.exchange) no_handshakes c.after
+    → NamedBy s n b' o' (still_talk true false false (host_of s n.initiator) (hearing_of k row (reading_in k.story.bus_state n c false)) (leaving s k n.target) k.exchange) no_handshakes c.after
 turns_on s k row n c b' o' g there sp gv of ep whereto eb eo h = go h
   where
     host : Option HostDef
@@ -128,10 +130,10 @@ turns_on s k row n c b' o' g there sp gv of ep whereto eb eo h = go h
     turning = ap changes_phase g.row_is.change_is ∙ ep
 
     -- the exchange after it
-    is : (x : Exchange) → exchange_by true false false host w l k.exchange ≡ x → NamedBy s n b' o' x no_handshakes c.after → NamedBy s n b' o' (exchange_by true false false host w l k.exchange) no_handshakes c.after
+    is : (x : Exchange) → still_talk true false false host w l k.exchange ≡ x → NamedBy s n b' o' x no_handshakes c.after → NamedBy s n b' o' (still_talk true false false host w l k.exchange) no_handshakes c.after
     is x e z = subst (λ (y : Exchange). NamedBy s n b' o' y no_handshakes c.after) (sym e) z
 
-    entered : is_message_out c.after ≡ false → exchange_by true false false host w l k.exchange ≡ entering k.exchange (record k.exchange.speech { place = 0 }) l.messages l.next
+    entered : is_message_out c.after ≡ false → still_talk true false false host w l k.exchange ≡ entering k.exchange (record k.exchange.speech { place = 0 }) l.messages l.next
     entered e = λ i. record {
       begun = true;
       speech = if e i && k.exchange.begun then speech_of k.exchange.speech (words_after host w k.exchange.speech.asked) else record k.exchange.speech { place = 0 };
@@ -142,7 +144,7 @@ turns_on s k row n c b' o' g there sp gv of ep whereto eb eo h = go h
     left_in : k.exchange.begun ≡ true → is_message_in c.before ≡ true → l ≡ phase_leaving (serving_of s k n.target) c.before.atn phases.MessageIn
     left_in f m = left_is s k n c on f ∙ ap (λ (p : Phase). phase_leaving (serving_of s k n.target) c.before.atn p) (in_phase c.before m)
 
-    refuses : (p : Process) (x : Link) → IsNaming s n k.story.sent k.story.link p x k.exchange → is_message_in c.before ≡ true → Names p x k.exchange.plan.messages k.handshakes.requests → c.before.atn ≡ true → NamedBy s n b' o' (exchange_by true false false host w l k.exchange) no_handshakes c.after
+    refuses : (p : Process) (x : Link) → IsNaming s n k.story.sent k.story.link p x k.exchange → is_message_in c.before ≡ true → Names p x k.exchange.plan.messages k.handshakes.requests → c.before.atn ≡ true → NamedBy s n b' o' (still_talk true false false host w l k.exchange) no_handshakes c.after
     refuses p x nm m names a =
         let f = nm.begun_is in
         let e : is_message_out c.after ≡ true =
@@ -165,7 +167,7 @@ turns_on s k row n c b' o' g there sp gv of ep whereto eb eo h = go h
         })
         (refused p x (naming_as s n k.story.sent b' o' p x x k.exchange next k.story.link (eb x nm.link_is nm.last) (eo ∙ nm.link_is) refl refl nm.last nm.before refl refl nm) e refl (names_left p x k.exchange.plan.messages k.handshakes.requests some within names))
 
-    hears : (p : Process) (x : Link) → IsNaming s n k.story.sent k.story.link p x k.exchange → is_message_in c.before ≡ true → (k.handshakes.requests ≡ length (bytes_of_messages k.exchange.plan.messages) → is_some x.item ≡ true) → c.before.atn ≡ false → NamedBy s n b' o' (exchange_by true false false host w l k.exchange) no_handshakes c.after
+    hears : (p : Process) (x : Link) → IsNaming s n k.story.sent k.story.link p x k.exchange → is_message_in c.before ≡ true → (k.handshakes.requests ≡ length (bytes_of_messages k.exchange.plan.messages) → is_some x.item ≡ true) → c.before.atn ≡ false → NamedBy s n b' o' (still_talk true false false host w l k.exchange) no_handshakes c.after
     hears p x nm m heard a =
         let f = nm.begun_is in
         let lv = g.leaves turning in
@@ -179,7 +181,7 @@ turns_on s k row n c b' o' g there sp gv of ep whereto eb eo h = go h
         other false e f = e
 
     -- MESSAGE OUT is left
-    again : (p : Process) (x : Link) → IsNaming s n k.story.sent k.story.link p x k.exchange → is_message_out c.before ≡ true → k.exchange.plan.cause ≡ causes.InMessage → Names p x k.exchange.plan.messages 0 → NamedBy s n b' o' (exchange_by true false false host w l k.exchange) no_handshakes c.after
+    again : (p : Process) (x : Link) → IsNaming s n k.story.sent k.story.link p x k.exchange → is_message_out c.before ≡ true → k.exchange.plan.cause ≡ causes.InMessage → Names p x k.exchange.plan.messages 0 → NamedBy s n b' o' (still_talk true false false host w l k.exchange) no_handshakes c.after
     again p x nm m cause names =
         let f = nm.begun_is in
         let here : is_message_out (bus_of k) ≡ true = ap is_message_out on ∙ m in
@@ -206,11 +208,11 @@ turns_on s k row n c b' o' g there sp gv of ep whereto eb eo h = go h
             by true false i z = wrong' z
             by false r i z = refl
 
-    by_attention : (p : Process) (x : Link) → IsNaming s n k.story.sent k.story.link p x k.exchange → is_message_in c.before ≡ true → Names p x k.exchange.plan.messages k.handshakes.requests → (k.handshakes.requests ≡ length (bytes_of_messages k.exchange.plan.messages) → is_some x.item ≡ true) → (q : Bool) → c.before.atn ≡ q → NamedBy s n b' o' (exchange_by true false false host w l k.exchange) no_handshakes c.after
+    by_attention : (p : Process) (x : Link) → IsNaming s n k.story.sent k.story.link p x k.exchange → is_message_in c.before ≡ true → Names p x k.exchange.plan.messages k.handshakes.requests → (k.handshakes.requests ≡ length (bytes_of_messages k.exchange.plan.messages) → is_some x.item ≡ true) → (q : Bool) → c.before.atn ≡ q → NamedBy s n b' o' (still_talk true false false host w l k.exchange) no_handshakes c.after
     by_attention p x nm m names heard true a = refuses p x nm m names a
     by_attention p x nm m names heard false a = hears p x nm m heard a
 
-    go : NamedBy s n k.story.sent k.story.link k.exchange k.handshakes c.before → NamedBy s n b' o' (exchange_by true false false host w l k.exchange) no_handshakes c.after
+    go : NamedBy s n k.story.sent k.story.link k.exchange k.handshakes c.before → NamedBy s n b' o' (still_talk true false false host w l k.exchange) no_handshakes c.after
     go (known x e i q) = known x (eo ∙ e) i (nameless_turn host k.exchange w l q (left_messages IsNoName others_nameless (serving_of s k n.target) k.exchange.begun (bus_of k) q))
     go (said p x nm m names heard) = by_attention p x nm m names heard c.before.atn refl
     go (refused p x nm m cause names) = again p x nm m cause names
@@ -227,10 +229,10 @@ named_on s k row n c g there sp gv of whereto h link link_is = go r.kind
     was = subst (λ (z : LineSet). NamedBy s n k.story.sent k.story.link k.exchange k.handshakes z) r.bus_is h
 
     to : (phase now fault : Bool) (y : Handshakes) → (run_state_after s k row).handshakes ≡ y → InConnection s k row n c phase now fault
-        → NamedBy s n (run_state_after s k row).story.sent (run_state_after s k row).story.link (exchange_by phase now fault (host_of s n.initiator) (hearing_of k row (reading_in k.story.bus_state n c now)) (leaving s k n.target) k.exchange) y c.after → Named s (run_state_after s k row) n
+        → NamedBy s n (run_state_after s k row).story.sent (run_state_after s k row).story.link (still_talk phase now fault (host_of s n.initiator) (hearing_of k row (reading_in k.story.bus_state n c now)) (leaving s k n.target) k.exchange) y c.after → Named s (run_state_after s k row) n
     to phase now fault y ey i z =
         named_as s n (run_state_after s k row).story.sent (run_state_after s k row).story.sent (run_state_after s k row).story.link (run_state_after s k row).story.link
-        (run_state_after s k row).exchange (exchange_by phase now fault (host_of s n.initiator) (hearing_of k row (reading_in k.story.bus_state n c now)) (leaving s k n.target) k.exchange) (run_state_after s k row).handshakes y (bus_of (run_state_after s k row)) c.after refl refl i.exchange_is ey i.bus_is z
+        (run_state_after s k row).exchange (still_talk phase now fault (host_of s n.initiator) (hearing_of k row (reading_in k.story.bus_state n c now)) (leaving s k n.target) k.exchange) (run_state_after s k row).handshakes y (bus_of (run_state_after s k row)) c.after refl refl i.exchange_is ey i.bus_is z
 
     none_crosses : receiver_in n c ≡ None → is_some (receiver_in n c) ≡ false
     none_crosses e = ap (λ (z : Option ℕ). is_some z) e

@@ -30,14 +30,16 @@ use Rattle.bus_due.specs.Defs.{host_of}
 use Rattle.bus_due.specs.RunState.{RunState, bus_of}
 use Rattle.bus_due.specs.RunSteps.{run_state_after}
 use Rattle.bus_due.specs.Sights.{serving_of, hearing_of, leaving}
+use Rattle.bus_due.proofs.Stills.{still_talk}
 use Rattle.bus_books.specs.Giving.{Gives}
 use Rattle.bus_books.specs.Hearing.{LeavesWhole, is_out_phase}
 use Rattle.bus_books.specs.Reactions.{IsOver}
 use Rattle.bus_books.specs.Rows.{RowKind, still, strikes, crosses, turns, IsRowIn, reading_in}
 use Rattle.bus_books.specs.Speaking.{Speaks}
 use Rattle.bus_books.specs.Traces.{GoesOn}
-use Rattle.bus_books.proofs.Gives.{requests_stay, struck_same, few_messages}
-use Rattle.bus_books.proofs.InConnection.{InConnection, in_connection, exchange_by, dialogue_by, same_phase_is}
+use Rattle.bus_books.proofs.Gives.{requests_stay, few_messages}
+use Rattle.bus_lines.proofs.Early.{struck_same}
+use Rattle.bus_books.proofs.InConnection.{InConnection, in_connection, dialogue_by, same_phase_is}
 use Rattle.trace_laws.specs.Attention.{Attention}
 use Rattle.trace_laws.specs.Offers.{offer_now, IsHeardIn, is_detected, OffersBy, Offers}
 use Rattle.trace_laws.proofs.OfferBytes.{heard_in_on, heard_out_on}
@@ -75,7 +77,7 @@ stays_out c e f =
 -- ---- a byte crosses
 
 crosses_on : (s : ScenarioValue) (k : RunState) (row : Row) (n : Connection) (c : Change) (dev : ℕ) → GoesOn s k row n c → Speaks s k n → Gives k → Attention k.handshakes k.story.bus_state.dialogue k.exchange.begun n c → changes_phase c ≡ false → receiver_in n c ≡ Some dev → OffersBy k.exchange k.story.bus_state.dialogue k.handshakes c.before
-    → OffersBy (exchange_by false true false (host_of s n.initiator) (hearing_of k row (reading_in k.story.bus_state n c true)) (leaving s k n.target) k.exchange) (byte_crosses k.story.bus_state.dialogue c) (handshakes_on (Some n) c row.time k.handshakes) c.after
+    → OffersBy (still_talk false true false (host_of s n.initiator) (hearing_of k row (reading_in k.story.bus_state n c true)) (leaving s k n.target) k.exchange) (byte_crosses k.story.bus_state.dialogue c) (handshakes_on (Some n) c row.time k.handshakes) c.after
 crosses_on s k row n c dev g sp gv att ep er o = go (is_message_out c.before) refl (is_message_in c.before) refl
   where
     x : Exchange
@@ -91,11 +93,11 @@ crosses_on s k row n c dev g sp gv att ep er o = go (is_message_out c.before) re
     begun = g.begun ((λ i. is_some (receiver_of (g.row_is.connection_is i) (g.row_is.change_is i))) ∙ there)
 
     go : (q : Bool) → is_message_out c.before ≡ q → (r : Bool) → is_message_in c.before ≡ r
-        → OffersBy (exchange_by false true false (host_of s n.initiator) (hearing_of k row (reading_in k.story.bus_state n c true)) (leaving s k n.target) k.exchange) (byte_crosses k.story.bus_state.dialogue c) (handshakes_on (Some n) c row.time k.handshakes) c.after
+        → OffersBy (still_talk false true false (host_of s n.initiator) (hearing_of k row (reading_in k.story.bus_state n c true)) (leaving s k n.target) k.exchange) (byte_crosses k.story.bus_state.dialogue c) (handshakes_on (Some n) c row.time k.handshakes) c.after
     go true e r f =
         let next = g.says e there in
         let w = sp.in_message_out begun (ap is_message_out g.row_is.bus_is ∙ e) in
-        offers_as (exchange_by false true false (host_of s n.initiator) (hearing_of k row (reading_in k.story.bus_state n c true)) (leaving s k n.target) k.exchange)
+        offers_as (still_talk false true false (host_of s n.initiator) (hearing_of k row (reading_in k.story.bus_state n c true)) (leaving s k n.target) k.exchange)
         (heard_byte k.exchange k.story.bus_state.dialogue.is_last (whole_out (got_out (fresh_bytes k.story.bus_state.dialogue ++ c.after.data_bits % 256 ∷ []))))
         (byte_crosses k.story.bus_state.dialogue c) (byte_out k.story.bus_state.dialogue (c.after.data_bits % 256) (not (attends_with k.exchange.speech))) (handshakes_on (Some n) c row.time k.handshakes) (handshakes_on (Some n) c row.time k.handshakes) c.after c.after
         (λ i. record {
@@ -112,7 +114,7 @@ crosses_on s k row n c dev g sp gv att ep er o = go (is_message_out c.before) re
         let given = gv.in_message_in begun (ap is_message_in g.row_is.bus_is ∙ f) in
         let count : (handshakes_on (Some n) c row.time k.handshakes).requests ≡ k.handshakes.requests + 1 = request_rises n c row.time dev k.handshakes ep (in_line c.before f) er _ y.1 (few_messages k.exchange.plan.messages) in
         let heard = heard_in_on k.exchange.plan.messages k.exchange.plan.next k.story.bus_state.dialogue k.handshakes.requests (c.after.data_bits % 256) gv.fit given y.0 y.1 (o.into begun f) in
-        offers_as (exchange_by false true false (host_of s n.initiator) (hearing_of k row (reading_in k.story.bus_state n c true)) (leaving s k n.target) k.exchange)
+        offers_as (still_talk false true false (host_of s n.initiator) (hearing_of k row (reading_in k.story.bus_state n c true)) (leaving s k n.target) k.exchange)
         (record k.exchange { speech = record k.exchange.speech { asked = request_after k.exchange.speech.asked (message_in k.story.bus_state.dialogue c true) } })
         (byte_crosses k.story.bus_state.dialogue c) (byte_in k.story.bus_state.dialogue (c.after.data_bits % 256)) (handshakes_on (Some n) c row.time k.handshakes) (handshakes_on (Some n) c row.time k.handshakes) c.after c.after
         (λ i. record {
@@ -132,7 +134,7 @@ crosses_on s k row n c dev g sp gv att ep er o = go (is_message_out c.before) re
             last true r z = z
             last false r z = wrong' z
     go false e false f =
-        offers_as (exchange_by false true false (host_of s n.initiator) (hearing_of k row (reading_in k.story.bus_state n c true)) (leaving s k n.target) k.exchange)
+        offers_as (still_talk false true false (host_of s n.initiator) (hearing_of k row (reading_in k.story.bus_state n c true)) (leaving s k n.target) k.exchange)
         (record k.exchange { speech = record k.exchange.speech { asked = request_after k.exchange.speech.asked (message_in k.story.bus_state.dialogue c true) } })
         (byte_crosses k.story.bus_state.dialogue c) (byte_else k.story.bus_state.dialogue c.before (c.after.data_bits % 256)) (handshakes_on (Some n) c row.time k.handshakes) (handshakes_on (Some n) c row.time k.handshakes) c.after c.after
         (λ i. record {
@@ -201,7 +203,7 @@ quiet_left s k n c to eb known f lv over e other att = go c.before.io refl c.bef
 -- ---- another phase begins
 
 turns_on : (s : ScenarioValue) (k : RunState) (row : Row) (n : Connection) (c : Change) → GoesOn s k row n c → (c.after.msg ≡ true → c.after.cd ≡ true) → Speaks s k n → Attention k.handshakes k.story.bus_state.dialogue k.exchange.begun n c → changes_phase c ≡ true → (k.exchange.begun ≡ true → IsOver s k n) → (k.exchange.begun ≡ true → (leaving s k n.target).to ≡ Some (phase_of c.after)) → OffersBy k.exchange k.story.bus_state.dialogue k.handshakes c.before
-    → OffersBy (exchange_by true false false (host_of s n.initiator) (hearing_of k row (reading_in k.story.bus_state n c false)) (leaving s k n.target) k.exchange) (phase_begins k.story.bus_state.dialogue) no_handshakes c.after
+    → OffersBy (still_talk true false false (host_of s n.initiator) (hearing_of k row (reading_in k.story.bus_state n c false)) (leaving s k n.target) k.exchange) (phase_begins k.story.bus_state.dialogue) no_handshakes c.after
 turns_on s k row n c g there sp att ep over whereto o = by k.exchange.begun refl (is_message_out c.after) refl
   where
     d : Dialogue
@@ -228,10 +230,10 @@ turns_on s k row n c g there sp att ep over whereto o = by k.exchange.begun refl
     known : c.before.msg ≡ true → c.before.cd ≡ true
     known z = ap (λ (b : LineSet). b.cd) (sym eb) ∙ (g.phase (ap (λ (b : LineSet). b.msg) eb ∙ z)).0
 
-    is : (x : Exchange) → exchange_by true false false host w l k.exchange ≡ x → OffersBy x (phase_begins d) no_handshakes c.after → OffersBy (exchange_by true false false host w l k.exchange) (phase_begins d) no_handshakes c.after
+    is : (x : Exchange) → still_talk true false false host w l k.exchange ≡ x → OffersBy x (phase_begins d) no_handshakes c.after → OffersBy (still_talk true false false host w l k.exchange) (phase_begins d) no_handshakes c.after
     is x e z = subst (λ (y : Exchange). OffersBy y (phase_begins d) no_handshakes c.after) (sym e) z
 
-    to_out : k.exchange.begun ≡ true → is_message_out c.after ≡ true → Lines c.before → OffersBy (exchange_by true false false host w l k.exchange) (phase_begins d) no_handshakes c.after
+    to_out : k.exchange.begun ≡ true → is_message_out c.after ≡ true → Lines c.before → OffersBy (still_talk true false false host w l k.exchange) (phase_begins d) no_handshakes c.after
     to_out f e (says m) = wrong (sym ep ∙ stays_out c m e)
     to_out f e (gives m) =
         let to : (phase_leaving (serving_of s k n.target) c.before.atn phases.MessageIn).to ≡ Some phases.MessageOut =
@@ -261,7 +263,7 @@ turns_on s k row n c g there sp att ep over whereto o = by k.exchange.begun refl
         detected true = refl
         detected false = refl
 
-    by : (f : Bool) → k.exchange.begun ≡ f → (e : Bool) → is_message_out c.after ≡ e → OffersBy (exchange_by true false false host w l k.exchange) (phase_begins d) no_handshakes c.after
+    by : (f : Bool) → k.exchange.begun ≡ f → (e : Bool) → is_message_out c.after ≡ e → OffersBy (still_talk true false false host w l k.exchange) (phase_begins d) no_handshakes c.after
     by false f q e =
         let m : is_message_out c.after ≡ true = ap (λ (x : Change). is_message_out x.after) (sym g.row_is.change_is) ∙ g.first turning f in
         is (opening_exchange k.exchange)
@@ -301,10 +303,10 @@ offers_on s k row n c g there sp gv att over whereto h = go r.kind
     was = subst (λ (z : LineSet). OffersBy k.exchange k.story.bus_state.dialogue k.handshakes z) r.bus_is h
 
     to : (phase now fault : Bool) → (handshakes_are : Handshakes) → (run_state_after s k row).handshakes ≡ handshakes_are → InConnection s k row n c phase now fault
-        → OffersBy (exchange_by phase now fault (host_of s n.initiator) (hearing_of k row (reading_in k.story.bus_state n c now)) (leaving s k n.target) k.exchange) (dialogue_by phase now c k.story.bus_state.dialogue) handshakes_are c.after
+        → OffersBy (still_talk phase now fault (host_of s n.initiator) (hearing_of k row (reading_in k.story.bus_state n c now)) (leaving s k n.target) k.exchange) (dialogue_by phase now c k.story.bus_state.dialogue) handshakes_are c.after
         → Offers (run_state_after s k row)
     to phase now fault y ey i =
-        offers_as (run_state_after s k row).exchange (exchange_by phase now fault (host_of s n.initiator) (hearing_of k row (reading_in k.story.bus_state n c now)) (leaving s k n.target) k.exchange)
+        offers_as (run_state_after s k row).exchange (still_talk phase now fault (host_of s n.initiator) (hearing_of k row (reading_in k.story.bus_state n c now)) (leaving s k n.target) k.exchange)
         (run_state_after s k row).story.bus_state.dialogue (dialogue_by phase now c k.story.bus_state.dialogue) (run_state_after s k row).handshakes y (bus_of (run_state_after s k row)) c.after i.exchange_is i.dialogue_is ey i.bus_is
 
     none_crosses : receiver_in n c ≡ None → is_some (receiver_in n c) ≡ false

@@ -7,13 +7,14 @@ use Rattle.bus_base.specs.declared.ProcId.{ProcId}
 use Rattle.scenario.specs.declared.value.CmdDef.{CmdDef}
 use Rattle.scenario.specs.Value.{ScenarioValue}
 use Rattle.disk_array.specs.Processes.{command_at}
-use Rattle.bus_story.specs.Items.{Item, process, abort, same_item, has_item, command_item, sense_item, Sent, is_open, open_from, tag_number_if, is_tag_clash, is_clash, open_limit_of, may_send}
-use Rattle.bus_story.specs.Links.{same_number, is_of_nexus, is_open_sense, named_item_from}
+use Rattle.disk_array.specs.Order.{same_number, tag_number}
+use Rattle.bus_story.specs.Items.{Item, process, abort, same_item, has_item, command_item, sense_item, Sent, is_open, open_from, is_tag_clash, is_clash, open_limit_of, may_send}
+use Rattle.bus_story.specs.Links.{is_of_nexus, is_open_sense, named_item_from}
 use Rattle.bus_books.proofs.Lookups.{id_is}
 use Rattle.trace_laws.specs.ItemFacts.{IsNext, is_abort, is_sense, is_command, NoClash}
 use Rattle.trace_laws.proofs.Impossible.{none_some}
 use Rattle.std.proofs.lemmas.Bool.{not-true, eqb-true, or_parts, or_cases}
-use Rattle.bus_base.proofs.Tests.{wrong, and_first, and_second, eq_self}
+use Rattle.bus_base.proofs.Tests.{wrong, and_first, and_second, eq_self, none_between}
 
 -- ---- items
 
@@ -44,12 +45,12 @@ opened b item n e =
 
 clash_back : (c d : CmdDef) → is_clash c d ≡ true → is_clash d c ≡ true
 clash_back c d e =
-    let w = and_first (c.target == d.target && c.unit == d.unit) (is_tag_clash (tag_number_if c.tag) (tag_number_if d.tag)) e in
+    let w = and_first (c.target == d.target && c.unit == d.unit) (is_tag_clash (tag_number c.tag) (tag_number d.tag)) e in
     let t : c.target ≡ d.target = eqb-true c.target d.target (and_first (c.target == d.target) (c.unit == d.unit) w) in
     let u : c.unit ≡ d.unit = eqb-true c.unit d.unit (and_second (c.target == d.target) (c.unit == d.unit) w) in
-    (λ i. (d.target == t i && d.unit == u i) && is_tag_clash (tag_number_if d.tag) (tag_number_if c.tag))
-    ∙ (λ i. (eq_self d.target i && eq_self d.unit i) && is_tag_clash (tag_number_if d.tag) (tag_number_if c.tag))
-    ∙ by (tag_number_if c.tag) (tag_number_if d.tag) (and_second (c.target == d.target && c.unit == d.unit) (is_tag_clash (tag_number_if c.tag) (tag_number_if d.tag)) e)
+    (λ i. (d.target == t i && d.unit == u i) && is_tag_clash (tag_number d.tag) (tag_number c.tag))
+    ∙ (λ i. (eq_self d.target i && eq_self d.unit i) && is_tag_clash (tag_number d.tag) (tag_number c.tag))
+    ∙ by (tag_number c.tag) (tag_number d.tag) (and_second (c.target == d.target && c.unit == d.unit) (is_tag_clash (tag_number c.tag) (tag_number d.tag)) e)
   where
     by : (x y : Option ℕ) → is_tag_clash x y ≡ true → is_tag_clash y x ≡ true
     by x None z = refl
@@ -132,7 +133,7 @@ pub record IsNamed (s : ScenarioValue) (b : Sent) (i t u : ℕ) (tag : Option �
   pub def_is : command_at s.commands n0 ≡ Some def
   pub nexus : is_of_nexus def i t u ≡ true
   pub opens : is_open b n0 ≡ true
-  pub tagged : (x : Option ℕ) → same_number x tag ≡ true → is_tag_clash x (tag_number_if def.tag) ≡ true
+  pub tagged : (x : Option ℕ) → same_number x tag ≡ true → is_tag_clash x (tag_number def.tag) ≡ true
   pub senseless : (n : ℕ) → is_open_sense b n ≡ false
 
 host_of_nexus : (c : CmdDef) (i t u : ℕ) → is_of_nexus c i t u ≡ true → c.host ≡ i
@@ -144,26 +145,22 @@ target_of_nexus c i t u e = eqb-true c.target t (and_second (c.host == i) (c.tar
 unit_of_nexus : (c : CmdDef) (i t u : ℕ) → is_of_nexus c i t u ≡ true → c.unit ≡ u
 unit_of_nexus c i t u e = eqb-true c.unit u (and_second (c.host == i && c.target == t) (c.unit == u) e)
 
-hit_is : (s : ScenarioValue) (b : Sent) (i t u : ℕ) (tag : Option ℕ) (n0 n : ℕ) (c : CmdDef) → NoClash s b → (w : IsNamed s b i t u tag n0) → command_at s.commands n ≡ Some c → (is_of_nexus c i t u && is_open b n && same_number (tag_number_if c.tag) tag) ≡ true → n ≡ n0
+hit_is : (s : ScenarioValue) (b : Sent) (i t u : ℕ) (tag : Option ℕ) (n0 n : ℕ) (c : CmdDef) → NoClash s b → (w : IsNamed s b i t u tag n0) → command_at s.commands n ≡ Some c → (is_of_nexus c i t u && is_open b n && same_number (tag_number c.tag) tag) ≡ true → n ≡ n0
 hit_is s b i t u tag n0 n c h w at e =
-    let here = and_first (is_of_nexus c i t u && is_open b n) (same_number (tag_number_if c.tag) tag) e in
+    let here = and_first (is_of_nexus c i t u && is_open b n) (same_number (tag_number c.tag) tag) e in
     let nexus = and_first (is_of_nexus c i t u) (is_open b n) here in
     let target : c.target ≡ w.def.target = target_of_nexus c i t u nexus ∙ sym (target_of_nexus w.def i t u w.nexus) in
     let unit : c.unit ≡ w.def.unit = unit_of_nexus c i t u nexus ∙ sym (unit_of_nexus w.def i t u w.nexus) in
     h n n0 c w.def at w.def_is (host_of_nexus c i t u nexus ∙ sym (host_of_nexus w.def i t u w.nexus)) (and_second (is_of_nexus c i t u) (is_open b n) here) w.opens
-    ((λ j. (target j == w.def.target && unit j == w.def.unit) && is_tag_clash (tag_number_if c.tag) (tag_number_if w.def.tag))
-    ∙ (λ j. (eq_self w.def.target j && eq_self w.def.unit j) && w.tagged (tag_number_if c.tag) (and_second (is_of_nexus c i t u && is_open b n) (same_number (tag_number_if c.tag) tag) e) j))
-
-and_off : (a c : Bool) → (a && false && c) ≡ false
-and_off true c = refl
-and_off false c = refl
+    ((λ j. (target j == w.def.target && unit j == w.def.unit) && is_tag_clash (tag_number c.tag) (tag_number w.def.tag))
+    ∙ (λ j. (eq_self w.def.target j && eq_self w.def.unit j) && w.tagged (tag_number c.tag) (and_second (is_of_nexus c i t u && is_open b n) (same_number (tag_number c.tag) tag) e) j))
 
 named_from : (s : ScenarioValue) (b : Sent) (i t u : ℕ) (tag : Option ℕ) (n0 : ℕ) → NoClash s b → IsNamed s b i t u tag n0 → (j : ℕ) (commands : List CmdDef) → ((m : ℕ) → command_at commands (suc m) ≡ command_at s.commands (suc (j + m)))
     → (named_item_from b i t u tag (suc j) commands ≡ Some (command_item n0)) ⊎ (named_item_from b i t u tag (suc j) commands ≡ None)
 named_from s b i t u tag n0 h w j [] at = inr refl
 named_from s b i t u tag n0 h w j (c ∷ commands) at =
-    go (is_of_nexus c i t u && is_open b (suc j) && same_number (tag_number_if c.tag) tag) (is_of_nexus c i t u && is_open_sense b (suc j) && same_number None tag) refl
-    ((λ k. is_of_nexus c i t u && w.senseless (suc j) k && same_number None tag) ∙ and_off (is_of_nexus c i t u) (same_number None tag))
+    go (is_of_nexus c i t u && is_open b (suc j) && same_number (tag_number c.tag) tag) (is_of_nexus c i t u && is_open_sense b (suc j) && same_number None tag) refl
+    ((λ k. is_of_nexus c i t u && w.senseless (suc j) k && same_number None tag) ∙ none_between (is_of_nexus c i t u) (same_number None tag))
     (subst (λ (n : ℕ). (named_item_from b i t u tag n commands ≡ Some (command_item n0)) ⊎ (named_item_from b i t u tag n commands ≡ None)) (one_more j)
     (named_from s b i t u tag n0 h w (suc j) commands (λ m. at (suc m) ∙ ap (λ (n : ℕ). command_at s.commands (suc n)) (moved j m))))
   where
@@ -179,7 +176,7 @@ named_from s b i t u tag n0 h w j (c ∷ commands) at =
     own : command_at s.commands (suc j) ≡ Some c
     own = ap (λ (n : ℕ). command_at s.commands (suc n)) (sym (same j)) ∙ sym (at 0)
 
-    go : (q r : Bool) → (is_of_nexus c i t u && is_open b (suc j) && same_number (tag_number_if c.tag) tag) ≡ q → r ≡ false → (named_item_from b i t u tag (suc j + 1) commands ≡ Some (command_item n0)) ⊎ (named_item_from b i t u tag (suc j + 1) commands ≡ None)
+    go : (q r : Bool) → (is_of_nexus c i t u && is_open b (suc j) && same_number (tag_number c.tag) tag) ≡ q → r ≡ false → (named_item_from b i t u tag (suc j + 1) commands ≡ Some (command_item n0)) ⊎ (named_item_from b i t u tag (suc j + 1) commands ≡ None)
         → ((if q then Some (command_item (suc j)) else if r then Some (sense_item (suc j)) else named_item_from b i t u tag (suc j + 1) commands) ≡ Some (command_item n0)) ⊎ ((if q then Some (command_item (suc j)) else if r then Some (sense_item (suc j)) else named_item_from b i t u tag (suc j + 1) commands) ≡ None)
     go true r z y rest = inl (ap (λ (n : ℕ). Some (command_item n)) (hit_is s b i t u tag n0 (suc j) c h w own z))
     go false true z y rest = wrong y

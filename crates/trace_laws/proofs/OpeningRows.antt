@@ -1,9 +1,7 @@
 -- In the opening after a selection nothing is shown while the connection stands; and the connection of a process does not end there
 -- (6.1.3, 6.6).
 use Rattle.std.proofs.Common.{ℕ, ◌≡◌, Bool, true, false, not, ◌&&◌, ◌||◌, ◌∙◌, Option, Some, None, refl, sym, ap}
-use Rattle.std.specs.Prelude.{if◌then◌else◌, is_some, is_none}
-use Rattle.std.proofs.lemmas.Bool.{and_parts}
-use Rattle.bus_base.specs.declared.AbortKind.{AbortKind}
+use Rattle.std.specs.Prelude.{if◌then◌else◌, is_some}
 use Rattle.bus_base.specs.declared.ProcId.{ProcId}
 use Rattle.bus_trace.specs.LineSet.{LineSet}
 use Rattle.bus_trace.specs.declared.agreements.Agreement.{Agreement}
@@ -20,13 +18,13 @@ use Rattle.bus_dialogue.specs.declared.exchange.Cause.TheVariants as causes
 use Rattle.bus_dialogue.specs.declared.exchange.Leaving.{Leaving}
 use Rattle.bus_dialogue.specs.declared.exchange.Phase.{Phase}
 use Rattle.bus_dialogue.specs.declared.exchange.Phase.TheVariants as phases
-use Rattle.bus_dialogue.specs.declared.exchange.Said.{Said}
 use Rattle.bus_dialogue.specs.Events.{is_status_next}
 use Rattle.bus_dialogue.specs.NextPhase.{Serving, after_offer, bus_free, leaving_by, message_out_leaving, phase_leaving, phase_of, request_or_command}
 use Rattle.bus_dialogue.specs.Words.{request_by}
-use Rattle.bus_due.specs.Faithful.{is_item_named, is_opening_named, is_process_named, is_unit, same_tag}
+use Rattle.bus_due.specs.Faithful.{is_item_named, is_opening_named, is_process_named}
 use Rattle.bus_due.specs.RunState.{RunState, bus_of, process_item, process_served}
 use Rattle.bus_due.specs.Sights.{leaving, serving_of}
+use Rattle.bus_due.proofs.Lookups.{named_none}
 use Rattle.scsi_device.specs.Heard.{is_opening, is_opening_in}
 use Rattle.scsi_device.specs.Lines.{AreUnits}
 use Rattle.bus_books.specs.Reactions.{IsOver}
@@ -104,13 +102,6 @@ opening_leaving s k dev e b =
 
 -- ---- the connection of a process does not end there
 
-no_abort : (a : Option AbortKind) → is_none a ≡ true → is_some a ≡ false
-no_abort None e = refl
-no_abort (Some x) e = wrong' e
-
-named_process : (said : Said) (p : Process) → is_process_named said (Some p) ≡ true → is_some said.aborts ≡ false
-named_process said p e = no_abort said.aborts (and_parts (is_none said.aborts) (is_unit said.unit p.unit) (and_parts (is_none said.aborts && is_unit said.unit p.unit) (same_tag said.tag p.tag) e).0).0
-
 pub alone : (s : ScenarioValue) (k : RunState) (n : Connection) → AreUnits s → Speaks s k n → k.exchange.begun ≡ true → ((bus_of k).msg ≡ true → (bus_of k).cd ≡ true) → IsOver s k n → is_opening k ≡ true → (leaving s k n.target).to ≡ None → process_served s k ≡ None
 alone s k n u speaks b known over opens to = go k.served refl
   where
@@ -128,7 +119,7 @@ alone s k n u speaks b known over opens to = go k.served refl
     by : (id : ProcId) → k.served ≡ Some (process id) → (o : Option Process) → process_of s id ≡ o → process_served s k ≡ None
     by id e None f = ap (process_item s) e ∙ f
     by id e (Some p) f =
-        let none = named_process k.exchange.plan.said p (ap (is_process_named k.exchange.plan.said) (sym f) ∙ ap (is_item_named s k.exchange.plan.said) (sym e) ∙ named) in
+        let none = named_none k.exchange.plan.said p (ap (is_process_named k.exchange.plan.said) (sym f) ∙ ap (is_item_named s k.exchange.plan.said) (sym e) ∙ named) in
         wrong (sym (opening_goes_on (serving_of s k n.target) none) ∙ ap (λ (l : Leaving). is_some l.to) (sym (opening_leaving s k n.target opens b)) ∙ ap (λ (o : Option Phase). is_some o) to)
 
     go : (o : Option Item) → k.served ≡ o → process_served s k ≡ None

@@ -20,7 +20,8 @@ use Rattle.disk_array.specs.Steps.{has_ended, is_of_unit}
 use Rattle.disk_array.proofs.SoundArrays.{id_is}
 use Rattle.bus_books.proofs.Lookups.{id_is as ids_are}
 use Rattle.trace_laws.specs.Places.{IsAway, IsUnanswered, Waits, Runs, OnUnits, Each, IsAtRest, IsUntouched}
-use Rattle.trace_laws.proofs.EachProcess.{AdmitsEvent, Admits, status_same, attended_same, cleared_same, each_after, each_settled, running_id}
+use Rattle.trace_laws.proofs.EachProcess.{AdmitsEvent, Admits, status_same, attended_same, cleared_same, each_after, each_settled}
+use Rattle.trace_laws.proofs.ListedReplies.{running_id}
 use Rattle.bus_base.proofs.Tests.{wrong}
 
 -- ---- the process of an event

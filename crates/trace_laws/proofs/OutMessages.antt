@@ -13,6 +13,7 @@ use Rattle.msg_grammar.specs.declared.message.Got.TheVariants.{Whole, More, Unkn
 use Rattle.msg_grammar.specs.declared.message.MsgOut.{MsgOut}
 use Rattle.msg_grammar.specs.declared.message.MsgOut.TheVariants as to_target
 use Rattle.msg_grammar.specs.Messages.{form_out, FitsOut, got_out, out_bytes}
+use Rattle.msg_grammar.specs.Grammar.{is_abort}
 use Rattle.scenario.specs.declared.value.HostDef.{HostDef}
 use Rattle.scenario.specs.declared.value.Tag.{Tag}
 use Rattle.scenario.specs.declared.value.Tag.TheVariants as tags
@@ -34,16 +35,9 @@ use Rattle.bus_books.proofs.Reading.{reads_at, reads_end}
 use Rattle.bus_books.proofs.Saying.{says_byte, says_more}
 use Rattle.bus_base.proofs.Tests.{wrong, wrong'}
 
-abbrev pub is_abort_out : MsgOut → Bool
-is_abort_out to_target.Abort = true
-is_abort_out to_target.AbortTag = true
-is_abort_out to_target.ClearQueue = true
-is_abort_out to_target.DeviceReset = true
-is_abort_out _ = false
-
 abbrev pub NoAbort : Option MsgOut → Type 0
 NoAbort None = ⊤
-NoAbort (Some m) = is_abort_out m ≡ false
+NoAbort (Some m) = is_abort m ≡ false
 
 -- ---- the messages that bytes make whole
 
@@ -54,7 +48,7 @@ abbrev AbortNone : List ℕ → List ℕ → Type 0
 AbortNone half [] = ⊤
 AbortNone half (b ∷ bytes) = NoAbort (whole_out (got_out (half ++ b ∷ []))) × AbortNone (next_half half b) bytes
 
-one_said : (m : MsgOut) (rest : List ℕ) → FitsOut m → is_abort_out m ≡ false → AbortNone [] rest → AbortNone [] (out_bytes m ++ rest)
+one_said : (m : MsgOut) (rest : List ℕ) → FitsOut m → is_abort m ≡ false → AbortNone [] rest → AbortNone [] (out_bytes m ++ rest)
 unfolding form_out
 one_said (to_target.Identify disc lun) rest fits e h = go disc lun fits
   where
@@ -95,7 +89,7 @@ tag_said (tags.Simple n) rest h = one_said (to_target.SimpleTag n) rest tt refl 
 tag_said (tags.Ordered n) rest h = one_said (to_target.OrderedTag n) rest tt refl h
 tag_said (tags.Head n) rest h = one_said (to_target.HeadTag n) rest tt refl h
 
-alone_said : (m : MsgOut) → FitsOut m → is_abort_out m ≡ false → AbortNone [] (out_bytes m)
+alone_said : (m : MsgOut) → FitsOut m → is_abort m ≡ false → AbortNone [] (out_bytes m)
 alone_said m fits e = subst (λ (x : List ℕ). AbortNone [] x) (append-nil (out_bytes m)) (one_said m [] fits e tt)
 
 offer_said : (negotiates : Bool) (h : Option HostDef) → AbortNone [] (offer_if negotiates h)

@@ -1,5 +1,5 @@
 -- Which items an event ends: those that it names, those that an abort drops, and with RST all; what is over stays so.
-use Rattle.std.proofs.Common.{inl, inr, ℕ, zero, suc, ◌≡◌, ◌⊎◌, ◌+◌, Bool, true, false, not, ◌&&◌, ◌||◌, ◌==◌, ◌∙◌, List, [], ◌∷◌, ◌++◌, Some, None, refl, sym, ap, arith}
+use Rattle.std.proofs.Common.{inl, inr, ℕ, zero, suc, ◌≡◌, ◌⊎◌, ◌+◌, Bool, true, false, not, ◌&&◌, ◌||◌, ◌==◌, ◌∙◌, List, [], ◌∷◌, ◌++◌, Some, refl, sym, ap, arith}
 use Rattle.std.specs.Prelude.{if◌then◌else◌}
 use Rattle.std.specs.List.{list_any}
 use Rattle.std.proofs.lemmas.Option.{same_Some}
@@ -18,11 +18,13 @@ use Rattle.bus_story.specs.Links.{is_open_sense}
 use Rattle.bus_story.specs.Story.{Story, Ending, by_status, by_abort, by_reset, is_aborted, is_sense_stopped, story_with_over, story_with_end, with_check, story_with_ends, story_after_event, story_after_events}
 use Rattle.trace_laws.proofs.Impossible.{none_some}
 use Rattle.trace_laws.proofs.OpenCommands.{fewer_clash}
-use Rattle.trace_laws.proofs.SentItems.{more_has, own_has, event_sent}
+use Rattle.trace_laws.proofs.SentItems.{more_has, own_has}
+use Rattle.bus_story.proofs.StorySteps.{event_sent, ends_checks}
 use Rattle.trace_laws.proofs.QueuedProcesses.{is_dropped, stays_queued}
 use Rattle.trace_laws.specs.ItemFacts.{NoClash, AreChecked, IsQueued}
 use Rattle.bus_base.proofs.Tests.{wrong, and_first, and_second, and_true}
 use Rattle.target_units.proofs.LiveQueue.{id_turned}
+use Rattle.disk_array.proofs.SeatLookups.{none_at}
 
 -- ---- what is over stays over
 
@@ -113,20 +115,6 @@ clash_grows s a b g h = fewer_clash s a b (λ n e. fewer_open a b g n e) h
 same_checks : (a b : Sent) → b.checks ≡ a.checks → ((i : Item) → has_item a.over i ≡ true → has_item b.over i ≡ true) → AreChecked a → AreChecked b
 same_checks a b e more h n z = more (command_item n) (h n (ap (λ (x : List ℕ). list_any (λ k. k == n) x) (sym e) ∙ z))
 
-pub ends_checks : (drops stops : CmdDef → Bool) (e : Ending) (n : ℕ) (commands : List CmdDef) (b : Story) → (story_with_ends drops stops e n commands b).sent.checks ≡ b.sent.checks
-ends_checks drops stops e n [] b = refl
-ends_checks drops stops e n (c ∷ commands) b =
-    ends_checks drops stops e (n + 1) commands
-    (if is_open b.sent n && drops c then story_with_end b (record { command = n; sense = false }) e
-    else if stops c && list_any (λ k. k == n) b.sent.checks then story_with_over b (sense_item n)
-    else b)
-    ∙ go (is_open b.sent n && drops c) (stops c && list_any (λ k. k == n) b.sent.checks)
-  where
-    go : (q r : Bool) → (if q then story_with_end b (record { command = n; sense = false }) e else if r then story_with_over b (sense_item n) else b).sent.checks ≡ b.sent.checks
-    go true r = refl
-    go false true = refl
-    go false false = refl
-
 own_command : (id : ProcId) → id.sense ≡ false → process id ≡ command_item id.command
 own_command id e = λ i. process (record { command = id.command; sense = e i })
 
@@ -208,10 +196,6 @@ ends_stop drops stops e j (suc k) (x ∷ commands) b c at stop over checked =
     let one_more : suc (suc j) ≡ suc j + 1 = omega arith in
     (λ i. has_item (story_with_ends drops stops e (sym one_more i) commands next).sent.over (sense_item (moved i)))
     ∙ ends_stop drops stops e (suc j) k commands next c at stop (g.over _ (ap (λ (n : ℕ). has_item b.sent.over (command_item n)) (sym moved) ∙ over)) (g.checks _ (ap (λ (n : ℕ). list_any (λ m. m == n) b.sent.checks) (sym moved) ∙ checked))
-
-pub none_at : (commands : List CmdDef) → command_at commands 0 ≡ None
-none_at [] = refl
-none_at (x ∷ commands) = refl
 
 pub ends_senses : (s : ScenarioValue) (drops stops : CmdDef → Bool) (e : Ending) (b : Story) (n : ℕ) (c : CmdDef) → command_at s.commands n ≡ Some c → stops c ≡ true → AreChecked b.sent → list_any (λ k. k == n) b.sent.checks ≡ true → has_item (story_with_ends drops stops e 1 s.commands b).sent.over (sense_item n) ≡ true
 ends_senses s drops stops e b zero c at stop h z = absurd (none_some c (sym (none_at s.commands) ∙ at))

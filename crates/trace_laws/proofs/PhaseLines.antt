@@ -8,11 +8,10 @@ use Rattle.bus_dialogue.specs.declared.exchange.Phase.TheVariants as phases
 use Rattle.bus_dialogue.specs.NextPhase.{phase_of}
 use Rattle.bus_story.specs.CarriedBytes.{is_status_phase}
 use Rattle.scsi_device.specs.Heard.{is_message}
-use Rattle.bus_books.specs.Reactions.{is_command_phase}
+use Rattle.scsi_device.specs.Writes.{is_data_in}
 use Rattle.bus_base.proofs.Tests.{and_first, wrong'}
-use Rattle.bus_books.proofs.Faith.{is_data_out}
 pub use Rattle.bus_books.proofs.Faith.{out_lines}
-pub use Rattle.bus_books.proofs.Reactions.{in_phase, out_phase}
+pub use Rattle.scsi_device.proofs.PhaseLines.{in_phase, out_phase}
 
 abbrev pub is_status : Phase → Bool
 is_status phases.Status = true
@@ -22,10 +21,6 @@ abbrev pub is_data_phase : Phase → Bool
 is_data_phase phases.DataIn = true
 is_data_phase phases.DataOut = true
 is_data_phase _ = false
-
-abbrev pub is_data_in : Phase → Bool
-is_data_in phases.DataIn = true
-is_data_in _ = false
 
 abbrev pub is_out_next : Option Phase → Bool
 is_out_next (Some phases.MessageOut) = true
@@ -45,27 +40,7 @@ command_phase b e = go b.msg b.cd b.io e
     go false true false z = refl
     go false false i z = wrong' z
 
-pub command_is : (b : LineSet) → is_command b ≡ is_command_phase (phase_of b)
-command_is b = go b.msg b.cd b.io
-  where
-    go : (m d i : Bool) → (not m && d && not i) ≡ is_command_phase (if m then (if i then phases.MessageIn else phases.MessageOut) else if d then (if i then phases.Status else phases.Command) else if i then phases.DataIn else phases.DataOut)
-    go true d true = refl
-    go true d false = refl
-    go false true true = refl
-    go false true false = refl
-    go false false true = refl
-    go false false false = refl
-
 -- ---- the lines, by the phase
-
-pub data_out_io : (b : LineSet) → phase_of b ≡ phases.DataOut → b.io ≡ false
-data_out_io b e = go b.msg b.cd b.io (ap is_data_out e)
-  where
-    go : (m d i : Bool) → is_data_out (if m then (if i then phases.MessageIn else phases.MessageOut) else if d then (if i then phases.Status else phases.Command) else if i then phases.DataIn else phases.DataOut) ≡ true → i ≡ false
-    go m d false z = refl
-    go true d true z = wrong' z
-    go false true true z = wrong' z
-    go false false true z = wrong' z
 
 pub data_in_lines : (b : LineSet) → phase_of b ≡ phases.DataIn → (b.msg ≡ false) × (b.cd ≡ false) × (b.io ≡ true)
 data_in_lines b e = go b.msg b.cd b.io (ap is_data_in e)

@@ -30,7 +30,6 @@ use Rattle.bus_due.specs.RunState.{RunState, bus_of}
 use Rattle.bus_due.specs.RunSteps.{run_state}
 use Rattle.bus_due.proofs.Plains.{run_state_plain}
 use Rattle.bus_books.specs.Hearing.{is_in_phase}
-use Rattle.bus_books.specs.Reactions.{is_command_phase}
 use Rattle.bus_books.specs.Traces.{GoesOn, Begins, Ends}
 use Rattle.trace_laws.proofs.ConnectionRows.{stage_of_connection}
 use Rattle.trace_laws.proofs.Joint.{Stood, link_unbegun}
@@ -43,6 +42,7 @@ use Rattle.trace_laws.proofs.PlaceFirst.{IsSelectedFor}
 use Rattle.trace_laws.proofs.PlaceRows.{PlaceAsked}
 use Rattle.trace_laws.proofs.PlaceRuns.{outside_runs}
 use Rattle.bus_base.proofs.Tests.{wrong'}
+use Rattle.scsi_device.specs.Heard.{is_command_phase}
 
 -- ---- what is owed
 

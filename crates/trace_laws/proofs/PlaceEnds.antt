@@ -34,7 +34,6 @@ use Rattle.bus_due.specs.RunState.{RunState, bus_of, process_item, process_serve
 use Rattle.bus_due.specs.RunSteps.{array_after_events}
 use Rattle.bus_books.specs.Accounts.{is_served_by}
 use Rattle.bus_books.specs.Hearing.{is_out_phase}
-use Rattle.bus_books.specs.Reactions.{is_command_phase}
 use Rattle.bus_books.proofs.Lookups.{id_is as ids_are, self_id}
 use Rattle.trace_laws.specs.Places.{AreWithin, IsUntouched, IsAtRest, Closes, completes, disconnects, PlacedBefore, PlacedAsked, PlacedIn, PlacedIf, HasPlaces}
 use Rattle.bus_base.specs.declared.AbortKind.{AbortKind}
@@ -44,6 +43,7 @@ use Rattle.trace_laws.proofs.PhaseLines.{is_status, is_data_phase}
 use Rattle.trace_laws.proofs.PlaceEvents.{Passes, passes_same, passes_step}
 use Rattle.trace_laws.proofs.PlaceTurned.{other_id}
 use Rattle.bus_base.proofs.Tests.{wrong}
+use Rattle.scsi_device.specs.Heard.{is_command_phase}
 
 -- ---- what is asked of it
 

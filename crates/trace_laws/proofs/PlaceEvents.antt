@@ -10,7 +10,7 @@ use Rattle.bus_trace.specs.LineSet.{LineSet}
 use Rattle.cdb_codec.specs.Cdb.{command_of}
 use Rattle.scenario.specs.Value.{ScenarioValue}
 use Rattle.scenario.specs.declared.value.Policy.{Policy}
-use Rattle.disk_array.specs.Execution.{is_request_sense}
+use Rattle.disk_array.specs.Execution.{is_request_sense, aborted_reply}
 use Rattle.disk_array.specs.Processes.{Process, process_of, same_id}
 use Rattle.disk_array.specs.SoundArray.{IsSound, HasSeats}
 use Rattle.disk_array.specs.Steps as Steps
@@ -28,7 +28,6 @@ use Rattle.bus_dialogue.specs.NextPhase.{phase_of}
 use Rattle.bus_due.specs.RunSteps.{array_after_events}
 use Rattle.bus_due.specs.Tasks.{is_idle_unit, room_of}
 use Rattle.ending_causes.specs.FullQueues.{is_refusal}
-use Rattle.bus_books.specs.Reactions.{is_command_phase}
 use Rattle.trace_laws.specs.Places.{AreWithin, IsUntouched, IsAtRest, IsOutside, RunsOpen, AnsweredOpen, is_queued}
 use Rattle.trace_laws.proofs.Impossible.{some_none}
 use Rattle.trace_laws.proofs.OtherProcesses.{is_of, untouched_after, rests_after, executed}
@@ -39,7 +38,7 @@ use Rattle.trace_laws.proofs.ArrivingProcesses.{queued, queued_rests, guest_may_
 use Rattle.trace_laws.proofs.AnsweredProcesses.{run_is, run_answers, fail_is, fail_answers}
 use Rattle.std.proofs.lemmas.Bool.{eqb-true}
 use Rattle.bus_base.proofs.Tests.{wrong}
-use Rattle.target_units.specs.Seated.{aborted_reply}
+use Rattle.scsi_device.specs.Heard.{is_command_phase}
 
 -- ---- what events of one process leave of the array
 

@@ -8,6 +8,7 @@ use Rattle.bus_trace.specs.declared.connection.Connection.{Connection}
 use Rattle.scenario.specs.Value.{ScenarioValue}
 use Rattle.disk_array.specs.Processes.{Process, process_of}
 use Rattle.disk_array.proofs.SoundArrays.{id_is}
+use Rattle.disk_array.specs.Units.{without_reply}
 use Rattle.bus_story.specs.BusState.{RowReading, row_reading}
 use Rattle.bus_story.specs.Items.{Item, process, abort, Sent, has_item}
 use Rattle.bus_story.specs.Links.{link_of}
@@ -29,7 +30,7 @@ use Rattle.bus_books.specs.Items.{IsItem, is_process, is_abort}
 use Rattle.bus_books.specs.Rows.{IsFirstRow}
 use Rattle.bus_books.specs.Traces.{Begins}
 use Rattle.bus_books.proofs.Lookups.{self_id}
-use Rattle.trace_laws.specs.Places.{fresh, IsUntouched, IsAtRest, RunsOpen, PlacedBefore, PlacedIn, PlacedIf, HasPlaces}
+use Rattle.trace_laws.specs.Places.{IsUntouched, IsAtRest, RunsOpen, PlacedBefore, PlacedIn, PlacedIf, HasPlaces}
 use Rattle.trace_laws.proofs.ArrivingProcesses.{not_running}
 use Rattle.trace_laws.proofs.Impossible.{some_none, none_some}
 use Rattle.trace_laws.proofs.NamedFirst.{first_sent}
@@ -176,7 +177,7 @@ reselected_on s k row n h b link e = record {
 
     was_sent : (q : Bool) → has_item k.story.sent.sent (process r.process.id) ≡ q → has_item k.story.sent.sent (process r.process.id) ≡ true
     was_sent true z = z
-    was_sent false z = some_none (fresh r.process) (sym ready.runs.runs.running_is ∙ not_running h.array r.process.id (h.unsent r.process.id z).away)
+    was_sent false z = some_none (without_reply r.process) (sym ready.runs.runs.running_is ∙ not_running h.array r.process.id (h.unsent r.process.id z).away)
 
     phase : phase_of (bus_of j) ≡ phases.MessageIn
     phase = in_phase (bus_of j) (b.names e)

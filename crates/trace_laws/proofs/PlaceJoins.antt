@@ -30,7 +30,6 @@ use Rattle.bus_due.specs.RunState.{RunState, bus_of}
 use Rattle.bus_due.specs.RunSteps.{run_state}
 use Rattle.bus_due.proofs.Plains.{run_state_plain}
 use Rattle.bus_books.specs.Hearing.{is_out_phase}
-use Rattle.bus_books.specs.Reactions.{is_command_phase}
 use Rattle.bus_books.specs.Speaking.{Speaks}
 use Rattle.bus_books.specs.Traces.{GoesOn, Begins, Ends}
 use Rattle.bus_books.proofs.Aims.{aims_are}
@@ -52,8 +51,10 @@ use Rattle.trace_laws.proofs.PlaceNext.{SendsNone, IsResetAsked}
 use Rattle.trace_laws.proofs.PlaceStays.{IsStayAsked}
 use Rattle.trace_laws.proofs.PlaceTurnRows.{TellsOf}
 use Rattle.trace_laws.proofs.RowItems.{inside_sent}
-use Rattle.trace_laws.proofs.SentItems.{events_sent, free_keeps}
+use Rattle.trace_laws.proofs.SentItems.{free_keeps}
+use Rattle.bus_story.proofs.StorySteps.{events_sent}
 use Rattle.bus_base.proofs.Tests.{wrong, wrong'}
+use Rattle.scsi_device.specs.Heard.{is_command_phase}
 
 -- ---- what is sent
 

@@ -28,7 +28,6 @@ use Rattle.bus_due.specs.RunState.{RunState, bus_of, item_of}
 use Rattle.bus_due.specs.RunSteps.{run_state}
 use Rattle.bus_due.specs.Sights.{serving_of, leaving}
 use Rattle.bus_due.proofs.Plains.{run_state_plain}
-use Rattle.bus_books.specs.Reactions.{is_command_phase}
 use Rattle.bus_books.specs.Traces.{GoesOn}
 use Rattle.bus_books.proofs.InConnection.{reading_is}
 use Rattle.bus_laws.proofs.Apart.{change_plain}
@@ -45,6 +44,7 @@ use Rattle.trace_laws.proofs.PhaseLines.{out_phase, is_status}
 use Rattle.trace_laws.proofs.PlaceLeavings.{Repeats, commands, again, leaves, from_refusal}
 use Rattle.std.proofs.lemmas.Bool.{not-true}
 use Rattle.bus_base.proofs.Tests.{wrong, wrong'}
+use Rattle.scsi_device.specs.Heard.{is_command_phase}
 
 -- ---- a fault row
 

@@ -6,15 +6,17 @@ use Rattle.bus_base.specs.declared.ProcId.{ProcId}
 use Rattle.scenario.specs.Value.{ScenarioValue}
 use Rattle.disk_array.specs.ArrayHistory.{reply_in}
 use Rattle.disk_array.specs.Processes.{Process, process_of, same_id}
-use Rattle.disk_array.specs.SoundArray.{IsOwn, IsOwnRunning, IsOwnUnit, AllOwnUnits, IsSound}
+use Rattle.disk_array.specs.SoundArray.{IsOwn, IsOwnRunning, IsOwnUnit, IsSound}
 use Rattle.disk_array.specs.Steps.{running_if, running_in, has_ended}
-use Rattle.disk_array.specs.Units.{RunningProcess, UnitState, Array, unit_state_at, guest_at, is_held}
+use Rattle.disk_array.specs.Units.{RunningProcess, UnitState, Array, unit_state_at, guest_at, is_held, without_reply}
+use Rattle.disk_array.specs.Seats.{current_of}
+use Rattle.disk_array.proofs.SoundArrays.{current_process}
+use Rattle.disk_array.proofs.SeatOwn.{own_found}
 use Rattle.bus_dialogue.specs.Wants.{Ready, ready_in, is_ready_before, first_ready}
-use Rattle.bus_due.specs.Wants.{current_of, since_of, ready_at, ready_among}
-use Rattle.target_units.proofs.UnitSteps.{own_unit}
+use Rattle.bus_due.specs.Wants.{since_of, ready_at, ready_among}
 use Rattle.target_units.proofs.UnitTimes.{running_is}
 use Rattle.bus_books.proofs.Lookups.{self_id, id_is}
-use Rattle.trace_laws.specs.Places.{fresh, Runs, OnUnits, IsUnanswered, IsAtRest, RunsOpen}
+use Rattle.trace_laws.specs.Places.{Runs, OnUnits, IsUnanswered, IsAtRest, RunsOpen}
 use Rattle.trace_laws.proofs.ArrivingProcesses.{no_guest, IsFoundAt, found_at}
 use Rattle.trace_laws.proofs.Impossible.{none_some}
 use Rattle.bus_books.proofs.ReadyProcesses.{or_ready}
@@ -91,7 +93,7 @@ found_current (v ∷ units) t n u c id e f g = go (v.target == t && v.unit == n)
         by (Some x) z w = record { found = x; found_is = λ i. if is_some (z i) then z i else running_in units id }
 
 -- What holds of each current process holds of it.
-on_running : (q : RunningProcess → Type 0) (units : List UnitState) (id : ProcId) (r : RunningProcess) → OnUnits q units → running_in units id ≡ Some r → q r
+pub on_running : (q : RunningProcess → Type 0) (units : List UnitState) (id : ProcId) (r : RunningProcess) → OnUnits q units → running_in units id ≡ Some r → q r
 on_running q [] id r h e = none_some r e
 on_running q (u ∷ units) id r h e = go u.current h.0.1 e (λ z. on_running q units id r h.1 z)
   where
@@ -100,18 +102,6 @@ on_running q (u ∷ units) id r h e = go u.current h.0.1 e (λ z. on_running q u
     by c k false z rest = rest z
 
     go : (o : Option RunningProcess) → Runs q o → (if is_some (running_if o id) then running_if o id else running_in units id) ≡ Some r → (running_in units id ≡ Some r → q r) → q r
-    go None k z rest = rest z
-    go (Some c) k z rest = by c k (same_id c.process.id id) z rest
-
-own_running : (s : ScenarioValue) (units : List UnitState) (id : ProcId) (r : RunningProcess) → AllOwnUnits s units → running_in units id ≡ Some r → process_of s r.process.id ≡ Some r.process
-own_running s [] id r h e = none_some r e
-own_running s (u ∷ units) id r h e = go u.current h.0.current e (λ z. own_running s units id r h.1 z)
-  where
-    by : (c : RunningProcess) → IsOwn s u.target u.unit c.process → (x : Bool) → (if is_some {T = RunningProcess} (if x then Some c else None) then (if x then Some c else None) else running_in units id) ≡ Some r → (running_in units id ≡ Some r → process_of s r.process.id ≡ Some r.process) → process_of s r.process.id ≡ Some r.process
-    by c k true z rest = subst (λ (y : RunningProcess). process_of s y.process.id ≡ Some y.process) (same_Some c r z) k.is
-    by c k false z rest = rest z
-
-    go : (o : Option RunningProcess) → IsOwnRunning s u.target u.unit o → (if is_some (running_if o id) then running_if o id else running_in units id) ≡ Some r → (running_in units id ≡ Some r → process_of s r.process.id ≡ Some r.process) → process_of s r.process.id ≡ Some r.process
     go None k z rest = rest z
     go (Some c) k z rest = by c k (same_id c.process.id id) z rest
 
@@ -139,7 +129,7 @@ ready_runs s a times seek t r sound rests e = go (among_current a times seek t r
         p = r.process
 
         own : IsOwnUnit s c.unit
-        own = own_unit s a.units t c.number c.unit sound.units c.at
+        own = own_found s a.units t c.number c.unit sound.units c.at
 
         mine : IsOwn s c.unit.target c.unit.unit c.current.process
         mine = subst (λ (o : Option RunningProcess). IsOwnRunning s c.unit.target c.unit.unit o) c.current_is own.current
@@ -157,9 +147,9 @@ ready_runs s a times seek t r sound rests e = go (among_current a times seek t r
         none = on_running (IsUnanswered (reply_in a.replies p.id) (has_ended a p.id) p.id) a.units p.id found.found rests.units found.found_is there
 
         same : found.found.process ≡ p
-        same = same_Some found.found.process p (sym (own_running s a.units p.id found.found sound.units found.found_is) ∙ ap (process_of s) (id_is found.found.process.id p.id there) ∙ own_is)
+        same = same_Some found.found.process p (sym (current_process s a.units p.id found.found sound.units found.found_is) ∙ ap (process_of s) (id_is found.found.process.id p.id there) ∙ own_is)
 
-        is_fresh : found.found ≡ fresh p
+        is_fresh : found.found ≡ without_reply p
         is_fresh = λ i. record { process = same i; reply = none.0 i }
 
         guest : guest_at a.guests p.id ≡ None

@@ -25,6 +25,7 @@ use Rattle.bus_story.specs.BusState.{row_reading}
 use Rattle.bus_story.specs.HistoryEvents.{carried_if, is_complete, is_completion, end_events, phase_events, link_events, row_events_by}
 use Rattle.bus_story.specs.Items.{Item, process, abort}
 use Rattle.bus_story.specs.Links.{Link}
+use Rattle.bus_story.proofs.CarriedLists.{carried_id}
 use Rattle.bus_dialogue.specs.declared.exchange.Cause.{Cause}
 use Rattle.bus_dialogue.specs.declared.exchange.Cause.TheVariants as causes
 use Rattle.bus_dialogue.specs.declared.exchange.Hearing.{Hearing}
@@ -45,7 +46,6 @@ use Rattle.bus_books.specs.Hearing.{is_in_phase}
 use Rattle.bus_books.specs.Rows.{IsRowIn, reading_in}
 use Rattle.bus_books.specs.Traces.{GoesOn}
 use Rattle.bus_books.proofs.InConnection.{InConnection, in_connection, reading_is, same_phase_is}
-use Rattle.bus_books.proofs.Lookups.{carried_id}
 use Rattle.disk_array.proofs.SoundArrays.{id_is}
 use Rattle.trace_laws.specs.Places.{AnsweredOpen, Closes, completes, disconnects, PlacedBefore, IsTaken, PlacedAsked, PlacedIn, PlacedIf, HasPlaces}
 use Rattle.trace_laws.proofs.CommandStays.{phase_same}

@@ -21,7 +21,6 @@ use Rattle.bus_due.specs.RunState.{RunState, bus_of, item_of, process_item, carr
 use Rattle.bus_due.specs.RunSteps.{run_state}
 use Rattle.bus_due.proofs.Plains.{run_state_plain}
 use Rattle.bus_books.specs.Knowing.{Knows}
-use Rattle.bus_books.specs.Reactions.{is_command_phase}
 use Rattle.bus_books.specs.Traces.{GoesOn}
 use Rattle.bus_laws.proofs.Apart.{change_plain}
 use Rattle.trace_laws.specs.Places.{PlaceFacts}
@@ -30,6 +29,7 @@ use Rattle.trace_laws.proofs.Joint.{Stood}
 use Rattle.trace_laws.proofs.PlaceTurnRows.{TellsOf}
 use Rattle.trace_laws.proofs.TellEvents.{whole_block}
 use Rattle.bus_base.proofs.Tests.{wrong'}
+use Rattle.scsi_device.specs.Heard.{is_command_phase}
 
 coded : (q : Bool) (failure : Option ℕ) → failure ≡ code_if q PARITY_ERROR → q ≡ true → is_some failure ≡ true
 coded true failure e f = ap is_some e

@@ -24,6 +24,7 @@ use Rattle.bus_story.specs.CarriedBytes.{CarriedBytes, is_whole_block}
 use Rattle.bus_story.specs.HistoryEvents.{carried_if, is_refuse, queue_event, status_event, status_events, phase_events, link_events, row_events_by}
 use Rattle.bus_story.specs.Items.{Item, process, abort}
 use Rattle.bus_story.specs.Links.{Link}
+use Rattle.bus_story.proofs.CarriedLists.{carried_id}
 use Rattle.bus_dialogue.specs.declared.exchange.Cause.TheVariants as causes
 use Rattle.bus_dialogue.specs.declared.exchange.Hearing.{Hearing}
 use Rattle.bus_dialogue.specs.declared.exchange.Leaving.{Leaving}
@@ -43,10 +44,8 @@ use Rattle.bus_due.specs.Sights.{serving_of, arrival_at, leaving}
 use Rattle.bus_due.specs.Tasks.{task_of, task_if, arrival_if}
 use Rattle.bus_books.specs.Accounts.{is_served_by}
 use Rattle.bus_books.specs.Hearing.{is_out_phase}
-use Rattle.bus_books.specs.Reactions.{is_command_phase}
 use Rattle.bus_books.specs.Rows.{IsRowIn, reading_in}
 use Rattle.bus_books.proofs.InConnection.{reading_is}
-use Rattle.bus_books.proofs.Lookups.{carried_id}
 use Rattle.trace_laws.specs.Places.{AreWithin, IsUntouched, IsAtRest, IsOutside, PlacedBefore, PlacedAsked, PlacedIn, PlacedIf, HasPlaces}
 use Rattle.trace_laws.proofs.Impossible.{none_some}
 use Rattle.trace_laws.proofs.PhaseLines.{is_status}
@@ -56,6 +55,7 @@ use Rattle.disk_array.specs.Execution.{Reply}
 use Rattle.trace_laws.proofs.PlaceTurns.{OutOf, PlacedNext, Standing, IsLeft, reply_shown, turns, command_not_out}
 use Rattle.trace_laws.proofs.PlaceCommands.{command_shown, command_turns}
 use Rattle.bus_base.proofs.Tests.{wrong'}
+use Rattle.scsi_device.specs.Heard.{is_command_phase}
 
 -- ---- what a row shows where another phase begins
 

@@ -51,7 +51,7 @@ use Rattle.trace_laws.proofs.PlaceFirst.{rest_first, shown_first}
 use Rattle.trace_laws.proofs.PlaceHeard.{new_heard}
 use Rattle.trace_laws.proofs.ArrivingProcesses.{no_guest}
 use Rattle.trace_laws.proofs.PlaceReady.{MayBeReady, ready_runs}
-use Rattle.trace_laws.proofs.RunsWhole.{is_free}
+use Rattle.trace_laws.specs.ItemTalks.{frees_bus}
 use Rattle.bus_base.proofs.Tests.{wrong, wrong'}
 
 -- ---- by the phase
@@ -62,9 +62,9 @@ runs_unanswered a p h = (ap is_unanswered h.runs.running_is, ap (λ (x : Option 
 given_answered : (a : Array) (p : Process) → AnsweredOpen a p.id → (is_answered (running_process a p.id) ≡ true) × (is_some (reply_in a.replies p.id) ≡ true)
 given_answered a p h = (ap is_answered h.answered.running_is ∙ ap (λ (x : Option Reply). is_some x) h.answered.reply_is, ap (λ (x : Option Reply). is_some x) h.answered.given)
 
-before_in : (a : Array) (p : Process) (plan : Plan) (h : Handshakes) (atn : Bool) → PlacedIn a p plan h atn phases.MessageIn → (is_free plan.next ≡ true) ⊎ PlacedBefore a p plan.messages plan.next
+before_in : (a : Array) (p : Process) (plan : Plan) (h : Handshakes) (atn : Bool) → PlacedIn a p plan h atn phases.MessageIn → (frees_bus plan.next ≡ true) ⊎ PlacedBefore a p plan.messages plan.next
 before_in a p plan h atn (inl w) = inr w
-before_in a p plan h atn (inr w) = inl (ap is_free w.next_is)
+before_in a p plan h atn (inr w) = inl (ap frees_bus w.next_is)
 
 placed_in : (a : Array) (p : Process) (plan : Plan) (h : Handshakes) (atn : Bool) (phase : Phase) → PlacedIn a p plan h atn phase → IsPlacedIn a p phase plan.next
 placed_in a p plan h atn phases.MessageOut w = record { new = λ e. wrong' e; unanswered = λ e. wrong' e; answered = λ e. wrong' e }
@@ -74,11 +74,11 @@ placed_in a p plan h atn phases.DataIn w = record { new = λ e. wrong' e; unansw
 placed_in a p plan h atn phases.DataOut w = record { new = λ e. wrong' e; unanswered = λ e. runs_unanswered a p w; answered = λ e. wrong' e }
 placed_in a p plan h atn phases.MessageIn w = by plan.next refl (before_in a p plan h atn w)
   where
-    by : (x : Next) → plan.next ≡ x → (is_free plan.next ≡ true) ⊎ PlacedBefore a p plan.messages plan.next → IsPlacedIn a p phases.MessageIn plan.next
-    by nexts.GoOn e (inl z) = wrong' (sym (ap is_free e) ∙ z)
+    by : (x : Next) → plan.next ≡ x → (frees_bus plan.next ≡ true) ⊎ PlacedBefore a p plan.messages plan.next → IsPlacedIn a p phases.MessageIn plan.next
+    by nexts.GoOn e (inl z) = wrong' (sym (ap frees_bus e) ∙ z)
     by nexts.GoOn e (inr z) = subst (λ (x : Next). IsPlacedIn a p phases.MessageIn x) (sym e)
         (record { new = λ f. wrong' f; unanswered = λ f. runs_unanswered a p (subst (λ (x : Next). PlacedBefore a p plan.messages x) e z); answered = λ f. wrong' f })
-    by nexts.Status e (inl z) = wrong' (sym (ap is_free e) ∙ z)
+    by nexts.Status e (inl z) = wrong' (sym (ap frees_bus e) ∙ z)
     by nexts.Status e (inr z) = subst (λ (x : Next). IsPlacedIn a p phases.MessageIn x) (sym e)
         (record { new = λ f. wrong' f; unanswered = λ f. wrong' f; answered = λ f. given_answered a p (subst (λ (x : Next). PlacedBefore a p plan.messages x) e z) })
     by nexts.Command e z = subst (λ (x : Next). IsPlacedIn a p phases.MessageIn x) (sym e) (record { new = λ f. wrong' f; unanswered = λ f. wrong' f; answered = λ f. wrong' f })

@@ -40,15 +40,16 @@ use Rattle.bus_due.specs.RunState.{RunState, bus_of, process_item, process_serve
 use Rattle.bus_due.specs.RunSteps.{run_state_after}
 use Rattle.bus_due.specs.Sights.{serving_of, hearing_of, leaving}
 use Rattle.bus_due.specs.Tasks.{is_writing, task_if, task_of}
+use Rattle.bus_due.proofs.Stills.{still_talk}
 use Rattle.bus_books.specs.Giving.{Gives}
 use Rattle.bus_books.specs.Hearing.{is_in_phase, HasPhase, LeavesWhole, is_out_phase}
 use Rattle.bus_books.specs.Rows.{RowKind, still, strikes, crosses, turns, IsRowIn, reading_in}
-use Rattle.bus_books.proofs.InConnection.{InConnection, in_connection, exchange_by, same_phase_is}
+use Rattle.bus_books.proofs.InConnection.{InConnection, in_connection, same_phase_is}
 use Rattle.trace_laws.proofs.PhaseLines.{in_phase, is_data_phase}
 use Rattle.trace_laws.proofs.Tests.{some_count}
 use Rattle.trace_laws.proofs.UndoneLeavings.{is_to_message_in}
 use Rattle.bus_base.proofs.Tests.{wrong'}
-use Rattle.bus_books.proofs.Faith.{is_data_out}
+use Rattle.scsi_device.specs.Writes.{is_data_out}
 
 abbrev pub is_in_message : Cause → Bool
 is_in_message causes.InMessage = true
@@ -378,7 +379,7 @@ planned_on s k row n c r phase gives selected leaves first whereto h = go r.kind
     none_crosses : receiver_in n c ≡ None → is_some (receiver_in n c) ≡ false
     none_crosses e = ap (λ (z : Option ℕ). is_some z) e
 
-    within : (now fault : Bool) → changes_phase c ≡ false → InConnection s k row n c false now fault → ((exchange_by false now fault (host_of s n.initiator) (hearing_of k row (reading_in k.story.bus_state n c now)) (leaving s k n.target) k.exchange).plan.messages ≡ k.exchange.plan.messages) → ((exchange_by false now fault (host_of s n.initiator) (hearing_of k row (reading_in k.story.bus_state n c now)) (leaving s k n.target) k.exchange).plan.cause ≡ k.exchange.plan.cause) → Planned s j
+    within : (now fault : Bool) → changes_phase c ≡ false → InConnection s k row n c false now fault → ((still_talk false now fault (host_of s n.initiator) (hearing_of k row (reading_in k.story.bus_state n c now)) (leaving s k n.target) k.exchange).plan.messages ≡ k.exchange.plan.messages) → ((still_talk false now fault (host_of s n.initiator) (hearing_of k row (reading_in k.story.bus_state n c now)) (leaving s k n.target) k.exchange).plan.cause ≡ k.exchange.plan.cause) → Planned s j
     within now fault ep i em ec =
         let same = same_phase_is c ep in
         planned_as s k j (ap (λ (x : Exchange). x.begun) i.exchange_is) (ap (λ (x : Exchange). x.plan.messages) i.exchange_is ∙ em) (ap (λ (x : Exchange). x.plan.cause) i.exchange_is ∙ ec) i.served_is

@@ -33,14 +33,15 @@ use Rattle.bus_due.specs.Wants.{ready_of}
 use Rattle.bus_books.specs.Giving.{OnMessages}
 use Rattle.bus_books.specs.Knowing.{Knows}
 use Rattle.bus_books.specs.Rows.{IsFirstRow, IsRowIn, reading_in}
-use Rattle.bus_books.proofs.Knows.{link_after, fault_link}
-use Rattle.bus_books.proofs.Lookups.{put_own, carried_id}
+use Rattle.bus_books.proofs.Knows.{link_after}
+use Rattle.bus_books.proofs.Lookups.{put_own}
 use Rattle.trace_laws.specs.DataPointers.{is_marked, run_policy, run_start, run_step, IsPlainIn, PointersIf, IsWaiting, ServedPointers, unnamed, named, UndoesServed, IsServedAnew}
 use Rattle.trace_laws.proofs.Impossible.{none_some}
 use Rattle.trace_laws.proofs.PhaseLines.{in_phase}
 use Rattle.trace_laws.proofs.PointerStories.{SamePointers, events_same}
 use Rattle.trace_laws.proofs.PointerStorySteps.{in_link}
-use Rattle.bus_story.proofs.StorySteps.{byte_link, out_link, events_link, first_link as begun_link}
+use Rattle.bus_story.proofs.StorySteps.{byte_link, out_link, events_link, first_link as begun_link, fault_link}
+use Rattle.bus_story.proofs.CarriedLists.{carried_id}
 
 -- ---- the first row
 

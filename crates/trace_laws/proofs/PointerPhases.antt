@@ -37,7 +37,7 @@ use Rattle.bus_books.specs.Rows.{IsRowIn, reading_in}
 use Rattle.bus_books.proofs.Reactions.{out_lines}
 use Rattle.trace_laws.specs.DataPointers.{OnUndo, IsPlainIn, run_policy, run_start, run_step, PointersOf, PointersIf, PointersAsked, IsSettled, IsUnnamed, ServedPointers, unnamed, named}
 use Rattle.trace_laws.proofs.InstructedTurns.{out_is}
-use Rattle.trace_laws.proofs.PhaseLines.{is_status, is_data_in}
+use Rattle.trace_laws.proofs.PhaseLines.{is_status}
 use Rattle.trace_laws.proofs.PointerKept.{SamePlan, counted_same, pointers_as}
 use Rattle.trace_laws.proofs.PointerLeavings.{Enters, Leads, is_attended, leaves_enter, refusal_leads}
 use Rattle.trace_laws.proofs.PointerHearings.{refusal_offers}
@@ -46,6 +46,7 @@ use Rattle.trace_laws.proofs.PointerTurns.{refused_from, TurnsBy, start_after, T
 use Rattle.trace_laws.proofs.TalkTurns.{from_named}
 use Rattle.trace_laws.proofs.TellFacts.{front_length}
 use Rattle.bus_base.proofs.Tests.{wrong'}
+use Rattle.scsi_device.specs.Writes.{is_data_in}
 
 -- ---- lines
 

@@ -41,9 +41,10 @@ use Rattle.bus_books.specs.Knowing.{Knows}
 use Rattle.bus_books.specs.Rows.{IsRowIn, reading_in}
 use Rattle.bus_books.specs.Speaking.{Speaks}
 use Rattle.bus_books.specs.Traces.{GoesOn}
-use Rattle.bus_books.proofs.Gives.{requests_rise, requests_stay, struck_same}
+use Rattle.bus_books.proofs.Gives.{requests_rise, requests_stay}
+use Rattle.bus_lines.proofs.Early.{struck_same}
 use Rattle.bus_books.proofs.InConnection.{InConnection, in_connection, reading_is, same_phase_is}
-use Rattle.bus_books.proofs.Knows.{link_after, fault_link}
+use Rattle.bus_books.proofs.Knows.{link_after}
 use Rattle.link_laws.proofs.PulseSteps.{count_more}
 use Rattle.trace_laws.specs.DataPointers.{run_start, run_policy, PointersOf, PointersBy, PointersIf, IsInRun, IsUnnamed, ServedPointers, unnamed, named, UndoesServed, RefusesLater}
 use Rattle.trace_laws.proofs.CommandStays.{phase_same}
@@ -53,8 +54,8 @@ use Rattle.trace_laws.proofs.PointerKept.{SamePlan, AreCountedSo, counted_same, 
 use Rattle.trace_laws.proofs.PointerStorySteps.{fault_story, byte_same, byte_moves, byte_story}
 use Rattle.trace_laws.proofs.PhaseLines.{data_in_lines, not_message_out, not_message_in}
 use Rattle.bus_base.proofs.Tests.{wrong'}
-use Rattle.bus_books.proofs.Faith.{is_data_out}
-use Rattle.bus_story.proofs.StorySteps.{byte_link}
+use Rattle.bus_story.proofs.StorySteps.{byte_link, fault_link}
+use Rattle.scsi_device.specs.Writes.{is_data_out}
 
 -- ---- what is known of the connection
 

@@ -21,15 +21,16 @@ use Rattle.bus_story.specs.BusState.{row_reading}
 use Rattle.bus_story.specs.CarriedBytes.{CarriedBytes, carried_of, with_carried, is_whole_block, is_status_phase}
 use Rattle.bus_story.specs.Items.{Item, process, same_item, has_item, sense_item, is_open}
 use Rattle.bus_story.specs.HistoryEvents.{row_events_by, link_events, queue_events, status_events, status_event, is_refuse}
-use Rattle.bus_story.specs.Story.{Story, Ending, by_abort, by_reset, is_aborted, is_sense_stopped, marked_refused, marked_shown, story_with_over, story_with_end, with_check, story_with_ends, story_after_event, story_after_events}
+use Rattle.bus_story.specs.Story.{Story, Ending, by_abort, by_reset, is_aborted, is_sense_stopped, marked_refused, marked_shown, story_with_over, story_with_end, with_check, story_with_ends, story_after_event, story_after_events, story_with_end_if}
 use Rattle.bus_story.specs.TraceHistory.{story_in_connection, story_on_bus, story_by_change}
 use Rattle.bus_due.specs.RunState.{RunState}
 use Rattle.bus_books.specs.Rows.{IsRowIn, reading_in}
 use Rattle.bus_books.proofs.InConnection.{reading_is}
-use Rattle.bus_books.proofs.Lookups.{put_own, put_other, carried_id, self_id}
+use Rattle.bus_books.proofs.Lookups.{put_own, put_other, self_id}
 use Rattle.trace_laws.specs.DataPointers.{is_marked}
 use Rattle.bus_base.proofs.Tests.{or_true}
 use Rattle.bus_story.proofs.StorySteps.{ends_keep, check_keeps}
+use Rattle.bus_story.proofs.CarriedLists.{carried_id}
 
 -- ---- what stays of what a process carried
 
@@ -101,9 +102,7 @@ pub ends_over : (drops stops : CmdDef → Bool) (e : Ending) (n : ℕ) (commands
 ends_over drops stops e n [] b x h = h
 ends_over drops stops e n (c ∷ commands) b x h =
     ends_over drops stops e (n + 1) commands
-    (if is_open b.sent n && drops c then story_with_end b (record { command = n; sense = false }) e
-    else if stops c && list_any (λ k. k == n) b.sent.checks then story_with_over b (sense_item n)
-    else b) x (go (is_open b.sent n && drops c) (stops c && list_any (λ k. k == n) b.sent.checks))
+    (story_with_end_if drops stops e n c b) x (go (is_open b.sent n && drops c) (stops c && list_any (λ k. k == n) b.sent.checks))
   where
     go : (q r : Bool) → has_item (if q then story_with_end b (record { command = n; sense = false }) e else if r then story_with_over b (sense_item n) else b).sent.over x ≡ true
     go true r = over_more (process (record { command = n; sense = false })) b.sent.over x h

@@ -10,7 +10,6 @@ use Rattle.bus_trace.specs.declared.Kind.TheVariants.{Drives, Fault}
 use Rattle.bus_trace.specs.declared.changes.Change.{Change}
 use Rattle.cdb_codec.specs.declared.sense.TheConstants.{PARITY_ERROR, INITIATOR_DETECTED_ERROR}
 use Rattle.msg_grammar.specs.declared.message.MsgIn.{MsgIn}
-use Rattle.msg_grammar.specs.declared.message.MsgIn.TheVariants as to_initiator
 use Rattle.msg_grammar.specs.declared.message.MsgOut.{MsgOut}
 use Rattle.scenario.specs.Value.{ScenarioValue}
 use Rattle.disk_array.specs.Processes.{same_id}
@@ -21,12 +20,13 @@ use Rattle.bus_story.specs.Links.{Link, last_in, last_out, link_after_name}
 use Rattle.bus_story.specs.HistoryEvents.{carried_if}
 use Rattle.bus_story.specs.Story.{Story}
 use Rattle.bus_story.specs.TraceHistory.{story_with_restored, story_with_carried, is_parity_error, story_after_out, carried_after_message_if, story_after_message, story_after_in, carried_after_byte_if, story_after_byte, carried_after_fault_if, story_after_fault}
-use Rattle.bus_books.proofs.Lookups.{put_there, put_own, put_other, carried_id}
+use Rattle.bus_books.proofs.Lookups.{put_own, put_other}
 use Rattle.trace_laws.specs.DataPointers.{OnUndo}
 use Rattle.trace_laws.proofs.Impossible.{none_some}
 use Rattle.trace_laws.proofs.PointerStories.{SamePointers, same_self, put_same}
 use Rattle.trace_laws.proofs.PointerMessages.{or_undone}
-use Rattle.bus_story.proofs.StorySteps.{carried_link}
+use Rattle.bus_story.proofs.StorySteps.{carried_link, message_id}
+use Rattle.bus_story.proofs.CarriedLists.{carried_id, carried_with}
 
 -- ---- a fault
 
@@ -103,16 +103,6 @@ out_story b l m id own = go (is_parity_error m) l.undo own
 
 -- ---- a message to the initiator
 
-pub message_id : (c : CarriedBytes) (m : MsgIn) → (carried_after_message c m).id ≡ c.id
-message_id c to_initiator.CommandComplete = refl
-message_id c to_initiator.SavePointer = refl
-message_id c to_initiator.RestorePointers = refl
-message_id c to_initiator.Disconnect = refl
-message_id c (to_initiator.Identify lun) = refl
-message_id c (to_initiator.SimpleTag tag) = refl
-message_id c (to_initiator.Sdtr offer) = refl
-message_id c to_initiator.Reject = refl
-
 -- The story before it is told: the process that it has just named has its pointers restored.
 abbrev pub named_story : Story → Option Item → Option Item → Story
 named_story b item next = if is_none item then story_with_restored b next else b
@@ -165,7 +155,7 @@ IsNot id item = (x : ProcId) → item ≡ Some (process x) → same_id x id ≡ 
 
 put_not : (b : Story) (o : Option CarriedBytes) (id : ProcId) → ((y : CarriedBytes) → o ≡ Some y → same_id y.id id ≡ false) → carried_of (story_with_carried b o).carried id ≡ carried_of b.carried id
 put_not b None id h = refl
-put_not b (Some y) id h = put_there b.carried y id ∙ ap (λ (q : Bool). if q then y else carried_of b.carried id) (h y refl)
+put_not b (Some y) id h = carried_with b.carried y id ∙ ap (λ (q : Bool). if q then y else carried_of b.carried id) (h y refl)
 
 if_not : (b : Story) (id : ProcId) (item : Option Item) (f : CarriedBytes → CarriedBytes) → ((c : CarriedBytes) → (f c).id ≡ c.id) → IsNot id item → (y : CarriedBytes) → (z : CarriedBytes) → carried_if b item ≡ Some z → Some (f z) ≡ Some y → same_id y.id id ≡ false
 if_not b id None f g h y z e w = none_some z e

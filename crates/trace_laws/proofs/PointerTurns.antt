@@ -39,8 +39,10 @@ use Rattle.bus_books.specs.Giving.{OnMessages}
 use Rattle.bus_books.specs.Knowing.{IsNoName}
 use Rattle.bus_books.specs.Rows.{IsRowIn, reading_in}
 use Rattle.bus_books.proofs.InConnection.{InConnection, in_connection, reading_is}
-use Rattle.bus_books.proofs.Knows.{link_after, fault_link}
-use Rattle.bus_books.proofs.Lookups.{self_id, carried_id}
+use Rattle.bus_books.proofs.Knows.{link_after}
+use Rattle.bus_story.proofs.StorySteps.{fault_link}
+use Rattle.bus_story.proofs.CarriedLists.{carried_id}
+use Rattle.bus_books.proofs.Lookups.{self_id}
 use Rattle.trace_laws.specs.DataPointers.{is_marked, OnUndo, IsPlainIn, run_policy, run_start, run_step, PointersIn, PointersRefused, IsOfStatus, IsUndisturbed, calm, restores, saves, saved, disconnects, closes, still_calm, restores_again, saves_again, disconnects_again, closes_again}
 use Rattle.trace_laws.proofs.PointerStories.{SamePointers, same_on, events_same, status_marks, story_row}
 use Rattle.trace_laws.proofs.PointerLeavings.{MovesBy}

@@ -26,16 +26,16 @@ use Rattle.bus_dialogue.specs.declared.exchange.Leaving.{Leaving}
 use Rattle.bus_due.specs.LastingState.{ProcessProgress, progress_in}
 use Rattle.bus_due.specs.RunState.{RunState, carried_here, process_item, process_served}
 use Rattle.bus_due.specs.RunSteps.{run_state_after, progress_after, progress_by_leaving, leaving_of}
+use Rattle.bus_due.proofs.Lookups.{other_kept}
 use Rattle.bus_books.specs.Knowing.{Knows}
 use Rattle.bus_books.specs.Rows.{IsRowIn, reading_in}
-use Rattle.bus_books.proofs.Lookups.{carried_id}
 use Rattle.trace_laws.specs.DataPointers.{is_marked, run_start, run_step, IsWaiting, UndoesServed}
-use Rattle.trace_laws.proofs.ItemSteps.{other_progress}
 use Rattle.trace_laws.proofs.PointerStories.{SamePointers, events_same, events_over, over_more, story_row}
 use Rattle.trace_laws.proofs.PointerStorySteps.{IsNot, fault_story, byte_other, out_other, in_other}
 use Rattle.trace_laws.proofs.RowItems.{inside_sent}
 use Rattle.trace_laws.proofs.Tests.{not_unless}
 use Rattle.bus_story.proofs.StorySteps.{restored_sent, sent_carried}
+use Rattle.bus_story.proofs.CarriedLists.{carried_id}
 
 -- ---- what is asked of one that waits
 
@@ -144,7 +144,7 @@ progress_other s k row id other = go k.story.bus_state.connection (row_reading k
       where
         by : (p : Option Process) → process_of s x ≡ p → progress_in (progress_by_leaving k p l) id ≡ progress_in k.progress id
         by None e = refl
-        by (Some p) e = other_progress k.progress p.id id l.done l.counts (ap (λ (y : ProcId). same_id y id) (id_is s x p e) ∙ h x refl)
+        by (Some p) e = other_kept k.progress p.id id l.done l.counts (ap (λ (y : ProcId). same_id y id) (id_is s x p e) ∙ h x refl)
 
     go : (m n : Option Connection) (l : Leaving) → progress_in (progress_after s k d m n l) id ≡ progress_in k.progress id
     go None None l = refl

@@ -11,14 +11,15 @@ use Rattle.disk_array.specs.Processes.{Process, process_of, same_id}
 use Rattle.disk_array.specs.SoundArray.{AllOwn, AllOwnUnits, IsOwnRunning}
 use Rattle.disk_array.specs.Steps as Steps
 use Rattle.disk_array.specs.Steps.{running_if, running_in, running_process}
-use Rattle.disk_array.specs.Units.{Array, Nexus, RunningProcess, UnitState, has_no_current, is_held, settled_array, unit_after_choice, unit_state_at, units_after_choice, with_current, with_unit}
-use Rattle.bus_books.proofs.Lookups.{id_is, self_id}
+use Rattle.disk_array.specs.Units.{Array, Nexus, RunningProcess, UnitState, has_no_current, is_held, settled_array, unit_after_choice, unit_state_at, units_after_choice, with_current, with_unit, without_reply}
+use Rattle.disk_array.specs.Seats.{waits_in}
+use Rattle.bus_books.proofs.Lookups.{id_is}
 use Rattle.std.proofs.lemmas.Bool.{or_right, or_left}
-use Rattle.bus_base.proofs.Tests.{wrong}
-use Rattle.disk_array.proofs.SeatReplies.{waits_in}
-use Rattle.trace_laws.specs.Places.{IsAtRest, fresh, is_in_queue, is_queued}
+use Rattle.bus_base.proofs.Tests.{wrong, either_stays}
+use Rattle.trace_laws.specs.Places.{IsAtRest, is_in_queue, is_queued}
 use Rattle.trace_laws.proofs.ArrivingProcesses.{found_at, no_guest, queued}
 use Rattle.trace_laws.proofs.Impossible.{none_some}
+use Rattle.disk_array.proofs.SeatReplies.{last_waits}
 
 -- ---- it waits
 
@@ -40,10 +41,6 @@ waits_last (w ∷ waiting) p id e = go (same_id w.id id) (λ z. waits_last waiti
     go true more h = refl
     go false more h = more h
 
-pub own_last : (waiting : List Process) (p : Process) → waits_in (waiting ++ p ∷ []) p.id ≡ true
-own_last [] p = or_left (same_id p.id p.id) false (self_id p.id)
-own_last (w ∷ waiting) p = or_right (same_id w.id p.id) (waits_in (waiting ++ p ∷ []) p.id) (own_last waiting p)
-
 -- ---- in one unit
 
 abbrev Stays : (UnitState → UnitState) → UnitState → ProcId → Type 0
@@ -60,7 +57,7 @@ idle_waits u id idle e = go u.current refl (waits_in u.waiting id) refl
 pub chosen_stays : (holds : List Nexus) (u : UnitState) (id : ProcId) → is_in_queue u id ≡ true → is_in_queue (unit_after_choice holds u) id ≡ true
 chosen_stays holds u id e = go (has_no_current u.current) refl (not (is_held holds u.target u.unit)) (choice u.pick u.waiting)
   where
-    one : (p : Process) → waits_in u.waiting id ≡ true → (y : Bool) → same_id p.id id ≡ y → (waits_in (without_process u.waiting p.id) id || is_some (if y then Some (fresh p) else None)) ≡ true
+    one : (p : Process) → waits_in u.waiting id ≡ true → (y : Bool) → same_id p.id id ≡ y → (waits_in (without_process u.waiting p.id) id || is_some (if y then Some (without_reply p) else None)) ≡ true
     one p w true z = or_right (waits_in (without_process u.waiting p.id) id) true refl
     one p w false z = or_left (waits_in (without_process u.waiting p.id) id) false (still_waits u.waiting p.id id z w)
 
@@ -84,10 +81,6 @@ replied_stays u id i reply e = ap (λ (q : Bool). waits_in u.waiting id || q) (s
     same : (o : Option RunningProcess) → is_some (running_if (Steps.current_with_reply o i reply) id) ≡ is_some (running_if o id)
     same None = refl
     same (Some r) = one r (same_id r.process.id i)
-
-pub either_stays : (a b c d : Bool) → (a ≡ true → c ≡ true) → (b ≡ true → d ≡ true) → (a || b) ≡ true → (c || d) ≡ true
-either_stays true b c d f g e = or_left c d (f refl)
-either_stays false b c d f g e = or_right c d (g e)
 
 left_stays : (u : UnitState) (id i : ProcId) → same_id i id ≡ false → is_in_queue u id ≡ true → is_in_queue (Steps.unit_without u i) id ≡ true
 left_stays u id i ne e =
@@ -179,7 +172,7 @@ queued_stands a p u e =
     let new : UnitState = record u { waiting = u.waiting ++ p ∷ [] } in
     chosen_all a.holds (with_unit a.units new) p.id
     (with_unit_new a.units new u p.id ((λ i. unit_state_at a.units (at.target_is i) (at.unit_is i)) ∙ e)
-    (or_left (waits_in (u.waiting ++ p ∷ []) p.id) (is_some (running_if u.current p.id)) (own_last u.waiting p)))
+    (or_left (waits_in (u.waiting ++ p ∷ []) p.id) (is_some (running_if u.current p.id)) (last_waits u.waiting p)))
 
 runs_in : (units : List UnitState) (id : ProcId) (r : RunningProcess) → running_in units id ≡ Some r → is_queued units id ≡ true
 runs_in [] id r e = none_some r e
@@ -192,8 +185,8 @@ runs_in (u ∷ units) id r e = go (running_if u.current id) refl e (λ z. runs_i
     go None f h more = or_right (is_in_queue u id) (is_queued units id) (more h)
 
 -- What is at rest is no guest.
-pub rests_in_queue : (a : Array) (p : Process) → running_process a p.id ≡ Some (fresh p) → IsAtRest a p.id → is_queued a.units p.id ≡ true
-rests_in_queue a p runs rests = runs_in a.units p.id (fresh p) (sym own ∙ runs)
+pub rests_in_queue : (a : Array) (p : Process) → running_process a p.id ≡ Some (without_reply p) → IsAtRest a p.id → is_queued a.units p.id ≡ true
+rests_in_queue a p runs rests = runs_in a.units p.id (without_reply p) (sym own ∙ runs)
   where
     own : running_process a p.id ≡ running_in a.units p.id
     own = λ i. if is_some (no_guest a.guests p.id rests.guests i) then no_guest a.guests p.id rests.guests i else running_in a.units p.id

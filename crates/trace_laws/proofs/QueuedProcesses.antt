@@ -18,11 +18,11 @@ use Rattle.disk_array.specs.Order.{without_process, choice}
 use Rattle.disk_array.specs.Units.{RunningProcess, UnitState, Nexus, Array, is_held, unit_state_at, with_unit, guest_at, nexus_of, has_no_current, with_current, unit_after_choice, units_after_choice, settled_array, senses_without, nexuses_without}
 use Rattle.disk_array.specs.Steps as Steps
 use Rattle.disk_array.specs.Steps.{is_of_unit, has_tag}
+use Rattle.disk_array.proofs.ArrayUnits.{unit_reset_units, cleared_units}
 use Rattle.trace_laws.specs.ItemFacts.{AllP, RunsP, UnitsP}
-use Rattle.trace_laws.proofs.EachProcess.{running_id}
 use Rattle.trace_laws.proofs.Impossible.{none_some}
-use Rattle.trace_laws.proofs.UnitsKept.{attended_same, cleared_same}
 use Rattle.trace_laws.proofs.WriterUnits.{append_all, choice_all}
+use Rattle.trace_laws.proofs.ListedReplies.{running_id}
 
 -- ---- the processes that wait, and the current ones
 
@@ -157,11 +157,11 @@ aborted_units : (s : ScenarioValue) (q : Process → Type 0) (a : Array) (i t n 
 aborted_units s q a i t n aborts.All h = dropped_units q (λ p. p.initiator == i && is_of_unit p t n) a.units h
 aborted_units s q a i t n (aborts.Tag tag) h = dropped_units q (λ p. p.initiator == i && is_of_unit p t n && has_tag p.tag tag) a.units h
 aborted_units s q a i t n aborts.WholeQueue h =
-    subst (λ (us : List UnitState). UnitsP (And q (λ p. not (is_of_unit p t n))) us) (sym (cleared_same i (Steps.unit_processes (unit_state_at a.units t n)) (Steps.without_dropped a (λ p. is_of_unit p t n))))
+    subst (λ (us : List UnitState). UnitsP (And q (λ p. not (is_of_unit p t n))) us) (sym (cleared_units i (Steps.unit_processes (unit_state_at a.units t n)) (Steps.without_dropped a (λ p. is_of_unit p t n))))
     (dropped_units q (λ p. is_of_unit p t n) a.units h)
 aborted_units s q a i t n aborts.Device h =
     subst (λ (us : List UnitState). UnitsP (And q (λ p. not (p.target == t))) us)
-    (sym (attended_same s.hosts a.units (λ u. u.target == t) (record (Steps.without_dropped a (λ p. p.target == t)) { senses = Steps.kept_senses (λ r. r.target == t) a.senses; holds = Steps.kept_nexuses (λ r. r.target == t) a.holds })))
+    (sym (unit_reset_units s.hosts a.units (λ u. u.target == t) (record (Steps.without_dropped a (λ p. p.target == t)) { senses = Steps.kept_senses (λ r. r.target == t) a.senses; holds = Steps.kept_nexuses (λ r. r.target == t) a.holds })))
     (dropped_units q (λ p. p.target == t) a.units h)
 
 if_units : (q : Process → Type 0) (x : Bool) (a : Array) → UnitsP q a.units → IfArray q (if x then Some a else None)
@@ -262,7 +262,7 @@ lost_units q a id h = go (Steps.has_ended a id)
 
 reset_units : (s : ScenarioValue) (q : Process → Type 0) (a : Array) → UnitsP q a.units → UnitsP (And q (λ p. false)) (Steps.reset_step s a).units
 reset_units s q a h =
-    subst (λ (us : List UnitState). UnitsP (And q (λ p. false)) us) (sym (attended_same s.hosts a.units (λ u. true) (record (Steps.without_dropped a (λ p. true)) { senses = []; holds = [] })))
+    subst (λ (us : List UnitState). UnitsP (And q (λ p. false)) us) (sym (unit_reset_units s.hosts a.units (λ u. true) (record (Steps.without_dropped a (λ p. true)) { senses = []; holds = [] })))
     (dropped_units q (λ p. true) a.units h)
 
 plain_if : (q : Process → Type 0) (o : Option Array) → IfArray q o → IfArray (And q (λ p. true)) o

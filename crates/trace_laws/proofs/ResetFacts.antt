@@ -9,6 +9,7 @@ use Rattle.bus_trace.specs.Changes.{change_of, falls, same_phase}
 use Rattle.bus_trace.specs.Phases.{changes_phase, is_data}
 use Rattle.bus_trace.specs.Terms.{call, connection, connection_of, connection_after}
 use Rattle.bus_trace.specs.Trace.{bus}
+use Rattle.bus_trace.proofs.Sets.{same_self}
 use Rattle.scenario.specs.Value.{ScenarioValue}
 use Rattle.scenario.specs.Writing.{Obeys}
 use Rattle.bus_story.specs.BusState.{RowReading, row_reading}
@@ -22,11 +23,11 @@ use Rattle.bus_due.specs.RunSteps.{run_state, exchange_after, served_after, leav
 use Rattle.bus_due.specs.Tasks.{is_writing}
 use Rattle.bus_due.proofs.Plains.{run_state_plain}
 use Rattle.scsi_device.proofs.FitLines.{obeys_fits, seats_are}
+use Rattle.scsi_device.specs.Writes.{is_data_in}
 use Rattle.bus_laws.proofs.Apart.{change_plain}
 use Rattle.bus_laws.proofs.Prompt.{least_is}
 use Rattle.bus_laws.proofs.Together.{by_reset, by_calm, reset_or_calm}
 use Rattle.link_laws.specs.LinkStages.{AnyStage, apart, linked, LinkStage}
-use Rattle.link_laws.proofs.Moves.{same_self}
 use Rattle.trace_laws.specs.ResetLines.{OfTarget, ResetFacts}
 use Rattle.trace_laws.specs.WriteFacts.{ReadsUnderRst}
 use Rattle.trace_laws.proofs.Blocks.{commands_are}
@@ -40,7 +41,6 @@ use Rattle.trace_laws.proofs.LinkRows.{LinkRow, link_row}
 use Rattle.trace_laws.proofs.Plans.{is_directed, writes_of}
 use Rattle.trace_laws.proofs.ResetRows.{IsReleasing, PhaseIs, releasing, of_stage, of_target_next, data_kept}
 use Rattle.trace_laws.proofs.WriteRows.{in_lines}
-use Rattle.trace_laws.proofs.PhaseLines.{is_data_in}
 use Rattle.bus_base.proofs.Tests.{wrong, wrong'}
 use Rattle.link_laws.proofs.Traces.{link_calm}
 

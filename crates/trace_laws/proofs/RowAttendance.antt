@@ -22,13 +22,14 @@ use Rattle.bus_story.specs.CarriedBytes.{CarriedBytes, carried_of, is_status_pha
 use Rattle.bus_story.specs.HistoryEvents.{abort_line_at, bus_free_events, carried_if, connection_events, end_events, is_complete, is_completion, phase_events}
 use Rattle.bus_story.specs.Items.{Item, process, abort}
 use Rattle.bus_story.specs.Links.{Link}
+use Rattle.bus_story.proofs.CarriedLists.{carried_id}
 use Rattle.bus_dialogue.specs.declared.exchange.Leaving.{Leaving}
 use Rattle.bus_dialogue.specs.Events.{is_status_next}
 use Rattle.bus_due.specs.Least.{IsLeast}
 use Rattle.bus_due.specs.Next.{due, IsPrompt}
 use Rattle.bus_due.specs.Plain.{IsPlain}
 use Rattle.bus_due.specs.RunState.{RunState, bus_of}
-use Rattle.bus_due.specs.RunSteps.{run_state}
+use Rattle.bus_due.specs.RunSteps.{run_state, events_of_row}
 use Rattle.bus_due.specs.Sights.{serving_of}
 use Rattle.bus_due.proofs.Plains.{run_state_plain}
 use Rattle.scsi_device.specs.Heard.{Instructions, instructions, is_opening}
@@ -36,11 +37,10 @@ use Rattle.scsi_device.specs.Lines.{AreUnits}
 use Rattle.scsi_device.proofs.FitLines.{obeys_fits, units_are}
 use Rattle.bus_books.specs.Items.{IsItem, is_process, is_abort}
 use Rattle.bus_books.specs.Knowing.{Knows}
-use Rattle.bus_books.proofs.Lookups.{carried_id}
 use Rattle.bus_laws.proofs.Apart.{change_plain}
 use Rattle.bus_laws.proofs.Prompt.{least_is}
 use Rattle.link_laws.specs.LinkStages.{LinkStage, when_selected, when_settling, when_turning, when_offering, when_shaking, when_pulsing}
-use Rattle.trace_laws.specs.Attendance.{AbortsBetween, AreShown, AttendedFacts, ShowsIn, events_of}
+use Rattle.trace_laws.specs.Attendance.{AbortsBetween, AreShown, AttendedFacts, ShowsIn}
 use Rattle.trace_laws.specs.AttendanceAsked.{EndsAsGiven}
 use Rattle.trace_laws.specs.Commands.{CommandBooks, CommandFacts, Serves}
 use Rattle.trace_laws.specs.Instructed.{Instructed, InstructedFacts}
@@ -155,18 +155,18 @@ shows_in s p row n h = go r.facts
     known : (bus_of k).msg ≡ true → (bus_of k).cd ≡ true
     known z = ap (λ (b : LineSet). b.cd) pl.bus ∙ (link_phase s p n r.stage (ap (λ (b : LineSet). b.msg) (sym pl.bus) ∙ z)).0
 
-    shows : events_of s p row ≡ (if is_some d.next then connection_events s k.story l d else bus_free_events s l l.last)
+    shows : events_of_row s p row ≡ (if is_some d.next then connection_events s k.story l d else bus_free_events s l l.last)
     shows = row_shows s k.story row d l knows.link_is (ap (λ (x : Change). x.after.rst) c ∙ h.calm_after)
 
     -- it goes on
     goes_next : Goes s p row n → d.next ≡ Some n
     goes_next g = (λ i. connection_after (g.row_is.connection_is i) k.story.bus_state.call (g.row_is.change_is i) row) ∙ ap (λ (y : Bool). if y then Some n else None) g.row_is.stands
 
-    goes_shows : Goes s p row n → events_of s p row ≡ connection_events s k.story l d
+    goes_shows : Goes s p row n → events_of_row s p row ≡ connection_events s k.story l d
     goes_shows g = shows ∙ (λ i. if is_some (goes_next g i) then connection_events s k.story l d else bus_free_events s l l.last)
 
     -- the status that came, where the command is not known
-    good : events_of s p row ≡ end_events (carried_if k.story l.item) → EndsKnown k i.known l.item
+    good : events_of_row s p row ≡ end_events (carried_if k.story l.item) → EndsKnown k i.known l.item
     good e id is same = by i.known refl n.reselected refl
       where
         own : CarriedBytes
@@ -182,7 +182,7 @@ shows_in s p row n h = go r.facts
         status : ℕ
         status = slice_index own.status.bytes 0
 
-        ended : events_of s p row ≡ (events.End own.id status ∷ [])
+        ended : events_of_row s p row ≡ (events.End own.id status ∷ [])
         ended = e ∙ ap (λ (x : Option Item). end_events (carried_if k.story x)) is
 
         by : (q : Bool) → i.known ≡ q → (t : Bool) → n.reselected ≡ t → i.known ≡ true
@@ -194,7 +194,7 @@ shows_in s p row n h = go r.facts
             let bad = h.facts.answers n h.stands h.calm g f own.id served w.reply w.given in
             wrong (sym same ∙ ap (λ (x : ℕ). x == GOOD) (sym w.status_is) ∙ bad)
 
-    shown_goes : Goes s p row n → AreShown k n i.known (events_of s p row)
+    shown_goes : Goes s p row n → AreShown k n i.known (events_of_row s p row)
     shown_goes g = subst (λ (x : List Event). AreShown k n i.known x) (sym (goes_shows g)) (by (changes_phase d.change) refl (is_completion l d.change) refl)
       where
         by : (q : Bool) → changes_phase d.change ≡ q → (t : Bool) → is_completion l d.change ≡ t → AreShown k n i.known (if q then phase_events s k.story (carried_if k.story l.item) d.change else if t then end_events (carried_if k.story l.item) else [])
@@ -203,7 +203,7 @@ shows_in s p row n h = go r.facts
         by false e false f = tt
 
     -- in the opening
-    silent : Goes s p row n → is_opening k ≡ true → events_of s p row ≡ []
+    silent : Goes s p row n → is_opening k ≡ true → events_of_row s p row ≡ []
     silent g opens = goes_shows g ∙ by (changes_phase d.change) refl k.exchange.begun refl
       where
         before : bus_of k ≡ d.change.before
@@ -258,7 +258,7 @@ shows_in s p row n h = go r.facts
     stops_next : Stops s p row n → d.next ≡ None
     stops_next g = (λ i. connection_after (pl.connection i) (pl.call i) (c i) row) ∙ g.stopped
 
-    shown_stops : Stops s p row n → AreShown k n i.known (events_of s p row)
+    shown_stops : Stops s p row n → AreShown k n i.known (events_of_row s p row)
     shown_stops g =
         subst (λ (x : List Event). AreShown k n i.known x) (sym (shows ∙ (λ i. if is_some (stops_next g i) then connection_events s k.story l d else bus_free_events s l l.last)))
         (stop_shown s k n i.known l of (between s k n u (initiator_below s p n r.stage) (h.commands.books n h.stands h.calm) (λ e. (told.again e).1) (h.facts.aborts n h.stands h.calm)))

@@ -18,8 +18,8 @@ use Rattle.bus_story.specs.HistoryEvents.{carried_if, queue_event, queue_events,
 use Rattle.bus_story.specs.Items.{Item, process, abort}
 use Rattle.bus_story.specs.Links.{Link, LastMessage, plain, complete, disconnect, abortive}
 use Rattle.bus_story.specs.Story.{Story}
+use Rattle.bus_story.proofs.CarriedLists.{carried_id}
 use Rattle.bus_due.specs.RunState.{item_of}
-use Rattle.bus_books.proofs.Lookups.{carried_id}
 
 -- The process of an event.
 abbrev pub process_in : Event → Option ProcId

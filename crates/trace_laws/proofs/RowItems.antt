@@ -30,10 +30,10 @@ use Rattle.bus_due.specs.RunSteps.{run_state_after}
 use Rattle.bus_books.specs.Rows.{IsRowIn, reading_in}
 use Rattle.bus_books.proofs.InConnection.{reading_is}
 use Rattle.bus_books.proofs.Knows.{link_after}
-use Rattle.bus_books.proofs.Lookups.{carried_id}
 use Rattle.trace_laws.proofs.OverItems.{Grows, grows_same, grows_on, events_grow, ends_over}
 use Rattle.bus_base.proofs.Tests.{wrong, wrong'}
 use Rattle.bus_story.proofs.StorySteps.{restored_sent, carried_link}
+use Rattle.bus_story.proofs.CarriedLists.{carried_id}
 
 -- ---- a row of a connection leaves what is sent and over, but for its events
 

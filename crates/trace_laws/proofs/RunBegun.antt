@@ -21,6 +21,7 @@ use Rattle.bus_story.specs.HistoryEvents.{row_events_by, queue_event, queue_even
 use Rattle.bus_story.specs.Items.{Item, process}
 use Rattle.bus_story.specs.Links.{Link}
 use Rattle.bus_story.specs.Story.{Story}
+use Rattle.bus_story.proofs.CarriedLists.{carried_id}
 use Rattle.bus_dialogue.specs.declared.exchange.Arrival.TheVariants as arrivals
 use Rattle.bus_dialogue.specs.declared.exchange.Phase.{Phase}
 use Rattle.bus_dialogue.specs.declared.exchange.Phase.TheVariants as phases
@@ -39,7 +40,6 @@ use Rattle.bus_due.specs.Sights.{leaving, serving_of, arrival_at}
 use Rattle.bus_due.specs.Tasks.{is_writing, task_if, arrival_if, arrival_of}
 use Rattle.bus_due.proofs.Plains.{run_state_plain}
 use Rattle.bus_books.specs.Knowing.{Knows}
-use Rattle.bus_books.proofs.Lookups.{carried_id}
 use Rattle.bus_laws.proofs.Apart.{change_plain}
 use Rattle.link_laws.specs.Pulses.{run_count}
 use Rattle.trace_laws.specs.RunFacts.{RunFacts, IsServedWell}

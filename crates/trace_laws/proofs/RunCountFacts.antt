@@ -11,6 +11,7 @@ use Rattle.bus_trace.specs.Changes.{change_of, rises}
 use Rattle.bus_trace.specs.Phases.{changes_phase}
 use Rattle.bus_trace.specs.Terms.{connection, is_fault}
 use Rattle.bus_trace.specs.Trace.{bus, drives}
+use Rattle.bus_trace.proofs.Sets.{same_self}
 use Rattle.bus_lines.specs.Handshakes.{Handshakes, handshakes, no_handshakes, handshakes_after, asked_if, answered_if}
 use Rattle.scenario.specs.Value.{ScenarioValue}
 use Rattle.scenario.specs.Writing.{Obeys}
@@ -29,7 +30,6 @@ use Rattle.bus_laws.proofs.Rows.{fault_change}
 use Rattle.link_laws.specs.LinkStages.{LinkStage, when_selected, when_settling, when_turning, when_offering, when_shaking, when_pulsing}
 use Rattle.link_laws.specs.Pulses.{run_count}
 use Rattle.link_laws.proofs.DataRows.{count_stays}
-use Rattle.link_laws.proofs.Moves.{same_self}
 use Rattle.link_laws.proofs.RunLengths.{runs_are_short}
 use Rattle.trace_laws.specs.RunCounts.{AreCounted, pulses_here, CountFacts}
 use Rattle.trace_laws.specs.RunFacts.{RunFacts}

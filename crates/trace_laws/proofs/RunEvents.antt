@@ -36,12 +36,12 @@ use Rattle.bus_dialogue.specs.DataRuns.{runs_in_all}
 use Rattle.bus_dialogue.specs.Events.{after_opening_events, arrival_event, arrival_events, arrival_run_events, connection_end_events, detected_events, has_replied, is_status_next, loss_events, newest_with, reply_events, turn_events, turn_events_if}
 use Rattle.bus_dialogue.specs.NextPhase.{Serving, after_arrival, after_messages, after_offer, bus_free, message_out_leaving, message_repetition, next_data_phase, phase_entry, phase_leaving, phase_of, pointer_restoration, recovery, request_or_command, with_task}
 use Rattle.bus_dialogue.specs.Words.{is_naming, request_by}
+use Rattle.bus_dialogue.proofs.Leavings.{task_not, recovery_not}
 use Rattle.bus_due.specs.RunState.{RunState, bus_of}
 use Rattle.bus_due.specs.Sights.{serving_of}
 use Rattle.bus_due.specs.Telling.{events_of_ends, events_of_ends_in, id_of, initiator_events, is_true_telling, same_event, same_events, target_events}
-use Rattle.trace_laws.specs.RunsWhole.{has_run, is_run}
-use Rattle.trace_laws.proofs.UnknownTurns.{tasks, recovers}
 use Rattle.bus_base.proofs.Tests.{wrong'}
+use Rattle.disk_array.specs.ArrayHistory.{is_run, shows_run}
 
 -- ---- the rows show what the ends show
 
@@ -65,7 +65,7 @@ same_run e (events.Lost b) s r = wrong' r
 same_run e (events.Aborted host target unit what) s r = wrong' r
 same_run e (events.Reset dev) s r = wrong' r
 
-same_runs : (shown others : List Event) → same_events shown others ≡ true → has_run others ≡ true → has_run shown ≡ true
+same_runs : (shown others : List Event) → same_events shown others ≡ true → shows_run others ≡ true → shows_run shown ≡ true
 same_runs [] [] s r = r
 same_runs [] (f ∷ others) s r = wrong' s
 same_runs (e ∷ shown) [] s r = wrong' r
@@ -73,16 +73,16 @@ same_runs (e ∷ shown) (f ∷ others) s r =
     let both = and_parts (same_event e f) (same_events shown others) s in
     go (λ z. same_runs shown others both.1 z) (is_run f) refl r
   where
-    go : (has_run others ≡ true → has_run shown ≡ true) → (q : Bool) → is_run f ≡ q → (q || has_run others) ≡ true → (is_run e || has_run shown) ≡ true
-    go rest true g z = λ i. same_run e f (and_parts (same_event e f) (same_events shown others) s).0 g i || has_run shown
-    go rest false g z = or_right (is_run e) (has_run shown) (rest z)
+    go : (shows_run others ≡ true → shows_run shown ≡ true) → (q : Bool) → is_run f ≡ q → (q || shows_run others) ≡ true → (is_run e || shows_run shown) ≡ true
+    go rest true g z = λ i. same_run e f (and_parts (same_event e f) (same_events shown others) s).0 g i || shows_run shown
+    go rest false g z = or_right (is_run e) (shows_run shown) (rest z)
 
 -- ---- as a phase is left for another
 
-no_arrival_run : (id : ProcId) (plan : Plan) (arrival : Arrival) (phase : Phase) → has_run (arrival_events id plan arrival phase) ≡ false
+no_arrival_run : (id : ProcId) (plan : Plan) (arrival : Arrival) (phase : Phase) → shows_run (arrival_events id plan arrival phase) ≡ false
 no_arrival_run id plan arrival phases.Command = go plan.struck arrival
   where
-    go : (q : Bool) (a : Arrival) → has_run (if q then [] else arrival_event id a ∷ []) ≡ false
+    go : (q : Bool) (a : Arrival) → shows_run (if q then [] else arrival_event id a ∷ []) ≡ false
     go true a = refl
     go false arrivals.Refused = refl
     go false arrivals.Guest = refl
@@ -94,12 +94,12 @@ no_arrival_run id plan arrival phases.Status = refl
 no_arrival_run id plan arrival phases.DataIn = refl
 no_arrival_run id plan arrival phases.DataOut = refl
 
-newest_run : (after before : List Event) → has_run before ≡ false → has_run (newest_with after before) ≡ true → has_run after ≡ true
+newest_run : (after before : List Event) → shows_run before ≡ false → shows_run (newest_with after before) ≡ true → shows_run after ≡ true
 newest_run [] before none r = wrong' (sym none ∙ r)
 newest_run (e ∷ after) before none r = go (is_run e) refl r
   where
-    go : (q : Bool) → is_run e ≡ q → (q || has_run before) ≡ true → (is_run e || has_run after) ≡ true
-    go true f z = λ i. f i || has_run after
+    go : (q : Bool) → is_run e ≡ q → (q || shows_run before) ≡ true → (is_run e || shows_run after) ≡ true
+    go true f z = λ i. f i || shows_run after
     go false f z = wrong' (sym none ∙ z)
 
 -- STATUS follows, and the process that is served has no reply.
@@ -108,14 +108,14 @@ pub record RunsInTurn (v : Serving) (attention : Bool) (phase : Phase) (id : Pro
   pub task : Task
   pub task_is : v.task ≡ Some task
   pub open_is : task.replied ≡ false
-  pub run : has_run (reply_events id v.plan v.arrival phase) ≡ true
+  pub run : shows_run (reply_events id v.plan v.arrival phase) ≡ true
 
-turn_run : (v : Serving) (attention : Bool) (phase : Phase) (id : ProcId) → has_run (turn_events v attention phase id) ≡ true → RunsInTurn v attention phase id
+turn_run : (v : Serving) (attention : Bool) (phase : Phase) (id : ProcId) → shows_run (turn_events v attention phase id) ≡ true → RunsInTurn v attention phase id
 turn_run v attention phase id r =
     go (is_status_next (phase_leaving v attention phase).to && not (has_replied v.task)) refl
     (newest_run (if is_status_next (phase_leaving v attention phase).to && not (has_replied v.task) then reply_events id v.plan v.arrival phase else []) (arrival_events id v.plan v.arrival phase) (no_arrival_run id v.plan v.arrival phase) r)
   where
-    by : is_status_next (phase_leaving v attention phase).to ≡ true → has_run (reply_events id v.plan v.arrival phase) ≡ true → (o : Option Task) → v.task ≡ o → not (has_replied o) ≡ true → RunsInTurn v attention phase id
+    by : is_status_next (phase_leaving v attention phase).to ≡ true → shows_run (reply_events id v.plan v.arrival phase) ≡ true → (o : Option Task) → v.task ≡ o → not (has_replied o) ≡ true → RunsInTurn v attention phase id
     by status run None e f = wrong' f
     by status run (Some t) e f = record { status = status; task = t; task_is = e; open_is = unmarked t.replied f; run = run }
       where
@@ -123,7 +123,7 @@ turn_run v attention phase id r =
         unmarked true z = wrong' z
         unmarked false z = refl
 
-    go : (q : Bool) → (is_status_next (phase_leaving v attention phase).to && not (has_replied v.task)) ≡ q → has_run (if q then reply_events id v.plan v.arrival phase else []) ≡ true → RunsInTurn v attention phase id
+    go : (q : Bool) → (is_status_next (phase_leaving v attention phase).to && not (has_replied v.task)) ≡ q → shows_run (if q then reply_events id v.plan v.arrival phase else []) ≡ true → RunsInTurn v attention phase id
     go false e z = wrong' z
     go true e z =
         let both = and_parts (is_status_next (phase_leaving v attention phase).to) (not (has_replied v.task)) e in
@@ -138,14 +138,14 @@ pub record RunsInPhase (s : ScenarioValue) (k : RunState) (n : Connection) (d : 
   pub id : ProcId
   pub turn : RunsInTurn (serving_of s k n.target) (bus_of k).atn (phase_of (bus_of k)) id
 
-no_loss_run : (id : Option ProcId) → has_run (loss_events id) ≡ false
+no_loss_run : (id : Option ProcId) → shows_run (loss_events id) ≡ false
 no_loss_run None = refl
 no_loss_run (Some id) = refl
 
-no_end_run : (n : Connection) (plan : Plan) (phase : Phase) (id : Option ProcId) → has_run (connection_end_events n plan phase id) ≡ false
+no_end_run : (n : Connection) (plan : Plan) (phase : Phase) (id : Option ProcId) → shows_run (connection_end_events n plan phase id) ≡ false
 no_end_run n plan phases.MessageOut id = go plan.said.aborts
   where
-    go : (o : Option AbortKind) → has_run (after_opening_events n plan.said o id) ≡ false
+    go : (o : Option AbortKind) → shows_run (after_opening_events n plan.said o id) ≡ false
     go None = no_loss_run id
     go (Some what) = refl
 no_end_run n plan phases.MessageIn id = refl
@@ -154,16 +154,16 @@ no_end_run n plan phases.Status id = no_loss_run id
 no_end_run n plan phases.DataIn id = no_loss_run id
 no_end_run n plan phases.DataOut id = no_loss_run id
 
-no_initiator_run : (k : RunState) (o : Option Link) (d : RowReading) → has_run (initiator_events k o d) ≡ false
+no_initiator_run : (k : RunState) (o : Option Link) (d : RowReading) → shows_run (initiator_events k o d) ≡ false
 no_initiator_run k None d = refl
 no_initiator_run k (Some l) d = go (is_completion l d.change) (carried_if k.story l.item)
   where
-    go : (q : Bool) (c : Option CarriedBytes) → has_run (if q then end_events c else []) ≡ false
+    go : (q : Bool) (c : Option CarriedBytes) → shows_run (if q then end_events c else []) ≡ false
     go false c = refl
     go true None = refl
     go true (Some c) = refl
 
-pub run_turn : (s : ScenarioValue) (k : RunState) (row : Row) (d : RowReading) (n : Connection) → k.story.bus_state.connection ≡ Some n → d.change.after.rst ≡ false → is_true_telling s k row d ≡ true → has_run (row_events_by s k.story d row) ≡ true → RunsInPhase s k n d
+pub run_turn : (s : ScenarioValue) (k : RunState) (row : Row) (d : RowReading) (n : Connection) → k.story.bus_state.connection ≡ Some n → d.change.after.rst ≡ false → is_true_telling s k row d ≡ true → shows_run (row_events_by s k.story d row) ≡ true → RunsInPhase s k n d
 run_turn s k row d n con off telling r = go (changes_phase d.change || not (is_some d.next)) refl told
   where
     v : Serving
@@ -172,12 +172,12 @@ run_turn s k row d n con off telling r = go (changes_phase d.change || not (is_s
     phase : Phase
     phase = phase_of (bus_of k)
 
-    told : has_run (events_of_ends_in s k (Some n) d) ≡ true
+    told : shows_run (events_of_ends_in s k (Some n) d) ≡ true
     told =
-        sym (λ i. has_run (if off i then (if rises d.change.own.rst d.change.next.rst then events.Reset row.dev ∷ [] else []) else events_of_ends_in s k (con i) d))
+        sym (λ i. shows_run (if off i then (if rises d.change.own.rst d.change.next.rst then events.Reset row.dev ∷ [] else []) else events_of_ends_in s k (con i) d))
         ∙ same_runs (events_of_ends s k row d) (row_events_by s k.story d row) telling r
 
-    turn : is_some d.next ≡ true → changes_phase d.change ≡ true → k.exchange.begun ≡ true → (o : Option ProcId) → has_run (turn_events_if v (bus_of k).atn phase o) ≡ true → RunsInPhase s k n d
+    turn : is_some d.next ≡ true → changes_phase d.change ≡ true → k.exchange.begun ≡ true → (o : Option ProcId) → shows_run (turn_events_if v (bus_of k).atn phase o) ≡ true → RunsInPhase s k n d
     turn stands left b None z = wrong' z
     turn stands left b (Some id) z = record { stands = stands; left = left; begun = b; id = id; turn = turn_run v (bus_of k).atn phase id z }
 
@@ -186,12 +186,12 @@ run_turn s k row d n con off telling r = go (changes_phase d.change || not (is_s
     unless false true e f = wrong' f
     unless false false e f = wrong' e
 
-    leaves : (changes_phase d.change || not (is_some d.next)) ≡ true → (b : Bool) → k.exchange.begun ≡ b → (t : Bool) → is_some d.next ≡ t → has_run (if not b then [] else if t then turn_events_if v (bus_of k).atn phase (id_of k.served) else connection_end_events n k.exchange.plan phase (id_of k.served)) ≡ true → RunsInPhase s k n d
+    leaves : (changes_phase d.change || not (is_some d.next)) ≡ true → (b : Bool) → k.exchange.begun ≡ b → (t : Bool) → is_some d.next ≡ t → shows_run (if not b then [] else if t then turn_events_if v (bus_of k).atn phase (id_of k.served) else connection_end_events n k.exchange.plan phase (id_of k.served)) ≡ true → RunsInPhase s k n d
     leaves e false f t g z = wrong' z
     leaves e true f true g z = turn g (unless (changes_phase d.change) (is_some d.next) g e) f (id_of k.served) z
     leaves e true f false g z = wrong' (sym (no_end_run n k.exchange.plan phase (id_of k.served)) ∙ z)
 
-    go : (q : Bool) → (changes_phase d.change || not (is_some d.next)) ≡ q → has_run (if q then target_events s k n (is_some d.next) else initiator_events k k.story.link d) ≡ true → RunsInPhase s k n d
+    go : (q : Bool) → (changes_phase d.change || not (is_some d.next)) ≡ q → shows_run (if q then target_events s k n (is_some d.next) else initiator_events k k.story.link d) ≡ true → RunsInPhase s k n d
     go true e z = leaves e k.exchange.begun refl (is_some d.next) refl z
     go false e z = wrong' (sym (no_initiator_run k k.story.link d) ∙ z)
 
@@ -222,9 +222,9 @@ none_out v causes.InMessage e =
     let gives_up : Task → Leaving = λ t. recovery v.def t (message_repetition v.plan) bus_free in
     none_if (is_some v.plan.said.offer) (phase_entry phases.Command) (if is_naming v.plan.messages.first then message_repetition v.plan else with_task v.task gives_up) refl
     (none_if (is_naming v.plan.messages.first) (message_repetition v.plan) (with_task v.task gives_up) refl
-    (tasks v.task gives_up (λ t. recovers v.def t (message_repetition v.plan) bus_free refl refl)))
+    (task_not v.task gives_up (λ t. recovery_not v.def t (message_repetition v.plan) bus_free refl refl)))
 none_out v causes.InData e = absurd cc
-none_out v causes.InStatus e = tasks v.task (λ t. recovery v.def t (pointer_restoration nexts.Status) bus_free) (λ t. recovers v.def t (pointer_restoration nexts.Status) bus_free refl refl)
+none_out v causes.InStatus e = task_not v.task (λ t. recovery v.def t (pointer_restoration nexts.Status) bus_free) (λ t. recovery_not v.def t (pointer_restoration nexts.Status) bus_free refl refl)
 
 -- ---- it follows
 
@@ -248,7 +248,7 @@ runs_from v attention phase id r = by phase r.status r.run
     t : Task
     t = r.task
 
-    out : (c : Cause) → is_status_next (message_out_leaving v c).to ≡ true → has_run (detected_events c id) ≡ true → RunsFrom v t phases.MessageOut
+    out : (c : Cause) → is_status_next (message_out_leaving v c).to ≡ true → shows_run (detected_events c id) ≡ true → RunsFrom v t phases.MessageOut
     out causes.InData z run = wrong' run
     out causes.Selected z run = wrong' (sym (none_out v causes.Selected refl) ∙ z)
     out causes.InMessage z run = wrong' (sym (none_out v causes.InMessage refl) ∙ z)
@@ -264,14 +264,14 @@ runs_from v attention phase id r = by phase r.status r.run
     said true z = wrong' z
     said false z = messages v.plan.next refl z
 
-    command : (q : Bool) → (a : Arrival) → is_status_next (if q then recovery v.def t (pointer_restoration nexts.Command) (phase_entry phases.Status) else after_arrival v.def t a).to ≡ true → has_run (if q then events.Fail id PARITY_ERROR ∷ [] else arrival_run_events a id) ≡ true → RunsFrom v t phases.Command
+    command : (q : Bool) → (a : Arrival) → is_status_next (if q then recovery v.def t (pointer_restoration nexts.Command) (phase_entry phases.Status) else after_arrival v.def t a).to ≡ true → shows_run (if q then events.Fail id PARITY_ERROR ∷ [] else arrival_run_events a id) ≡ true → RunsFrom v t phases.Command
     command true a z run = wrong' run
     command false arrivals.Refused z run = wrong' run
     command false arrivals.Guest z run = by_data v t phases.Command r.open_is z
     command false arrivals.AtOnce z run = by_data v t phases.Command r.open_is z
     command false arrivals.Queued z run = wrong' z
 
-    data_out : (q : Bool) → v.plan.struck ≡ q → has_run (if q then events.Fail id PARITY_ERROR ∷ [] else events.Run id ∷ []) ≡ true → RunsFrom v t phases.DataOut
+    data_out : (q : Bool) → v.plan.struck ≡ q → shows_run (if q then events.Fail id PARITY_ERROR ∷ [] else events.Run id ∷ []) ≡ true → RunsFrom v t phases.DataOut
     data_out true e run = wrong' run
     data_out false e run = writes refl e
 
@@ -279,7 +279,7 @@ runs_from v attention phase id r = by phase r.status r.run
     status true z = wrong' z
     status false z = wrong' z
 
-    by : (x : Phase) → is_status_next (phase_leaving v attention x).to ≡ true → has_run (reply_events id v.plan v.arrival x) ≡ true → RunsFrom v t x
+    by : (x : Phase) → is_status_next (phase_leaving v attention x).to ≡ true → shows_run (reply_events id v.plan v.arrival x) ≡ true → RunsFrom v t x
     by phases.MessageOut z run = out v.plan.cause z run
     by phases.MessageIn z run = said attention z
     by phases.Command z run = command v.plan.struck v.arrival (sym (λ i. is_status_next (with_task (r.task_is i) (λ x. if v.plan.struck then recovery v.def x (pointer_restoration nexts.Command) (phase_entry phases.Status) else after_arrival v.def x v.arrival)).to) ∙ z) run

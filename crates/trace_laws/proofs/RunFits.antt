@@ -1,6 +1,6 @@
 -- A process that writes moves all the bytes of its blocks, or none; and a unit keeps the size of its blocks.
 use Rattle.std.proofs.Common.{ℕ, ◌≡◌, ◌*◌, Bool, true, false, ◌∙◌, List, length, Option, Some, None, Result, Ok, Err, refl, sym, ap, subst, true≢false}
-use Rattle.std.specs.Prelude.{if◌then◌else◌, ◌==◌, is_some}
+use Rattle.std.specs.Prelude.{if◌then◌else◌, ◌==◌}
 use Rattle.std.proofs.lemmas.Option.{same_Some}
 use Rattle.bus_base.specs.declared.Event.{Event}
 use Rattle.cdb_codec.specs.Cdb.{command_of}
@@ -19,7 +19,7 @@ use Rattle.disk_array.specs.Order.{range_in, count_in}
 use Rattle.disk_array.specs.Processes.{Process, process_of}
 use Rattle.disk_array.specs.Seats.{contents_of, context_of, seat_of}
 use Rattle.disk_array.specs.Steps.{context_at}
-use Rattle.disk_array.specs.Units.{Array, UnitState, nexus_of, unit_state_at, starting_array, sense_of_nexus}
+use Rattle.disk_array.specs.Units.{Array, UnitState, nexus_of, unit_state_at, starting_array}
 use Rattle.disk_unit.specs.Disk.{blocks_written}
 use Rattle.bus_dialogue.specs.declared.exchange.Task.{Task}
 use Rattle.bus_due.specs.LastingState.{progress_in}
@@ -36,6 +36,7 @@ use Rattle.trace_laws.proofs.PointerEnds.{writer_plain}
 use Rattle.trace_laws.proofs.PolicyLines.{policies_most}
 use Rattle.trace_laws.proofs.RunParts.{RunsFit}
 use Rattle.trace_laws.proofs.Tests.{zero_times}
+use Rattle.trace_laws.proofs.AnsweredProcesses.{context_same}
 use Rattle.std.proofs.lemmas.Bool.{eqb-true}
 use Rattle.bus_books.specs.Accounts.{policy_for}
 
@@ -72,13 +73,6 @@ blocks_named (Ok (commands.Inquiry room)) e = absurd (true≢false (sym e))
 blocks_named (Ok commands.ReadCapacity) e = absurd (true≢false (sym e))
 blocks_named (Ok (commands.Read10 lba count)) e = absurd (true≢false (sym e))
 blocks_named (Ok (commands.Write10 lba count)) e = refl
-
-pub context_same : (a : Array) (p : Process) → context_at a (nexus_of p) (unit_state_at a.units p.target p.unit) ≡ context_of (seat_of a p.target p.unit) p.initiator
-context_same a p = go (unit_state_at a.units p.target p.unit)
-  where
-    go : (x : Option UnitState) → context_at a (nexus_of p) x ≡ record { present = is_some x; contents = contents_of x; stored = sense_of_nexus a.senses (nexus_of p); attention = sense_of_nexus a.attentions (nexus_of p) }
-    go None = refl
-    go (Some u) = refl
 
 pub none_sent : (s : ScenarioValue) (q : Process) → Obeys s → process_of s q.id ≡ Some q → is_writing q ≡ true → has_target s q.target ≡ false → length q.sent ≡ 0
 unfolding need_of sent_of

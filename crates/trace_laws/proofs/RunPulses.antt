@@ -10,6 +10,7 @@ use Rattle.bus_trace.specs.Changes.{change_of, rises}
 use Rattle.bus_trace.specs.Phases.{changes_phase}
 use Rattle.bus_trace.specs.Terms.{connection, receiver}
 use Rattle.bus_trace.specs.Trace.{drives, last_time, line_times, phase_time}
+use Rattle.bus_trace.proofs.Sets.{same_self}
 use Rattle.bus_phases.specs.Dialogue.{dialogue}
 use Rattle.bus_lines.specs.Handshakes.{Handshakes, handshakes}
 use Rattle.scenario.specs.Value.{ScenarioValue}
@@ -22,7 +23,7 @@ use Rattle.link_laws.specs.Phases.{ends, Settling}
 use Rattle.link_laws.specs.Pulses.{Pulsing, times_here, offset_here, run_count}
 use Rattle.link_laws.proofs.Ahead.{never}
 use Rattle.link_laws.proofs.EndDues.{due_of, Mover, by_fault, by_initiator, by_target, target_plain, initiator_plain, offering_with}
-use Rattle.link_laws.proofs.Moves.{initiator_moves, target_moves, phase_same, same_self, no_rise}
+use Rattle.link_laws.proofs.Moves.{initiator_moves, target_moves, phase_same, no_rise}
 use Rattle.link_laws.proofs.PulseDues.{pulsed_target_out, pulsed_initiator_out, pulse_time, leaving_time, ack_pulse_end_time, answer_time, release_time, byte_driven_time, given_bits}
 use Rattle.link_laws.proofs.StageDues.{settling_target, settling_initiator, handing_initiator}
 use Rattle.trace_laws.specs.RunCounts.{pulses_here}

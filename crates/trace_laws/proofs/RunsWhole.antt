@@ -18,7 +18,7 @@ use Rattle.scenario.specs.declared.value.Policy.{Policy}
 use Rattle.scenario.specs.declared.value.Policy.TheVariants as policies
 use Rattle.scenario.specs.Value.{ScenarioValue}
 use Rattle.scenario.specs.Writing.{Obeys}
-use Rattle.disk_array.specs.ArrayHistory.{array_after, reply_in}
+use Rattle.disk_array.specs.ArrayHistory.{array_after, reply_in, shows_run}
 use Rattle.disk_array.specs.Execution.{Reply}
 use Rattle.disk_array.specs.Order.{count_in, range_in}
 use Rattle.disk_array.specs.Processes.{Process, process_of}
@@ -26,7 +26,6 @@ use Rattle.disk_array.specs.Units.{Array}
 use Rattle.bus_story.specs.BusState.{RowReading, row_reading}
 use Rattle.bus_story.specs.Story.{Story}
 use Rattle.bus_dialogue.specs.declared.exchange.Leaving.{Leaving}
-use Rattle.bus_dialogue.specs.declared.exchange.Next.{Next}
 use Rattle.bus_dialogue.specs.declared.exchange.Next.TheVariants as nexts
 use Rattle.bus_dialogue.specs.declared.exchange.Phase.{Phase}
 use Rattle.bus_dialogue.specs.declared.exchange.Phase.TheVariants as phases
@@ -41,22 +40,21 @@ use Rattle.bus_due.specs.Least.{IsLeast}
 use Rattle.bus_due.specs.Next.{due, IsPrompt}
 use Rattle.bus_due.specs.Plain.{IsPlain}
 use Rattle.bus_due.specs.RunState.{RunState, array_of, bus_of, or_start, process_served}
-use Rattle.bus_due.specs.RunSteps.{run_state}
+use Rattle.bus_due.specs.RunSteps.{run_state, events_of_row}
 use Rattle.bus_due.specs.Sights.{serving_of}
 use Rattle.bus_due.specs.Tasks.{is_writing, reply_now, task_if}
 use Rattle.bus_due.specs.Telling.{is_true_telling}
 use Rattle.bus_due.proofs.Plains.{run_state_plain}
-use Rattle.scsi_device.specs.Writes.{writers}
+use Rattle.scsi_device.specs.Writes.{writers, is_data_in}
 use Rattle.scsi_device.proofs.Finds.{none_is}
 use Rattle.bus_laws.proofs.Apart.{change_plain}
 use Rattle.bus_laws.proofs.Prompt.{least_is}
-use Rattle.trace_laws.specs.Attendance.{events_of}
 use Rattle.trace_laws.specs.Commands.{CommandFacts}
 use Rattle.trace_laws.specs.Instructed.{InstructedFacts}
 use Rattle.trace_laws.specs.Places.{AnsweredOpen, IsTaken, PlaceFacts, PlacedBefore, PlacedIf, PlacedIn}
 use Rattle.trace_laws.specs.RunFacts.{RunFacts}
 use Rattle.trace_laws.specs.RunsLeft.{HasRunLeft, RunsLeft, run_total}
-use Rattle.trace_laws.specs.RunsWhole.{IsWhole, RunsWhole, ends_badly, sends_none, sends_all, has_run}
+use Rattle.trace_laws.specs.RunsWhole.{IsWhole, RunsWhole, ends_badly, sends_none, sends_all}
 use Rattle.trace_laws.specs.TellFacts.{TellFacts}
 use Rattle.trace_laws.specs.Tells.{AreRepliesShown, FailsAsLeft}
 use Rattle.trace_laws.specs.WholeRuns.{HasSentAll, RunsBlocks}
@@ -76,7 +74,7 @@ use Rattle.trace_laws.proofs.WholeRuns.{whole_run}
 use Rattle.trace_laws.proofs.WriteNext.{write_row}
 use Rattle.trace_laws.proofs.WriteRows.{in_lines}
 use Rattle.trace_laws.proofs.Written.{left_by}
-use Rattle.trace_laws.proofs.PhaseLines.{is_data_in}
+use Rattle.trace_laws.specs.ItemTalks.{frees_bus}
 use Rattle.std.proofs.lemmas.Bool.{ltb-false}
 use Rattle.bus_base.proofs.Tests.{wrong, wrong', zero_of}
 use Rattle.bus_books.specs.Accounts.{policy_for}
@@ -136,12 +134,6 @@ status_is (Some phases.MessageOut) e = wrong' e
 status_is (Some phases.DataIn) e = wrong' e
 status_is (Some phases.DataOut) e = wrong' e
 
-abbrev pub is_free : Next → Bool
-is_free nexts.FreeBus = true
-is_free nexts.Command = false
-is_free nexts.GoOn = false
-is_free nexts.Status = false
-
 -- ---- the row
 
 record WholeRow (s : ScenarioValue) (p : List Row) (row : Row) (n : Connection) (q : Process) : Type 0 where
@@ -160,7 +152,7 @@ record WholeRow (s : ScenarioValue) (p : List Row) (row : Row) (n : Connection) 
   stands : connection p ≡ Some n
   calm : (bus p).rst ≡ false
   calm_after : (bus (row ∷ p)).rst ≡ false
-  runs : has_run (events_of s p row) ≡ true
+  runs : shows_run (events_of_row s p row) ≡ true
   served : process_served s (run_state s p) ≡ Some q
   writes : is_writing q ≡ true
   good : ((reply_now (array_of s (run_state s p)) q).status == GOOD) ≡ true
@@ -242,7 +234,7 @@ sent_all s p row n q h = by (runs_from (serving_of s k n.target) (bus_of k).atn 
       where
         go : PlacedBefore h.places.array q k.exchange.plan.messages k.exchange.plan.next ⊎ IsTaken h.places.array q k.exchange.plan k.handshakes (bus_of k).atn → HasSentAll s k (writers s p) q
         go (inl z) = listed (subst (PlacedBefore h.places.array q k.exchange.plan.messages) next z)
-        go (inr z) = wrong' (sym (ap is_free next) ∙ ap is_free z.next_is)
+        go (inr z) = wrong' (sym (ap frees_bus next) ∙ ap frees_bus z.next_is)
 
     -- its runs are not all made
     policy : policy_of (target_def_of s n.target) ≡ policy_for s q

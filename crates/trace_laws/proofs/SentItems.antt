@@ -1,7 +1,6 @@
 -- After any rows what was carried is of processes that were sent, and so is the item of the link.
-use Rattle.std.proofs.Common.{ℕ, ◌≡◌, ◌+◌, Bool, true, false, not, ◌&&◌, ◌||◌, ◌∙◌, List, [], ◌∷◌, ◌++◌, Option, Some, None, refl, sym, ap, subst}
-use Rattle.std.specs.Prelude.{if◌then◌else◌, is_some, is_none, ◌==◌}
-use Rattle.std.specs.List.{list_any}
+use Rattle.std.proofs.Common.{ℕ, ◌≡◌, ◌+◌, Bool, true, false, not, ◌&&◌, ◌||◌, ◌∙◌, List, [], ◌∷◌, Option, Some, None, refl, sym, ap, subst}
+use Rattle.std.specs.Prelude.{if◌then◌else◌, is_some, is_none}
 use Rattle.std.proofs.lemmas.Bool.{or_parts}
 use Rattle.std.proofs.lemmas.Option.{same_Some}
 use Rattle.bus_base.specs.declared.ProcId.{ProcId}
@@ -15,26 +14,27 @@ use Rattle.bus_trace.specs.declared.connection.Connection.{Connection}
 use Rattle.bus_trace.specs.declared.selection.Call.{Call}
 use Rattle.bus_trace.specs.declared.selection.Calling.{Calling}
 use Rattle.bus_trace.specs.Changes.{falls}
-use Rattle.cdb_codec.specs.declared.status.TheConstants.{CHECK_CONDITION}
 use Rattle.msg_grammar.specs.declared.message.MsgOut.{MsgOut}
 use Rattle.msg_grammar.specs.declared.message.MsgIn.{MsgIn}
 use Rattle.msg_grammar.specs.declared.message.MsgIn.TheVariants as to_initiator
 use Rattle.scenario.specs.declared.value.CmdDef.{CmdDef}
 use Rattle.scenario.specs.Value.{ScenarioValue}
 use Rattle.disk_array.specs.Processes.{same_id}
+use Rattle.disk_array.specs.Order.{same_number, tag_number}
 use Rattle.bus_story.specs.BusState.{RowReading}
 use Rattle.bus_story.specs.CarriedBytes.{CarriedBytes, carried_at, with_carried, carried_of, with_restored_pointers, carried_after_byte}
-use Rattle.bus_story.specs.Items.{Item, process, abort, same_item, has_item, command_item, sense_item, Sent, is_open, tag_number_if}
-use Rattle.bus_story.specs.Links.{Link, link_of, last_out, last_in, is_of_nexus, is_open_sense, same_number, named_item_from, link_after_name}
+use Rattle.bus_story.specs.Items.{Item, process, abort, same_item, has_item, command_item, sense_item, Sent, is_open}
+use Rattle.bus_story.specs.Links.{Link, link_of, last_out, last_in, is_of_nexus, is_open_sense, named_item_from, link_after_name}
 use Rattle.bus_story.specs.HistoryEvents.{carried_if}
-use Rattle.bus_story.specs.Story.{Story, Ending, by_abort, by_reset, is_aborted, is_sense_stopped, marked_refused, marked_shown, story_with_over, story_with_end, with_check, story_with_ends, story_after_event, story_after_events}
+use Rattle.bus_story.specs.Story.{Story, by_abort, by_reset, is_aborted, is_sense_stopped, marked_refused, marked_shown, story_with_end, story_after_event, story_after_events}
 use Rattle.bus_story.specs.TraceHistory.{aim_of, is_arbitration_entry, story_with_aim, story_without_answer, story_with_try, story_after_calling_by, story_after_calling, story_on_free_bus, story_with_restored, story_with_sent, story_after_connection, story_with_carried, is_parity_error, story_after_out, carried_after_message_if, story_after_message, story_after_in, carried_after_byte_if, story_after_byte, carried_after_fault_if, story_after_fault, story_in_connection, story_on_bus}
-use Rattle.bus_books.proofs.Lookups.{self_id, id_is, carried_id}
-use Rattle.trace_laws.proofs.PointerStorySteps.{fault_id, message_id}
+use Rattle.bus_books.proofs.Lookups.{self_id, id_is}
+use Rattle.trace_laws.proofs.PointerStorySteps.{fault_id}
 use Rattle.trace_laws.proofs.RowEvents.{IsOf, AllOf, carried_of_item}
 use Rattle.trace_laws.specs.ItemFacts.{LinkSent, LinksSent, SentOnly}
 use Rattle.bus_base.proofs.Tests.{wrong, and_first, and_second, or_true, eq_self}
-use Rattle.bus_story.proofs.StorySteps.{ends_keep, check_keeps}
+use Rattle.bus_story.proofs.StorySteps.{ends_keep, check_keeps, event_sent, events_sent, message_id}
+use Rattle.bus_story.proofs.CarriedLists.{carried_id}
 
 -- ---- items
 
@@ -59,16 +59,16 @@ find_sent b i t u tag n [] item e = absurd (no_item item e)
     no_item : (x : Item) → (let a : Option Item = None in a) ≡ Some x → ⊥
     no_item x z = cc
 find_sent b i t u tag n (c ∷ commands) item e =
-    go (is_of_nexus c i t u && is_open b n && same_number (tag_number_if c.tag) tag) (is_of_nexus c i t u && is_open_sense b n && same_number None tag) refl refl e (λ z. find_sent b i t u tag (n + 1) commands item z)
+    go (is_of_nexus c i t u && is_open b n && same_number (tag_number c.tag) tag) (is_of_nexus c i t u && is_open_sense b n && same_number None tag) refl refl e (λ z. find_sent b i t u tag (n + 1) commands item z)
   where
     or_item : Item → Option Item → Item
     or_item x None = x
     or_item x (Some y) = y
 
-    go : (q r : Bool) → (is_of_nexus c i t u && is_open b n && same_number (tag_number_if c.tag) tag) ≡ q → (is_of_nexus c i t u && is_open_sense b n && same_number None tag) ≡ r
+    go : (q r : Bool) → (is_of_nexus c i t u && is_open b n && same_number (tag_number c.tag) tag) ≡ q → (is_of_nexus c i t u && is_open_sense b n && same_number None tag) ≡ r
         → (if q then Some (command_item n) else if r then Some (sense_item n) else named_item_from b i t u tag (n + 1) commands) ≡ Some item → (named_item_from b i t u tag (n + 1) commands ≡ Some item → has_item b.sent item ≡ true) → has_item b.sent item ≡ true
     go true r x y z rest =
-        let o = and_second (is_of_nexus c i t u) (is_open b n) (and_first (is_of_nexus c i t u && is_open b n) (same_number (tag_number_if c.tag) tag) x) in
+        let o = and_second (is_of_nexus c i t u) (is_open b n) (and_first (is_of_nexus c i t u && is_open b n) (same_number (tag_number c.tag) tag) x) in
         ap (has_item b.sent) (sym (ap (or_item item) z)) ∙ and_first (has_item b.sent (command_item n)) (not (has_item b.over (command_item n))) o
     go false true x y z rest =
         let o = and_second (is_of_nexus c i t u) (is_open_sense b n) (and_first (is_of_nexus c i t u && is_open_sense b n) (same_number None tag) y) in
@@ -120,41 +120,6 @@ put_if b None there h = h
 put_if b (Some c) there h = put b c (there c refl) h
 
 -- ---- events
-
-ends_sent : (drops stops : CmdDef → Bool) (e : Ending) (n : ℕ) (commands : List CmdDef) (b : Story) → (story_with_ends drops stops e n commands b).sent.sent ≡ b.sent.sent
-ends_sent drops stops e n [] b = refl
-ends_sent drops stops e n (c ∷ commands) b =
-    ends_sent drops stops e (n + 1) commands
-    (if is_open b.sent n && drops c then story_with_end b (record { command = n; sense = false }) e
-    else if stops c && list_any (λ k. k == n) b.sent.checks then story_with_over b (sense_item n)
-    else b)
-    ∙ go (is_open b.sent n && drops c) (stops c && list_any (λ k. k == n) b.sent.checks)
-  where
-    go : (q r : Bool) → (if q then story_with_end b (record { command = n; sense = false }) e else if r then story_with_over b (sense_item n) else b).sent.sent ≡ b.sent.sent
-    go true r = refl
-    go false true = refl
-    go false false = refl
-
-check_sent : (b : Story) (id : ProcId) (status : ℕ) → (with_check b id status).sent.sent ≡ b.sent.sent
-check_sent b id status = go (not id.sense && status == CHECK_CONDITION)
-  where
-    go : (q : Bool) → (if q then record b { sent = record b.sent { checks = b.sent.checks ++ id.command ∷ [] } } else b).sent.sent ≡ b.sent.sent
-    go true = refl
-    go false = refl
-
-pub event_sent : (s : ScenarioValue) (b : Story) (event : Event) → (story_after_event s b event).sent.sent ≡ b.sent.sent
-event_sent s b (events.Accept id) = refl
-event_sent s b (events.Refuse id) = refl
-event_sent s b (events.Run id) = refl
-event_sent s b (events.Fail id code) = refl
-event_sent s b (events.End id status) = check_sent (story_with_end b id _) id status
-event_sent s b (events.Lost id) = refl
-event_sent s b (events.Aborted host target unit what) = ends_sent (is_aborted host target unit what) (is_sense_stopped host target unit what) by_abort 1 s.commands b
-event_sent s b (events.Reset dev) = ends_sent (λ c. true) (λ c. true) by_reset 1 s.commands b
-
-pub events_sent : (s : ScenarioValue) (b : Story) (shown : List Event) → (story_after_events s b shown).sent.sent ≡ b.sent.sent
-events_sent s b [] = refl
-events_sent s b (event ∷ shown) = event_sent s (story_after_events s b shown) event ∙ events_sent s b shown
 
 marked : (b : Story) (id : ProcId) (mark : CarriedBytes → CarriedBytes) → ((c : CarriedBytes) → (mark c).id ≡ c.id) → has_item b.sent.sent (process id) ≡ true → SentOnly b → SentOnly (record b { carried = with_carried b.carried (mark (carried_of b.carried id)) })
 marked b id mark same there h = put b (mark (carried_of b.carried id)) (ap (λ (x : ProcId). has_item b.sent.sent (process x)) (same (carried_of b.carried id) ∙ carried_id b.carried id) ∙ there) h

@@ -18,7 +18,8 @@ use Rattle.bus_story.specs.TraceHistory.{aim_of, story_with_restored, story_with
 use Rattle.bus_due.specs.RunState.{RunState, item_of}
 use Rattle.bus_due.specs.RunSteps.{run_state, run_state_after}
 use Rattle.trace_laws.proofs.RowEvents.{row_of}
-use Rattle.trace_laws.proofs.SentItems.{no_links, more_has, events_sent, events_only, free_keeps, restored_sent, bus_only}
+use Rattle.trace_laws.proofs.SentItems.{no_links, more_has, events_only, free_keeps, restored_sent, bus_only}
+use Rattle.bus_story.proofs.StorySteps.{events_sent}
 use Rattle.trace_laws.specs.ItemFacts.{SentOnly}
 
 -- What was sent before the row was sent after it.

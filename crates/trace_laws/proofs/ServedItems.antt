@@ -22,7 +22,7 @@ use Rattle.scenario.specs.Writing.{Obeys}
 use Rattle.bus_story.specs.BusState.{row_reading, message_out}
 use Rattle.bus_story.specs.HistoryEvents.{abort_line_at}
 use Rattle.bus_story.specs.Items.{Item, abort}
-use Rattle.bus_story.specs.TraceHistory.{aim_of, is_host}
+use Rattle.bus_story.specs.TraceHistory.{aim_of}
 use Rattle.bus_dialogue.specs.declared.exchange.Cause.{Cause}
 use Rattle.bus_dialogue.specs.declared.exchange.Cause.TheVariants as causes
 use Rattle.bus_dialogue.specs.declared.exchange.Leaving.{Leaving}
@@ -63,6 +63,7 @@ use Rattle.trace_laws.proofs.TellRows.{is_heard}
 use Rattle.trace_laws.proofs.UnderRst.{quiet_at_end}
 use Rattle.trace_laws.proofs.UndoneAnswers.{plan_stays, same_phase_of}
 use Rattle.bus_base.proofs.Tests.{wrong, wrong'}
+use Rattle.disk_array.specs.Seats.{is_initiator}
 
 -- ---- whom an initiator has called
 
@@ -77,7 +78,7 @@ called_target s p t n was e z = by_call (call p) refl e
         let r : x.reselects ≡ false = ap (λ (w : Connection). w.reselected) same ∙ z in
         let i : n.initiator ≡ c = ap (λ (w : Connection). w.initiator) (sym same) ∙ ap (λ (q : Bool). if q then x.called else c) r in
         let g : n.target ≡ x.called = ap (λ (w : Connection). w.target) (sym same) ∙ ap (λ (q : Bool). if q then c else x.called) r in
-        let host : is_host s.hosts n.initiator ≡ true = ap (is_host s.hosts) i ∙ d.host_is ∙ ap not r in
+        let host : is_initiator s.hosts n.initiator ≡ true = ap (is_initiator s.hosts) i ∙ d.host_is ∙ ap not r in
         sym (ap (λ (q : Bool). if q then target_of s (aim_of (run_state s p).story.aims n.initiator) else initiator_if (ready_of s (run_state s p) n.initiator)) host)
         ∙ ap (callee_at s p) i ∙ d.callee_is ∙ ap (λ (w : ℕ). Some w) (sym g)
 

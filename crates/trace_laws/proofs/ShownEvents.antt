@@ -20,8 +20,8 @@ use Rattle.bus_story.specs.HistoryEvents.{abort_line_at, abort_line_events, bus_
 use Rattle.bus_story.specs.Items.{Item, process, abort}
 use Rattle.bus_story.specs.Links.{Link, LastMessage, plain, complete, disconnect, abortive}
 use Rattle.bus_story.specs.Story.{Story}
+use Rattle.bus_story.proofs.CarriedLists.{carried_id}
 use Rattle.bus_due.specs.RunState.{RunState}
-use Rattle.bus_books.proofs.Lookups.{carried_id}
 use Rattle.trace_laws.specs.Attendance.{AreShown, IsShown, accepts, refuses, runs, fails, ends, loses, aborts}
 
 -- What the row shows where the connection has a link.

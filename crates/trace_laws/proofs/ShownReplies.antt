@@ -1,7 +1,6 @@
 -- The plain disk array has a reply of a process exactly where the rows have shown one.
-use Rattle.std.proofs.Common.{ℕ, ◌≡◌, Bool, true, false, not, ◌&&◌, ◌||◌, ◌==◌, ◌+◌, ◌%◌, ◌∙◌, List, [], ◌∷◌, ◌++◌, Option, Some, None, refl, sym, ap}
-use Rattle.std.specs.Prelude.{if◌then◌else◌, is_some, is_none, nat_lt}
-use Rattle.std.specs.List.{list_any}
+use Rattle.std.proofs.Common.{ℕ, ◌≡◌, Bool, true, false, ◌||◌, ◌+◌, ◌%◌, ◌∙◌, List, [], ◌∷◌, ◌++◌, Option, Some, None, refl, sym, ap}
+use Rattle.std.specs.Prelude.{if◌then◌else◌, is_some, is_none}
 use Rattle.bus_base.specs.declared.Event.{Event}
 use Rattle.bus_base.specs.declared.Event.TheVariants as events
 use Rattle.bus_base.specs.declared.ProcId.{ProcId}
@@ -11,15 +10,10 @@ use Rattle.bus_trace.specs.declared.Kind.{Kind}
 use Rattle.bus_trace.specs.declared.Kind.TheVariants.{Drives, Fault}
 use Rattle.bus_trace.specs.declared.changes.Change.{Change}
 use Rattle.bus_trace.specs.declared.connection.Connection.{Connection}
-use Rattle.bus_trace.specs.declared.selection.Call.{Call}
-use Rattle.bus_trace.specs.declared.selection.Calling.{Calling}
-use Rattle.bus_trace.specs.Changes.{falls}
 use Rattle.bus_trace.specs.Phases.{is_command, is_data}
-use Rattle.cdb_codec.specs.declared.status.TheConstants.{CHECK_CONDITION}
 use Rattle.msg_grammar.specs.declared.message.MsgIn.{MsgIn}
 use Rattle.msg_grammar.specs.declared.message.MsgIn.TheVariants as to_initiator
 use Rattle.msg_grammar.specs.declared.message.MsgOut.{MsgOut}
-use Rattle.scenario.specs.declared.value.CmdDef.{CmdDef}
 use Rattle.scenario.specs.Value.{ScenarioValue}
 use Rattle.disk_array.specs.ArrayHistory.{array_step, reply_in}
 use Rattle.disk_array.specs.Processes.{same_id}
@@ -27,13 +21,15 @@ use Rattle.disk_array.specs.Units.{Array}
 use Rattle.bus_story.specs.BusState.{RowReading, row_reading}
 use Rattle.bus_story.specs.CarriedBytes.{CarriedBytes, carried_of, with_carried, with_restored_pointers, carried_after_message, carried_after_byte, carried_after_fault, is_status_phase}
 use Rattle.bus_story.specs.HistoryEvents.{carried_if, row_events_by}
-use Rattle.bus_story.specs.Items.{Item, process, abort, count_item, sense_item, is_open}
+use Rattle.bus_story.specs.Items.{Item, process, abort}
 use Rattle.bus_story.specs.Links.{Link, last_out, last_in, link_after_name}
-use Rattle.bus_story.specs.Story.{Story, Ending, by_abort, by_reset, is_aborted, is_sense_stopped, marked_refused, marked_shown, story_with_over, story_with_end, with_check, story_with_ends, story_after_event, story_after_events}
-use Rattle.bus_story.specs.TraceHistory.{is_arbitration_entry, aim_of, story_with_aim, is_counted, retries_of, story_without_answer, story_with_try, story_after_calling_by, story_after_calling, story_on_free_bus, story_with_restored, story_with_sent, story_after_connection, story_with_carried, is_parity_error, story_after_out, carried_after_message_if, story_after_message, story_after_in, carried_after_byte_if, story_after_byte, carried_after_fault_if, story_after_fault, story_in_connection, story_on_bus, story_by_change}
+use Rattle.bus_story.specs.Story.{Story, by_abort, by_reset, is_aborted, is_sense_stopped, marked_refused, marked_shown, story_after_event, story_after_events}
+use Rattle.bus_story.specs.TraceHistory.{aim_of, story_on_free_bus, story_with_restored, story_with_sent, story_after_connection, story_with_carried, is_parity_error, story_after_out, carried_after_message_if, story_after_message, story_after_in, carried_after_byte_if, story_after_byte, carried_after_fault_if, story_after_fault, story_in_connection, story_on_bus, story_by_change}
+use Rattle.bus_story.proofs.StorySteps.{free_carried, ends_carried, check_carried}
+use Rattle.bus_story.proofs.CarriedLists.{carried_id, carried_with}
 use Rattle.bus_due.specs.RunState.{RunState, or_start}
 use Rattle.bus_due.specs.RunSteps.{array_after_events, run_state_after}
-use Rattle.bus_books.proofs.Lookups.{id_is, carried_id, put_there}
+use Rattle.bus_books.proofs.Lookups.{id_is}
 use Rattle.trace_laws.specs.Tells.{AreRepliesShown, UndoesAnswers}
 use Rattle.trace_laws.proofs.ListedReplies.{replies_to, listed_on}
 use Rattle.bus_base.proofs.Tests.{or_true}
@@ -47,7 +43,7 @@ unchanged : (all : List CarriedBytes) → SameAnswers all all
 unchanged all id = refl
 
 puts_answer : (all : List CarriedBytes) (c : CarriedBytes) → is_marked c ≡ is_marked (carried_of all c.id) → SameAnswers all (with_carried all c)
-puts_answer all c e id = ap is_marked (put_there all c id) ∙ go (same_id c.id id) refl
+puts_answer all c e id = ap is_marked (carried_with all c id) ∙ go (same_id c.id id) refl
   where
     go : (q : Bool) → same_id c.id id ≡ q → is_marked (if q then c else carried_of all id) ≡ is_marked (carried_of all id)
     go true f = e ∙ ap (λ (x : ProcId). is_marked (carried_of all x)) (id_is c.id id f)
@@ -56,39 +52,21 @@ puts_answer all c e id = ap is_marked (put_there all c id) ∙ go (same_id c.id 
 -- ---- events
 
 marks : (all : List CarriedBytes) (c : CarriedBytes) (p : ProcId) → c.id ≡ p → is_marked c ≡ true → (id : ProcId) → is_marked (carried_of (with_carried all c) id) ≡ (same_id p id || is_marked (carried_of all id))
-marks all c p same e id = ap is_marked (put_there all c id) ∙ ap (λ (x : ProcId). is_marked (if same_id x id then c else carried_of all id)) same ∙ go (same_id p id)
+marks all c p same e id = ap is_marked (carried_with all c id) ∙ ap (λ (x : ProcId). is_marked (if same_id x id then c else carried_of all id)) same ∙ go (same_id p id)
   where
     go : (q : Bool) → is_marked (if q then c else carried_of all id) ≡ (q || is_marked (carried_of all id))
     go true = e
     go false = refl
-
-pub checked : (b : Story) (id : ProcId) (status : ℕ) → (with_check b id status).carried ≡ b.carried
-checked b id status = go (not id.sense && status == CHECK_CONDITION)
-  where
-    go : (q : Bool) → (if q then record b { sent = record b.sent { checks = b.sent.checks ++ id.command ∷ [] } } else b).carried ≡ b.carried
-    go true = refl
-    go false = refl
-
-pub all_ended : (drops stops : CmdDef → Bool) (e : Ending) (n : ℕ) (commands : List CmdDef) (b : Story) → (story_with_ends drops stops e n commands b).carried ≡ b.carried
-all_ended drops stops e n [] b = refl
-all_ended drops stops e n (c ∷ commands) b =
-    all_ended drops stops e (n + 1) commands (if is_open b.sent n && drops c then story_with_end b (record { command = n; sense = false }) e else if stops c && list_any (λ k. k == n) b.sent.checks then story_with_over b (sense_item n) else b)
-    ∙ go (is_open b.sent n && drops c) (stops c && list_any (λ k. k == n) b.sent.checks)
-  where
-    go : (q r : Bool) → (if q then story_with_end b (record { command = n; sense = false }) e else if r then story_with_over b (sense_item n) else b).carried ≡ b.carried
-    go true r = refl
-    go false true = refl
-    go false false = refl
 
 pub answered_on : (s : ScenarioValue) (b : Story) (e : Event) (id : ProcId) → is_marked (carried_of (story_after_event s b e).carried id) ≡ (replies_to e id || is_marked (carried_of b.carried id))
 answered_on s b (events.Accept p) id = refl
 answered_on s b (events.Refuse p) id = marks b.carried (marked_refused (carried_of b.carried p)) p (carried_id b.carried p) (or_true (carried_of b.carried p).shown) id
 answered_on s b (events.Run p) id = marks b.carried (marked_shown (carried_of b.carried p)) p (carried_id b.carried p) refl id
 answered_on s b (events.Fail p code) id = marks b.carried (marked_shown (carried_of b.carried p)) p (carried_id b.carried p) refl id
-answered_on s b (events.End p status) id = ap (λ (x : List CarriedBytes). is_marked (carried_of x id)) (checked _ p status)
+answered_on s b (events.End p status) id = ap (λ (x : List CarriedBytes). is_marked (carried_of x id)) (check_carried _ p status)
 answered_on s b (events.Lost p) id = refl
-answered_on s b (events.Aborted h t u what) id = ap (λ (x : List CarriedBytes). is_marked (carried_of x id)) (all_ended (is_aborted h t u what) (is_sense_stopped h t u what) by_abort 1 s.commands b)
-answered_on s b (events.Reset dev) id = ap (λ (x : List CarriedBytes). is_marked (carried_of x id)) (all_ended (λ c. true) (λ c. true) by_reset 1 s.commands b)
+answered_on s b (events.Aborted h t u what) id = ap (λ (x : List CarriedBytes). is_marked (carried_of x id)) (ends_carried (is_aborted h t u what) (is_sense_stopped h t u what) by_abort 1 s.commands b)
+answered_on s b (events.Reset dev) id = ap (λ (x : List CarriedBytes). is_marked (carried_of x id)) (ends_carried (λ c. true) (λ c. true) by_reset 1 s.commands b)
 
 abbrev Agree : Array → Story → Type 0
 Agree a b = (id : ProcId) → is_some (reply_in a.replies id) ≡ is_marked (carried_of b.carried id)
@@ -133,43 +111,8 @@ begun_keeps b n = go n.reselected (aim_of b.aims n.initiator)
         with_restored (story_with_sent (record b { link = Some (Rattle.bus_story.specs.Links.link_of n (aim_of b.aims n.initiator)) }) item) item id
         ∙ ap (λ (x : List CarriedBytes). is_marked (carried_of x id)) (sent item)
 
-tried : (s : ScenarioValue) (b : Story) (dev : ℕ) (item : Option Item) → (story_with_try s b dev item).carried ≡ b.carried
-tried s b dev None = refl
-tried s b dev (Some item) = go (is_counted item && nat_lt (retries_of s.hosts dev) (count_item (item ∷ b.sent.tries) item))
-  where
-    next : Story
-    next = record b { sent = record b.sent { tries = item ∷ b.sent.tries } }
-
-    over : (i : Item) → (story_without_answer next i).carried ≡ b.carried
-    over (process id) = refl
-    over (abort k) = refl
-
-    go : (q : Bool) → (if q then story_without_answer next item else next).carried ≡ b.carried
-    go true = over item
-    go false = refl
-
-called : (s : ScenarioValue) (b : Story) (call : Option Call) → (story_after_calling s b call).carried ≡ b.carried
-called s b None = refl
-called s b (Some k) = by k.calling
-  where
-    by : (o : Option Calling) → (story_after_calling_by s b k.caller o).carried ≡ b.carried
-    by None = refl
-    by (Some x) = go (is_none x.answered && not x.reselects)
-      where
-        go : (q : Bool) → (if q then story_with_try s b k.caller (aim_of b.aims k.caller) else b).carried ≡ b.carried
-        go true = tried s b k.caller (aim_of b.aims k.caller)
-        go false = refl
-
-pub free_carries : (s : ScenarioValue) (b : Story) (d : RowReading) (row : Row) → (story_on_free_bus s b d row).carried ≡ b.carried
-free_carries s b d row = go (is_arbitration_entry b d) (falls d.change.before.sel d.change.after.sel)
-  where
-    go : (q r : Bool) → (if q then story_with_aim s b row else if r then story_after_calling s b b.bus_state.call else b).carried ≡ b.carried
-    go true r = refl
-    go false true = called s b b.bus_state.call
-    go false false = refl
-
 free_keeps : (s : ScenarioValue) (b : Story) (d : RowReading) (row : Row) → Keeps b (story_on_free_bus s b d row)
-free_keeps s b d row = keeps b (story_on_free_bus s b d row) (free_carries s b d row)
+free_keeps s b d row = keeps b (story_on_free_bus s b d row) (free_carried s b d row)
 
 -- ---- in a connection
 

@@ -22,6 +22,7 @@ use Rattle.scenario.specs.declared.value.TargetDef.{TargetDef}
 use Rattle.scenario.specs.Value.{ScenarioValue}
 use Rattle.disk_array.specs.SoundArray.{IsOwnRunning, AllOwnUnits, HasSeats}
 use Rattle.disk_array.specs.Units.{RunningProcess, UnitState, unit_state_at, is_held}
+use Rattle.disk_array.specs.Seats.{current_of}
 use Rattle.bus_story.specs.BusState.{RowReading, row_reading}
 use Rattle.bus_story.specs.Items.{Item}
 use Rattle.bus_story.specs.TraceHistory.{aim_of}
@@ -51,7 +52,7 @@ use Rattle.bus_due.specs.Plain.{AreOfDevices}
 use Rattle.bus_due.specs.RunState.{RunState, array_of, bus_of}
 use Rattle.bus_due.specs.RunSteps.{run_state, run_state_after, exchange_after, leaving_of, may_negotiate, messages_if}
 use Rattle.bus_due.specs.Sights.{serving_of, hearing_of, leaving}
-use Rattle.bus_due.specs.Wants.{current_of, since_of, seek_of, ready_at, ready_of}
+use Rattle.bus_due.specs.Wants.{since_of, seek_of, ready_at, ready_of}
 use Rattle.trace_laws.proofs.Called.{own_units}
 use Rattle.trace_laws.proofs.Impossible.{none_some}
 use Rattle.trace_laws.proofs.SmallLines.{IsSmallTag, IsSmallTarget, HasSmallLines}

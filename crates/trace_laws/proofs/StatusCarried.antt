@@ -27,10 +27,10 @@ use Rattle.bus_story.specs.Story.{Story, by_abort, by_reset, is_aborted, is_sens
 use Rattle.bus_story.specs.TraceHistory.{aim_of, story_on_free_bus, story_with_restored, story_with_sent, story_after_connection, story_with_carried, is_parity_error, story_after_out, carried_after_message_if, story_after_message, story_after_in, carried_after_byte_if, story_after_byte, carried_after_fault_if, story_after_fault, story_in_connection, story_on_bus, story_by_change}
 use Rattle.bus_due.specs.RunState.{RunState}
 use Rattle.bus_due.specs.RunSteps.{run_state_after}
-use Rattle.bus_books.proofs.Lookups.{id_is, carried_id, put_there}
+use Rattle.bus_books.proofs.Lookups.{id_is}
 use Rattle.trace_laws.proofs.Impossible.{none_some}
-use Rattle.trace_laws.proofs.ShownReplies.{checked, all_ended, free_carries}
-use Rattle.bus_story.proofs.StorySteps.{carried_link, events_link}
+use Rattle.bus_story.proofs.StorySteps.{carried_link, events_link, free_carried, ends_carried, check_carried}
+use Rattle.bus_story.proofs.CarriedLists.{carried_id, carried_with}
 
 -- It holds of the status area of each process; and of that which would be brought back.
 abbrev pub OnAreas : (ProcId → List ℕ → Type 0) → List CarriedBytes → Type 0
@@ -40,7 +40,7 @@ abbrev pub OnUndo : (ProcId → List ℕ → Type 0) → Option Link → Type 0
 OnUndo q link = (l : Link) (u : CarriedBytes) → link ≡ Some l → l.undo ≡ Some u → q u.id u.status.bytes
 
 puts : (q : ProcId → List ℕ → Type 0) (all : List CarriedBytes) (c : CarriedBytes) → OnAreas q all → q c.id c.status.bytes → OnAreas q (with_carried all c)
-puts q all c h w id = subst (λ (x : CarriedBytes). q id x.status.bytes) (sym (put_there all c id)) (go (same_id c.id id) refl)
+puts q all c h w id = subst (λ (x : CarriedBytes). q id x.status.bytes) (sym (carried_with all c id)) (go (same_id c.id id) refl)
   where
     go : (r : Bool) → same_id c.id id ≡ r → q id (if r then c else carried_of all id).status.bytes
     go true e = subst (λ (x : ProcId). q x c.status.bytes) (id_is c.id id e) w
@@ -60,10 +60,10 @@ event_on q s b (events.Accept p) h = h
 event_on q s b (events.Refuse p) h = own q b.carried p (marked_refused (carried_of b.carried p)) refl h (h p)
 event_on q s b (events.Run p) h = own q b.carried p (marked_shown (carried_of b.carried p)) refl h (h p)
 event_on q s b (events.Fail p code) h = own q b.carried p (marked_shown (carried_of b.carried p)) refl h (h p)
-event_on q s b (events.End p status) h = as_before q b.carried (story_after_event s b (events.End p status)).carried (checked _ p status) h
+event_on q s b (events.End p status) h = as_before q b.carried (story_after_event s b (events.End p status)).carried (check_carried _ p status) h
 event_on q s b (events.Lost p) h = h
-event_on q s b (events.Aborted i t u what) h = as_before q b.carried (story_after_event s b (events.Aborted i t u what)).carried (all_ended (is_aborted i t u what) (is_sense_stopped i t u what) by_abort 1 s.commands b) h
-event_on q s b (events.Reset dev) h = as_before q b.carried (story_after_event s b (events.Reset dev)).carried (all_ended (λ c. true) (λ c. true) by_reset 1 s.commands b) h
+event_on q s b (events.Aborted i t u what) h = as_before q b.carried (story_after_event s b (events.Aborted i t u what)).carried (ends_carried (is_aborted i t u what) (is_sense_stopped i t u what) by_abort 1 s.commands b) h
+event_on q s b (events.Reset dev) h = as_before q b.carried (story_after_event s b (events.Reset dev)).carried (ends_carried (λ c. true) (λ c. true) by_reset 1 s.commands b) h
 
 pub events_on : (q : ProcId → List ℕ → Type 0) (s : ScenarioValue) (b : Story) (shown : List Event) → OnAreas q b.carried → OnAreas q (story_after_events s b shown).carried
 events_on q s b [] h = h
@@ -202,7 +202,7 @@ change_on q s b d row h t = go d.change.after.rst refl b.bus_state.connection re
 
     go : (r : Bool) → d.change.after.rst ≡ r → (x : Option Connection) → b.bus_state.connection ≡ x → (y : Option Connection) → d.next ≡ y → OnAreas q (if r then record b { link = None } else story_on_bus s b x y d row).carried
     go true e x ex y ey = h
-    go false e None ex None ey = as_before q b.carried (story_on_free_bus s b d row).carried (free_carries s b d row) h
+    go false e None ex None ey = as_before q b.carried (story_on_free_bus s b d row).carried (free_carried s b d row) h
     go false e None ex (Some n) ey = begun_on q b n h
     go false e (Some m) ex None ey = h
     go false e (Some m) ex (Some n) ey = inside b.link (λ l f. t m n l e ex ey f)

@@ -52,7 +52,8 @@ use Rattle.bus_books.specs.Giving.{AreGiven}
 use Rattle.bus_books.specs.Knowing.{Knows}
 use Rattle.bus_books.specs.Rows.{RowKind, still, strikes, crosses, turns}
 use Rattle.bus_books.specs.Traces.{GoesOn, RowOf, apart as row_apart, begins, goes_on as row_goes_on, ends as row_ends, under_reset}
-use Rattle.bus_books.proofs.Gives.{requests_stay, struck_same}
+use Rattle.bus_books.proofs.Gives.{requests_stay}
+use Rattle.bus_lines.proofs.Early.{struck_same}
 use Rattle.bus_books.proofs.InConnection.{in_connection, reading_is, same_phase_is}
 use Rattle.bus_laws.specs.Ends.{EndLines, ends_reselected, BeginsConnection, by_selection, by_reselection, Linked}
 use Rattle.bus_laws.proofs.Apart.{change_plain}

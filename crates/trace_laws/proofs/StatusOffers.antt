@@ -41,9 +41,8 @@ use Rattle.trace_laws.proofs.Impossible.{none_some}
 use Rattle.trace_laws.proofs.Kept.{requests_stay}
 use Rattle.trace_laws.proofs.LinkRows as rows
 use Rattle.trace_laws.proofs.LinkRows.{LinkRow, is_unasked}
-use Rattle.trace_laws.proofs.Tests.{not_first}
 use Rattle.trace_laws.proofs.Turns.{freed_connection}
-use Rattle.bus_base.proofs.Tests.{wrong, wrong'}
+use Rattle.bus_base.proofs.Tests.{wrong, wrong', not_first}
 
 -- ---- what is driven
 

@@ -24,6 +24,7 @@ use Rattle.bus_story.specs.HistoryEvents.{carried_if, queue_event, queue_events,
 use Rattle.bus_story.specs.Items.{Item, process, abort}
 use Rattle.bus_story.specs.Links.{Link, LastMessage, plain, complete, disconnect, abortive}
 use Rattle.bus_story.specs.Story.{Story}
+use Rattle.bus_story.proofs.CarriedLists.{carried_id}
 use Rattle.bus_dialogue.specs.declared.exchange.Phase.{Phase}
 use Rattle.bus_dialogue.specs.declared.exchange.Phase.TheVariants as phases
 use Rattle.bus_dialogue.specs.NextPhase.{phase_of}
@@ -33,7 +34,7 @@ use Rattle.bus_due.specs.RunSteps.{run_state, array_after_events}
 use Rattle.bus_due.proofs.Plains.{run_state_plain}
 use Rattle.bus_books.specs.Knowing.{Knows}
 use Rattle.bus_books.specs.Traces.{GoesOn, RowOf, apart as row_apart, begins, goes_on as row_goes_on, ends as row_ends, under_reset}
-use Rattle.bus_books.proofs.Lookups.{carried_id, id_is as ids_are}
+use Rattle.bus_books.proofs.Lookups.{id_is as ids_are}
 use Rattle.link_laws.specs.LinkStages.{AnyStage, apart, linked}
 use Rattle.trace_laws.specs.Places.{IsUntouched, PlacedIf, PlaceFacts}
 use Rattle.trace_laws.specs.Tells.{AreRepliesShown}

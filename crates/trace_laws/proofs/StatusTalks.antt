@@ -24,6 +24,7 @@ use Rattle.bus_story.specs.Items.{Item, process}
 use Rattle.bus_story.specs.Links.{Link, last_out}
 use Rattle.bus_story.specs.Story.{Story}
 use Rattle.bus_story.specs.TraceHistory.{story_with_carried, is_parity_error, story_after_out, story_after_in, carried_after_byte_if, story_after_byte, story_in_connection, story_on_bus, story_by_change}
+use Rattle.bus_story.proofs.CarriedLists.{carried_id}
 use Rattle.bus_dialogue.specs.declared.exchange.Phase.{Phase}
 use Rattle.bus_dialogue.specs.declared.exchange.Phase.TheVariants as phases
 use Rattle.bus_dialogue.specs.declared.exchange.Plan.{Plan}
@@ -33,7 +34,7 @@ use Rattle.bus_due.specs.RunState.{RunState, bus_of, carried_here}
 use Rattle.bus_due.specs.RunSteps.{run_state_after}
 use Rattle.bus_books.specs.Rows.{IsRowIn, reading_in}
 use Rattle.bus_books.proofs.InConnection.{reading_is}
-use Rattle.bus_books.proofs.Lookups.{self_id, id_is, carried_id, put_own}
+use Rattle.bus_books.proofs.Lookups.{self_id, id_is, put_own}
 use Rattle.trace_laws.specs.Statuses.{HasStatus, UndoesStatus, CarriesBy}
 use Rattle.trace_laws.proofs.Impossible.{none_some}
 use Rattle.trace_laws.proofs.LastRows.{KeptPlan, Stays, stays_as}

@@ -21,6 +21,7 @@ use Rattle.bus_story.specs.HistoryEvents.{carried_if, queue_event, status_event,
 use Rattle.bus_story.specs.BusState.{row_reading}
 use Rattle.bus_story.specs.Items.{Item, process}
 use Rattle.bus_story.specs.Links.{Link}
+use Rattle.bus_story.proofs.CarriedLists.{carried_id}
 use Rattle.bus_dialogue.specs.declared.exchange.Leaving.{Leaving}
 use Rattle.bus_dialogue.specs.declared.exchange.Next.{Next}
 use Rattle.bus_dialogue.specs.declared.exchange.Next.TheVariants as nexts
@@ -33,7 +34,7 @@ use Rattle.bus_due.specs.RunState.{RunState, array_of, or_start, process_served,
 use Rattle.bus_due.specs.RunSteps.{run_state, array_after_events}
 use Rattle.bus_due.specs.Tasks.{reply_now, status_by, task_if, task_of}
 use Rattle.bus_books.specs.Rows.{IsRowIn}
-use Rattle.bus_books.proofs.Lookups.{self_id, carried_id}
+use Rattle.bus_books.proofs.Lookups.{self_id}
 use Rattle.trace_laws.specs.Places.{IsTaken, PlacedBefore, PlacedIn, RunsOpen, PlaceFacts}
 use Rattle.trace_laws.specs.Tells.{AreRepliesShown, FailsIn, FailsBefore}
 use Rattle.trace_laws.proofs.AnsweredProcesses.{run_is}

@@ -10,6 +10,7 @@ use Rattle.bus_trace.specs.declared.connection.Connection.{Connection}
 use Rattle.bus_trace.specs.Changes.{change_of, rises}
 use Rattle.bus_trace.specs.Terms.{call, connection, connection_after, receiver, receiver_in, receiver_of}
 use Rattle.bus_trace.specs.Trace.{bus, drives}
+use Rattle.bus_trace.proofs.Sets.{same_self}
 use Rattle.bus_phases.specs.declared.dialogue.Dialogue.{Dialogue}
 use Rattle.bus_phases.specs.Dialogue.{dialogue, byte_crosses, phase_begins}
 use Rattle.bus_rules.specs.Order.{is_of_device}
@@ -19,7 +20,7 @@ use Rattle.bus_laws.specs.Rows.{row_of_fault, change_to}
 use Rattle.bus_laws.specs.Ends.{EndLines, connected_bus, Linked}
 use Rattle.bus_laws.proofs.Rows.{fault_change}
 use Rattle.link_laws.proofs.Faults.{linked_fault}
-use Rattle.link_laws.proofs.Moves.{terms_after, same_self, no_rise}
+use Rattle.link_laws.proofs.Moves.{terms_after, no_rise}
 use Rattle.trace_laws.proofs.Driven.{Driven, AfterDriven, goes_on, no_third}
 use Rattle.trace_laws.proofs.Tests.{none_both}
 use Rattle.bus_base.proofs.Tests.{wrong, wrong'}

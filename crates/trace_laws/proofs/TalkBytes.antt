@@ -18,6 +18,7 @@ use Rattle.msg_grammar.specs.declared.message.MsgIn.{MsgIn}
 use Rattle.msg_grammar.specs.declared.message.MsgIn.TheVariants as to_initiator
 use Rattle.msg_grammar.specs.declared.message.MsgOut.{MsgOut}
 use Rattle.msg_grammar.specs.Messages.{form_in, got_in, got_out, in_bytes}
+use Rattle.msg_grammar.specs.Grammar.{is_abort}
 use Rattle.scenario.specs.Value.{ScenarioValue}
 use Rattle.disk_array.specs.Processes.{Process}
 use Rattle.bus_story.specs.BusState.{whole_in, whole_out, message_in, message_out}
@@ -40,7 +41,7 @@ use Rattle.bus_books.proofs.Gives.{byte_messages, answered_same, in_same, not_bo
 use Rattle.bus_books.proofs.Hearable.{heard_next}
 use Rattle.bus_books.proofs.InConnection.{InConnection, in_connection, same_phase_is}
 use Rattle.trace_laws.proofs.Impossible.{none_some}
-use Rattle.trace_laws.proofs.OutMessages.{is_abort_out, NoAbort, out_is_no_abort, last_is_whole}
+use Rattle.trace_laws.proofs.OutMessages.{NoAbort, out_is_no_abort, last_is_whole}
 use Rattle.trace_laws.proofs.RowItems.{over_after, LinkAfter, says, hears, stays, heard_link, link_crossed}
 use Rattle.trace_laws.proofs.TalkSteps.{CrossesIn, incomplete, in_part, in_whole, out_part, out_whole, other_crosses}
 use Rattle.trace_laws.proofs.TalkRows.{TalkRow, a_request}
@@ -337,7 +338,7 @@ out_talk s k row n c l dev g el h ep er ef here m em = go (link_crossed s k row 
     to : (x : Link) → j.story.link ≡ Some x → TalksBy s (record (talk_of k) { bus = c.after; requests = j.handshakes.requests; is_last = not c.after.atn }) n x → TalksBy s (talk_of j) n m
     to x z f = subst (λ (y : Link). TalksBy s (talk_of j) n y) (same_Some x m (sym z ∙ em)) (subst (λ (y : Talk). TalksBy s y n x) (sym same) f)
 
-    no_abort : (x : MsgOut) → message_out d c true ≡ Some x → is_sense_item k.served ≡ true → is_abort_out x ≡ false
+    no_abort : (x : MsgOut) → message_out d c true ≡ Some x → is_sense_item k.served ≡ true → is_abort x ≡ false
     no_abort x e f =
         let w = served_process k.served f in
         subst (λ (y : Option MsgOut). NoAbort y) (sym said ∙ e)

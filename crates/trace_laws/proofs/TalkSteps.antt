@@ -10,6 +10,7 @@ use Rattle.msg_grammar.specs.declared.message.MsgIn.{MsgIn}
 use Rattle.msg_grammar.specs.declared.message.MsgIn.TheVariants as to_initiator
 use Rattle.msg_grammar.specs.declared.message.MsgOut.{MsgOut}
 use Rattle.msg_grammar.specs.declared.message.MsgOut.TheVariants as to_target
+use Rattle.msg_grammar.specs.Grammar.{is_abort}
 use Rattle.scenario.specs.Value.{ScenarioValue}
 use Rattle.disk_array.specs.Processes.{Process}
 use Rattle.bus_story.specs.Items.{Item, process, has_item, Sent}
@@ -22,7 +23,6 @@ use Rattle.bus_dialogue.specs.Exchange.{bytes_of_messages}
 use Rattle.bus_books.specs.Giving.{OnMessages}
 use Rattle.bus_books.proofs.Gives.{not_both}
 use Rattle.trace_laws.proofs.NamedSteps.{out_last}
-use Rattle.trace_laws.proofs.OutMessages.{is_abort_out}
 use Rattle.trace_laws.proofs.RowItems.{heard_link}
 use Rattle.trace_laws.specs.ItemTalks.{is_complete_in, is_disconnect_in, frees_bus, plans_well, is_sense_item, is_plain, Talk, awaits, IsTaken, HasEnded, last_well, IsNameOf, IsUnnamed, HasNames, TalksBy}
 use Rattle.trace_laws.proofs.Tests.{less_apart, or_first}
@@ -261,7 +261,7 @@ out_part s t n l b requests last out out' unfinished h = record {
   names = λ r. out_named s t n l l b requests last out refl (h.names r);
 }
 
-out_plain : (m : MsgOut) (l : Link) → is_plain l.before ≡ true → is_abort_out m ≡ false → (is_plain (last_out m l) || is_complete (last_out m l)) ≡ true
+out_plain : (m : MsgOut) (l : Link) → is_plain l.before ≡ true → is_abort m ≡ false → (is_plain (last_out m l) || is_complete (last_out m l)) ≡ true
 out_plain (to_target.Identify disc lun) l e f = refl
 out_plain (to_target.SimpleTag n) l e f = refl
 out_plain (to_target.HeadTag n) l e f = refl
@@ -279,7 +279,7 @@ out_plain to_target.Nop l e f = refl
 pub last_before : (sense : Bool) (l : Link) → last_well sense l ≡ true → is_complete l.before ≡ false
 last_before sense l e = not-true (is_complete l.before) (and_parts (not (is_complete l.before)) (not sense || (is_plain l.before && (is_plain l.last || is_complete l.last))) e).0
 
-pub out_whole : (s : ScenarioValue) (t : Talk) (n : Connection) (l : Link) (m : MsgOut) (b : LineSet) (requests : ℕ) (last : Bool) → is_message_out t.bus ≡ true → is_message_out b ≡ true → (is_sense_item t.served ≡ true → is_abort_out m ≡ false) → TalksBy s t n l → TalksBy s (record t { bus = b; requests = requests; is_last = last }) n (record l { last = last_out m l })
+pub out_whole : (s : ScenarioValue) (t : Talk) (n : Connection) (l : Link) (m : MsgOut) (b : LineSet) (requests : ℕ) (last : Bool) → is_message_out t.bus ≡ true → is_message_out b ≡ true → (is_sense_item t.served ≡ true → is_abort m ≡ false) → TalksBy s t n l → TalksBy s (record t { bus = b; requests = requests; is_last = last }) n (record l { last = last_out m l })
 out_whole s t n l m b requests last out out' whole h = record {
   planned = h.planned;
   last = make_last (is_sense_item t.served) (record l { last = last_out m l }) before (λ z. let k = plain_last (is_sense_item t.served) l h.last z in (k.0, out_plain m l k.0 (whole z)));

@@ -37,7 +37,9 @@ use Rattle.bus_due.specs.Sights.{serving_of, leaving}
 use Rattle.bus_due.specs.Tasks.{task_of, task_if}
 use Rattle.bus_due.specs.Telling.{same_events, id_of, target_events, initiator_events, events_of_ends, events_of_ends_in, is_true_telling}
 use Rattle.scsi_device.specs.Lines.{AreUnits}
-use Rattle.bus_books.specs.Reactions.{is_command_phase, IsOver}
+use Rattle.scsi_device.specs.Heard.{is_command_phase}
+use Rattle.scsi_device.proofs.PhaseLines.{command_is}
+use Rattle.bus_books.specs.Reactions.{IsOver}
 use Rattle.bus_books.specs.Rows.{IsRowIn, reading_in}
 use Rattle.bus_books.specs.Speaking.{Speaks}
 use Rattle.bus_books.proofs.CarriedRows.{process_id}
@@ -46,7 +48,7 @@ use Rattle.bus_books.proofs.Opened.{opening_named}
 use Rattle.bus_books.proofs.Reactions.{out_over, command_over}
 use Rattle.trace_laws.specs.Tells.{LastIn, AreRepliesShown, LastAsked, IsServed, of_process, of_abort, Tells}
 use Rattle.trace_laws.proofs.CommandNext.{out_unstruck}
-use Rattle.trace_laws.proofs.PhaseLines.{out_lines, command_is}
+use Rattle.trace_laws.proofs.PhaseLines.{out_lines}
 use Rattle.trace_laws.proofs.TellEnds.{goes_on, lost_told, naming_goes_on, none_heard, abort_told}
 use Rattle.trace_laws.proofs.TellEvents.{same_lists, self_events}
 use Rattle.trace_laws.proofs.TellTurns.{refused, turn_told}

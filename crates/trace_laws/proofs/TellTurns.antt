@@ -20,6 +20,7 @@ use Rattle.bus_story.specs.CarriedBytes.{CarriedBytes, is_whole_block, is_status
 use Rattle.bus_story.specs.HistoryEvents.{is_refuse, queue_event, queue_events, status_event, phase_events}
 use Rattle.bus_story.specs.Items.{process}
 use Rattle.bus_story.specs.Story.{Story}
+use Rattle.bus_story.proofs.CarriedLists.{carried_id}
 use Rattle.bus_dialogue.specs.declared.exchange.Arrival.{Arrival}
 use Rattle.bus_dialogue.specs.declared.exchange.Cause.{Cause}
 use Rattle.bus_dialogue.specs.declared.exchange.Cause.TheVariants as causes
@@ -38,14 +39,13 @@ use Rattle.bus_due.specs.Defs.{target_def_of}
 use Rattle.bus_due.specs.RunState.{RunState, bus_of, or_start, array_of, process_item, process_served, carried_here}
 use Rattle.bus_due.specs.Sights.{arrival_at, serving_of, leaving}
 use Rattle.bus_due.specs.Tasks.{arrival_if, task_of, task_if}
-use Rattle.bus_books.specs.Reactions.{is_command_phase}
 use Rattle.bus_books.proofs.CarriedRows.{process_id}
-use Rattle.bus_books.proofs.Lookups.{carried_id}
 use Rattle.trace_laws.specs.Tells.{AreRepliesShown, FailsIn}
-use Rattle.trace_laws.proofs.PhaseLines.{command_is}
 use Rattle.trace_laws.proofs.TellEvents.{arrives, with_status, command_reply, whole_block}
 use Rattle.bus_base.proofs.Tests.{wrong, wrong'}
 use Rattle.trace_laws.specs.DataPointers.{is_marked}
+use Rattle.scsi_device.specs.Heard.{is_command_phase}
+use Rattle.scsi_device.proofs.PhaseLines.{command_is}
 
 -- ---- the lines of a phase
 

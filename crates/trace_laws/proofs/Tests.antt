@@ -22,10 +22,6 @@ or_first true b z e = refl
 or_first false true z e = wrong e
 or_first false false z e = wrong' z
 
-pub not_first : (a b : Bool) → (not a && b) ≡ true → a ≡ false
-not_first true b e = wrong' e
-not_first false b e = refl
-
 pub not_unless : (a b : Bool) → (a ≡ true → b ≡ true) → b ≡ false → a ≡ false
 not_unless true b h e = wrong (sym (h refl) ∙ e)
 not_unless false b h e = refl

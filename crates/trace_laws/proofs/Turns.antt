@@ -31,7 +31,7 @@ use Rattle.bus_dialogue.specs.Arrivals.{policy_of}
 use Rattle.bus_dialogue.specs.DataRuns.{runs_in_all}
 use Rattle.bus_dialogue.specs.Exchange.{bytes_of_messages, one_message}
 use Rattle.bus_dialogue.specs.Hearing.{begun}
-use Rattle.bus_dialogue.specs.NextPhase.{Serving, phase_of, phase_leaving, leaving_by, bus_free, phase_entry, recovery, recovery_limit, pointer_restoration, next_data_phase, request_or_command, after_offer, message_repetition, message_out_leaving, after_messages, disconnection, disconnect_messages, after_arrival, command_leaving, after_run, data_in_leaving, data_out_leaving, with_task}
+use Rattle.bus_dialogue.specs.NextPhase.{Serving, phase_of, phase_leaving, leaving_by, bus_free, phase_entry, recovery, pointer_restoration, next_data_phase, request_or_command, after_offer, message_repetition, message_out_leaving, after_messages, disconnection, disconnect_messages, after_arrival, command_leaving, after_run, data_in_leaving, data_out_leaving, with_task}
 use Rattle.bus_dialogue.specs.PhaseBytes.{lines_by}
 use Rattle.bus_dialogue.specs.Words.{request_by, is_naming}
 use Rattle.msg_grammar.specs.declared.message.MsgIn.{MsgIn}
@@ -50,7 +50,7 @@ use Rattle.bus_laws.proofs.Rows.{drives_own, drives_other}
 use Rattle.link_laws.specs.Phases.{ends}
 use Rattle.link_laws.proofs.EndDues.{offering_with}
 use Rattle.link_laws.proofs.Enters.{enters}
-use Rattle.link_laws.proofs.Leaves.{may_leave}
+use Rattle.link_laws.proofs.Leaves.{may_leave, recovers}
 use Rattle.link_laws.proofs.LinkObeys.{same_phases}
 use Rattle.link_laws.proofs.Moves.{terms_of, target_moves}
 use Rattle.link_laws.proofs.PhaseEnds.{leaves_lines}
@@ -59,8 +59,8 @@ use Rattle.trace_laws.proofs.Driven.{message_at, AfterDriven, goes_on, frees, od
 use Rattle.trace_laws.proofs.InPhase.{Values}
 use Rattle.trace_laws.proofs.Kept.{turn, row_in, target_end}
 use Rattle.trace_laws.proofs.LinkRows.{has_first, is_unasked}
-use Rattle.trace_laws.proofs.Tests.{none_both, not_first}
-use Rattle.bus_base.proofs.Tests.{wrong, wrong', eq_self}
+use Rattle.trace_laws.proofs.Tests.{none_both}
+use Rattle.bus_base.proofs.Tests.{wrong, wrong', eq_self, not_first}
 
 -- ---- MESSAGE OUT begins after a selection
 
@@ -81,14 +81,6 @@ record AllBut (f : Option Phase → Bool) : Type 0 where
   pub command : f (Some phases.Command) ≡ true
   pub status : f (Some phases.Status) ≡ true
   pub message : f (Some phases.MessageIn) ≡ true
-
-recovers : (f : Option Phase → Bool) (def : Option TargetDef) (t : Task) (a b : Leaving) → f a.to ≡ true → f b.to ≡ true → f (recovery def t a b).to ≡ true
-recovers f def t a b h k = go t.in_hold (nat_lt t.recoveries (recovery_limit def))
-  where
-    go : (q r : Bool) → f (if q then a else if r then record a { counts = true } else b).to ≡ true
-    go true r = h
-    go false true = h
-    go false false = k
 
 data_phase : (f : Option Phase → Bool) (g : AllBut f) (policy : Policy) (t : Task) (made : ℕ) → f (Some (next_data_phase policy t made)) ≡ true
 data_phase f g policy t made = go t.replied (nat_lt made (runs_in_all policy t)) t.writes

@@ -34,7 +34,8 @@ use Rattle.bus_laws.proofs.Prompt.{least_is}
 use Rattle.bus_books.specs.Knowing.{Knows}
 use Rattle.bus_books.specs.Rows.{RowKind, still, strikes, crosses, turns}
 use Rattle.bus_books.specs.Traces.{GoesOn}
-use Rattle.bus_books.proofs.Gives.{requests_stay, struck_same, in_io}
+use Rattle.bus_books.proofs.Gives.{requests_stay, in_io}
+use Rattle.bus_lines.proofs.Early.{struck_same}
 use Rattle.bus_books.proofs.InConnection.{in_connection, reading_is}
 use Rattle.trace_laws.specs.Tells.{UndoesSame, UndoFits, UndoAsked, UndoBy, UndoBooks, UndoFacts}
 use Rattle.trace_laws.proofs.BlockRows.{undo_of}

@@ -31,7 +31,6 @@ use Rattle.bus_books.specs.Listening.{half_after}
 use Rattle.bus_books.specs.Rows.{IsRowIn, reading_in}
 use Rattle.bus_books.proofs.InConnection.{reading_is}
 use Rattle.bus_books.proofs.Knows.{link_after}
-use Rattle.bus_books.proofs.Lookups.{carried_id}
 use Rattle.bus_dialogue.specs.Exchange.{bytes_of_messages, message_bytes}
 use Rattle.trace_laws.specs.Tells.{UndoesAnswers, UndoesSame, UndoFits, is_short}
 use Rattle.trace_laws.proofs.Impossible.{none_some}
@@ -41,6 +40,7 @@ use Rattle.trace_laws.proofs.TellRows.{no_events, row_shows}
 use Rattle.bus_base.proofs.Tests.{wrong'}
 use Rattle.trace_laws.specs.DataPointers.{is_marked}
 use Rattle.bus_story.proofs.StorySteps.{carried_link}
+use Rattle.bus_story.proofs.CarriedLists.{carried_id}
 
 -- ---- the answers after a row
 

@@ -26,19 +26,20 @@ use Rattle.bus_due.specs.RunState.{RunState, bus_of}
 use Rattle.bus_due.specs.RunSteps.{run_state_after}
 use Rattle.bus_due.specs.Sights.{serving_of, leaving, hearing_of}
 use Rattle.bus_books.specs.Hearing.{LeavesWhole}
-use Rattle.bus_books.specs.Reactions.{is_command_phase}
 use Rattle.bus_books.specs.Rows.{reading_in}
 use Rattle.bus_books.specs.Speaking.{Speaks}
 use Rattle.bus_books.specs.Traces.{GoesOn}
 use Rattle.bus_books.proofs.InConnection.{InConnection, in_connection}
 use Rattle.trace_laws.specs.Tells.{UndoesSame, UndoFits, UndoAsked, UndoBy, UndoBooks, is_short}
-use Rattle.trace_laws.proofs.PhaseLines.{out_lines, command_is, out_phase, in_phase}
+use Rattle.trace_laws.proofs.PhaseLines.{out_lines, out_phase, in_phase}
 use Rattle.trace_laws.proofs.TellTurns.{status_lines}
 use Rattle.trace_laws.proofs.UndoneAnswers.{asked_fits}
 use Rattle.trace_laws.proofs.UndoneLeavings.{is_to_message_in, leaves_short}
 use Rattle.trace_laws.proofs.UndoneRows.{IsKeptInside, fits_on}
 use Rattle.bus_base.proofs.Tests.{wrong, wrong'}
 use Rattle.trace_laws.specs.Offers.{is_detected}
+use Rattle.scsi_device.specs.Heard.{is_command_phase}
+use Rattle.scsi_device.proofs.PhaseLines.{command_is}
 
 -- ---- a phase is left for another
 

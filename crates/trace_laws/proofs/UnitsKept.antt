@@ -1,5 +1,5 @@
 -- What holds of each unit of the plain disk array holds after an event, where it is kept by all that events make of a unit.
-use Rattle.std.proofs.Common.{ℕ, ◌≡◌, Bool, true, false, not, ◌&&◌, ◌||◌, ◌==◌, ◌∙◌, List, [], ◌∷◌, ◌++◌, Option, Some, None, refl, sym, ap, subst}
+use Rattle.std.proofs.Common.{ℕ, ◌≡◌, Bool, true, false, not, ◌&&◌, ◌||◌, ◌==◌, List, [], ◌∷◌, ◌++◌, Option, Some, None, refl, sym, subst}
 use Rattle.std.specs.Prelude.{if◌then◌else◌, is_some, is_none, nat_lt, ⊤}
 use Rattle.std.proofs.lemmas.Option.{same_Some}
 use Rattle.bus_base.specs.declared.ProcId.{ProcId}
@@ -8,19 +8,20 @@ use Rattle.bus_base.specs.declared.AbortKind.TheVariants as aborts
 use Rattle.bus_base.specs.declared.Event.{Event}
 use Rattle.bus_base.specs.declared.Event.TheVariants as events
 use Rattle.cdb_codec.specs.declared.sense.TheConstants.{ABORTED_COMMAND}
-use Rattle.cdb_codec.specs.declared.status.TheConstants.{GOOD, CHECK_CONDITION}
 use Rattle.cdb_codec.specs.Cdb.{command_of}
-use Rattle.scenario.specs.declared.value.HostDef.{HostDef}
 use Rattle.scenario.specs.Value.{ScenarioValue}
 use Rattle.disk_array.specs.Contents.{Contents}
 use Rattle.disk_array.specs.Processes.{Process, process_of}
-use Rattle.disk_array.specs.Execution.{Reply, Execution, execution, is_request_sense, commands_cleared, check_condition, queue_full, sense_of}
-use Rattle.disk_array.specs.Units.{RunningProcess, UnitState, Nexus, Array, is_held, unit_state_at, with_unit, nexus_of, guest_at, unit_after_choice, units_after_choice, settled_array, starting_array, senses_without, nexuses_without, sense_of_nexus}
+use Rattle.disk_array.specs.Execution.{Reply, Execution, execution, is_request_sense, check_condition, queue_full, sense_of}
+use Rattle.disk_array.specs.Units.{RunningProcess, UnitState, Nexus, Array, is_held, unit_state_at, with_unit, nexus_of, guest_at, unit_after_choice, units_after_choice, settled_array, starting_array}
 use Rattle.disk_array.specs.Steps as Steps
 use Rattle.disk_array.specs.Steps.{is_of_unit, has_tag}
 use Rattle.disk_array.specs.ArrayHistory.{array_step}
+use Rattle.disk_array.proofs.SeatEvents.{status_units}
+use Rattle.disk_array.proofs.ArrayUnits.{unit_reset_units, cleared_units}
 use Rattle.bus_due.specs.RunState.{or_start}
 use Rattle.bus_due.specs.RunSteps.{array_after_events}
+use Rattle.bus_due.proofs.Lookups.{none_stays}
 use Rattle.trace_laws.specs.WriteFacts.{AllUnits}
 use Rattle.trace_laws.proofs.Impossible.{none_some}
 
@@ -74,39 +75,6 @@ left_units q (u ∷ units) id f h = (f.without u id h.0, left_units q units id f
 pub kept_units : (q : UnitState → Type 0) (drops : Process → Bool) (units : List UnitState) → StaysSo q → AllUnits q units → AllUnits q (Steps.kept_units drops units)
 kept_units q drops [] f h = tt
 kept_units q drops (u ∷ units) f h = (f.kept u drops h.0, kept_units q drops units f h.1)
-
--- ---- what leaves the units as they are
-
-pub hosts_same : (hosts : List HostDef) (t n : ℕ) (a : Array) → (Steps.reset_attentions hosts t n a).units ≡ a.units
-hosts_same [] t n a = refl
-hosts_same (h ∷ hosts) t n a = hosts_same hosts t n (Steps.reset_attention a (record { initiator = h.dev; target = t; unit = n }))
-
-pub attended_same : (hosts : List HostDef) (units : List UnitState) (is_one : UnitState → Bool) (a : Array) → (Steps.unit_reset_attentions hosts units is_one a).units ≡ a.units
-attended_same hosts [] is_one a = refl
-attended_same hosts (u ∷ units) is_one a = attended_same hosts units is_one (if is_one u then Steps.reset_attentions hosts u.target u.unit a else a) ∙ go (is_one u)
-  where
-    go : (x : Bool) → (if x then Steps.reset_attentions hosts u.target u.unit a else a).units ≡ a.units
-    go true = hosts_same hosts u.target u.unit a
-    go false = refl
-
-pub cleared_same : (initiator : ℕ) (lost : List Process) (a : Array) → (Steps.cleared_attentions initiator lost a).units ≡ a.units
-cleared_same initiator [] a = refl
-cleared_same initiator (p ∷ lost) a =
-    cleared_same initiator lost (if p.initiator == initiator then a else Steps.cleared_attention a (nexus_of p))
-    ∙ go (p.initiator == initiator) (Steps.is_reset_pending (sense_of_nexus a.attentions (nexus_of p)))
-  where
-    go : (x y : Bool) → (if x then a else (if y then a else record a { attentions = (nexus_of p, commands_cleared) ∷ senses_without a.attentions (nexus_of p) })).units ≡ a.units
-    go true y = refl
-    go false true = refl
-    go false false = refl
-
-status_same : (a : Array) (p : Process) (reply : Reply) → (Steps.after_status a p reply).units ≡ a.units
-status_same a p reply = go (reply.status == CHECK_CONDITION) (reply.status == GOOD && is_request_sense (command_of p.cdb))
-  where
-    go : (x y : Bool) → (if x then record a { senses = (nexus_of p, reply.sense) ∷ senses_without a.senses (nexus_of p); holds = nexus_of p ∷ nexuses_without a.holds (nexus_of p) } else if y then record a { senses = senses_without a.senses (nexus_of p); holds = nexuses_without a.holds (nexus_of p) } else a).units ≡ a.units
-    go true y = refl
-    go false true = refl
-    go false false = refl
 
 -- ---- an event
 
@@ -186,7 +154,7 @@ ended q a status (Some r) f h = by r.reply
     by None = tt
     by (Some reply) =
         all_if q (reply.status == status) (Steps.array_without (Steps.after_status a r.process reply) r.process.id)
-        (left_units q (Steps.after_status a r.process reply).units r.process.id f (subst (λ (x : List UnitState). AllUnits q x) (sym (status_same a r.process reply)) h))
+        (left_units q (Steps.after_status a r.process reply).units r.process.id f (subst (λ (x : List UnitState). AllUnits q x) (sym (status_units a r.process reply)) h))
 
 pub lost : (q : UnitState → Type 0) (a : Array) (id : ProcId) → StaysSo q → AllUnits q a.units → IfAll q (Steps.loss_step a id)
 lost q a id f h = go (Steps.has_ended a id)
@@ -203,21 +171,21 @@ aborted s q a i t n aborts.All f h = dropped q a (Steps.abort_step s a i t n abo
 aborted s q a i t n (aborts.Tag tag) f h = dropped q a (Steps.abort_step s a i t n (aborts.Tag tag)) (λ p. p.initiator == i && is_of_unit p t n && has_tag p.tag tag) f refl h
 aborted s q a i t n aborts.WholeQueue f h =
     dropped q a (Steps.abort_step s a i t n aborts.WholeQueue) (λ p. is_of_unit p t n) f
-    (cleared_same i (Steps.unit_processes (unit_state_at a.units t n)) (Steps.without_dropped a (λ p. is_of_unit p t n))) h
+    (cleared_units i (Steps.unit_processes (unit_state_at a.units t n)) (Steps.without_dropped a (λ p. is_of_unit p t n))) h
 aborted s q a i t n aborts.Device f h =
     dropped q a (Steps.abort_step s a i t n aborts.Device) (λ p. p.target == t) f
-    (attended_same s.hosts a.units (λ u. u.target == t) (record (Steps.without_dropped a (λ p. p.target == t)) { senses = Steps.kept_senses (λ r. r.target == t) a.senses; holds = Steps.kept_nexuses (λ r. r.target == t) a.holds })) h
+    (unit_reset_units s.hosts a.units (λ u. u.target == t) (record (Steps.without_dropped a (λ p. p.target == t)) { senses = Steps.kept_senses (λ r. r.target == t) a.senses; holds = Steps.kept_nexuses (λ r. r.target == t) a.holds })) h
 
 reset : (s : ScenarioValue) (q : UnitState → Type 0) (a : Array) → StaysSo q → AllUnits q a.units → AllUnits q (Steps.reset_step s a).units
 reset s q a f h =
     dropped q a (Steps.reset_step s a) (λ p. true) f
-    (attended_same s.hosts a.units (λ u. true) (record (Steps.without_dropped a (λ p. true)) { senses = []; holds = [] })) h
+    (unit_reset_units s.hosts a.units (λ u. true) (record (Steps.without_dropped a (λ p. true)) { senses = []; holds = [] })) h
 
 -- By RST, whatever held before.
 pub reset_all : (s : ScenarioValue) (q : UnitState → Type 0) (a : Array) (dev : ℕ) → StaysSo q → AllUnits q (Steps.kept_units (λ p. true) a.units) → IfAll q (Steps.step s (events.Reset dev) a)
 reset_all s q a dev f h =
     let kept : Array = record (Steps.without_dropped a (λ p. true)) { senses = []; holds = [] } in
-    settled_units q (Steps.reset_step s a).holds (Steps.reset_step s a).units f (subst (λ (x : List UnitState). AllUnits q x) (sym (attended_same s.hosts a.units (λ u. true) kept)) h)
+    settled_units q (Steps.reset_step s a).holds (Steps.reset_step s a).units f (subst (λ (x : List UnitState). AllUnits q x) (sym (unit_reset_units s.hosts a.units (λ u. true) kept)) h)
 
 event_all : (s : ScenarioValue) (q : UnitState → Type 0) (a : Array) (event : Event) → StaysSo q → Admits s q a event → AllUnits q a.units → IfAll q (Steps.event_step s a event)
 event_all s q a (events.Accept id) f own h = accepted s q a id own h
@@ -276,10 +244,6 @@ shown_all s q a (event ∷ (other ∷ shown)) f own h = go (array_after_events s
     go : (o : Option Array) → IfAll q o → IfAll q (array_step s event o)
     go None k = tt
     go (Some b) k = step_all s q b event f (arrives_none s q b event own.0) k
-
-none_stays : (s : ScenarioValue) (shown : List Event) → array_after_events s None shown ≡ None
-none_stays s [] = refl
-none_stays s (event ∷ shown) = ap (array_step s event) (none_stays s shown)
 
 -- The array after them.
 pub events_all : (s : ScenarioValue) (q : UnitState → Type 0) (o : Option Array) (shown : List Event) → StaysSo q → ArrivesFirst (MayWait s q (or_start s o)) shown → AllUnits q (starting_array s).units → AllUnits q (or_start s o).units → AllUnits q (or_start s (array_after_events s o shown)).units

@@ -1,6 +1,6 @@
 -- While the target does not know the command after a selection, STATUS begins only with a failure, or with an answer that was given.
 use Rattle.std.proofs.Common.{ℕ, ◌≡◌, Bool, true, false, not, ◌&&◌, ◌∙◌, List, [], ◌∷◌, Option, Some, None, refl, sym, ap}
-use Rattle.std.specs.Prelude.{if◌then◌else◌, is_some, nat_lt}
+use Rattle.std.specs.Prelude.{if◌then◌else◌, is_some}
 use Rattle.std.specs.List.{list_any}
 use Rattle.std.proofs.lemmas.Bool.{or_from, not-false}
 use Rattle.bus_base.specs.declared.Event.{Event}
@@ -8,7 +8,6 @@ use Rattle.bus_base.specs.declared.Event.TheVariants as events
 use Rattle.bus_base.specs.declared.ProcId.{ProcId}
 use Rattle.bus_trace.specs.declared.changes.Change.{Change}
 use Rattle.bus_trace.specs.Phases.{is_command}
-use Rattle.scenario.specs.declared.value.TargetDef.{TargetDef}
 use Rattle.scenario.specs.Value.{ScenarioValue}
 use Rattle.disk_array.specs.ArrayHistory.{array_after}
 use Rattle.bus_story.specs.CarriedBytes.{CarriedBytes, is_status_phase, is_whole_block}
@@ -16,15 +15,14 @@ use Rattle.bus_story.specs.HistoryEvents.{is_refuse, phase_events, queue_event, 
 use Rattle.bus_story.specs.Story.{Story}
 use Rattle.bus_dialogue.specs.declared.exchange.Cause.{Cause}
 use Rattle.bus_dialogue.specs.declared.exchange.Cause.TheVariants as causes
-use Rattle.bus_dialogue.specs.declared.exchange.Leaving.{Leaving}
 use Rattle.bus_dialogue.specs.declared.exchange.Next.{Next}
 use Rattle.bus_dialogue.specs.declared.exchange.Next.TheVariants as nexts
 use Rattle.bus_dialogue.specs.declared.exchange.Phase.{Phase}
 use Rattle.bus_dialogue.specs.declared.exchange.Phase.TheVariants as phases
-use Rattle.bus_dialogue.specs.declared.exchange.Task.{Task}
 use Rattle.bus_dialogue.specs.Events.{is_status_next}
-use Rattle.bus_dialogue.specs.NextPhase.{Serving, after_messages, bus_free, leaving_by, message_out_leaving, message_repetition, phase_entry, phase_leaving, phase_of, pointer_restoration, recovery, recovery_limit, unless_attention, with_task}
+use Rattle.bus_dialogue.specs.NextPhase.{Serving, after_messages, bus_free, leaving_by, message_out_leaving, message_repetition, phase_entry, phase_leaving, phase_of, pointer_restoration, recovery, unless_attention, with_task}
 use Rattle.bus_dialogue.specs.Words.{is_naming}
+use Rattle.bus_dialogue.proofs.Leavings.{task_not, recovery_not}
 use Rattle.bus_due.specs.RunState.{RunState, bus_of, carried_here}
 use Rattle.bus_due.specs.Sights.{leaving, serving_of}
 use Rattle.trace_laws.specs.AttendanceAsked.{LeftAnswered}
@@ -36,28 +34,16 @@ use Rattle.bus_base.proofs.Tests.{wrong, wrong'}
 
 -- ---- MESSAGE OUT leads to STATUS only where data were rejected
 
-pub tasks : (o : Option Task) (f : Task → Leaving) → ((t : Task) → is_status_next (f t).to ≡ false) → is_status_next (with_task o f).to ≡ false
-tasks None f h = refl
-tasks (Some t) f h = h t
-
-pub recovers : (def : Option TargetDef) (t : Task) (again gives_up : Leaving) → is_status_next again.to ≡ false → is_status_next gives_up.to ≡ false → is_status_next (recovery def t again gives_up).to ≡ false
-recovers def t again gives_up e f = go t.in_hold (nat_lt t.recoveries (recovery_limit def))
-  where
-    go : (q r : Bool) → is_status_next (if q then again else if r then record again { counts = true } else gives_up).to ≡ false
-    go true r = e
-    go false true = e
-    go false false = f
-
 pub refused : (v : Serving) → is_status_next (message_out_leaving v causes.InMessage).to ≡ false
 refused v = go (is_some v.plan.said.offer) (is_naming v.plan.messages.first)
   where
     go : (q r : Bool) → is_status_next (if q then phase_entry phases.Command else if r then message_repetition v.plan else with_task v.task (λ t. recovery v.def t (message_repetition v.plan) bus_free)).to ≡ false
     go true r = refl
     go false true = refl
-    go false false = tasks v.task _ (λ t. recovers v.def t (message_repetition v.plan) bus_free refl refl)
+    go false false = task_not v.task _ (λ t. recovery_not v.def t (message_repetition v.plan) bus_free refl refl)
 
 rejected : (v : Serving) → is_status_next (message_out_leaving v causes.InStatus).to ≡ false
-rejected v = tasks v.task _ (λ t. recovers v.def t (pointer_restoration nexts.Status) bus_free refl refl)
+rejected v = task_not v.task _ (λ t. recovery_not v.def t (pointer_restoration nexts.Status) bus_free refl refl)
 
 -- ---- any phase
 

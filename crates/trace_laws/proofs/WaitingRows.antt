@@ -9,6 +9,7 @@ use Rattle.bus_trace.specs.Changes.{change_of}
 use Rattle.bus_trace.specs.Phases.{changes_phase}
 use Rattle.bus_trace.specs.Terms.{call, connection, connection_after}
 use Rattle.bus_trace.specs.Trace.{bus, drives, last_time}
+use Rattle.bus_trace.proofs.Sets.{same_self}
 use Rattle.bus_lines.specs.Handshakes.{handshakes}
 use Rattle.bus_phases.specs.declared.words.End.TheVariants as sides
 use Rattle.bus_phases.specs.Dialogue.{dialogue, is_of_other}
@@ -24,7 +25,7 @@ use Rattle.bus_laws.specs.Rows.{change_to, row_of_fault, row_of_lines}
 use Rattle.bus_laws.proofs.Rows.{fault_change}
 use Rattle.link_laws.specs.Phases.{ends}
 use Rattle.link_laws.proofs.EndDues.{answering_with, offering_with}
-use Rattle.link_laws.proofs.Moves.{initiator_moves, no_rise, phase_same, same_self, target_moves}
+use Rattle.link_laws.proofs.Moves.{initiator_moves, no_rise, phase_same, target_moves}
 use Rattle.trace_laws.specs.ItemTalks.{awaits}
 use Rattle.trace_laws.specs.RunCounts.{pulses_here}
 use Rattle.trace_laws.proofs.AttentionRows.{lines_are}

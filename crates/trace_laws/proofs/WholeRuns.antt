@@ -29,10 +29,10 @@ use Rattle.bus_due.specs.RunSteps.{run_state}
 use Rattle.bus_due.specs.Sights.{leaving, serving_of}
 use Rattle.bus_due.specs.Tasks.{blocks_in, is_writing, reply_now, size_of, task_if, task_of}
 use Rattle.bus_due.proofs.Plains.{run_state_plain}
-use Rattle.scsi_device.specs.Writes.{Writer, block_size, is_data_out, is_writer, writer_of, writers}
+use Rattle.scsi_device.specs.Writes.{Writer, block_size, is_data_out, is_writer, writer_of, writers, start_of_run}
 use Rattle.bus_books.proofs.Lookups.{self_id}
 use Rattle.bus_books.specs.Traces.{GoesOn}
-use Rattle.trace_laws.specs.WholeRuns.{HasSentAll, MovesBlocks, bytes_come, start_of_run}
+use Rattle.trace_laws.specs.WholeRuns.{HasSentAll, MovesBlocks, bytes_come}
 use Rattle.trace_laws.specs.WriteFacts.{IsAnsweredWhole}
 use Rattle.trace_laws.proofs.LastRuns.{last_run, start_same}
 use Rattle.trace_laws.proofs.Plans.{writes_there}

@@ -21,6 +21,7 @@ use Rattle.bus_due.specs.RunSteps.{run_state, exchange_after, first_exchange, le
 use Rattle.bus_due.proofs.Plains.{run_state_plain}
 use Rattle.scsi_device.specs.Writes.{Writer, writer_of, writers, writers_with, is_data_out}
 use Rattle.scsi_device.specs.Heard.{is_message}
+use Rattle.scsi_device.proofs.PhaseLines.{no_input}
 use Rattle.bus_books.specs.Rows.{RowKind, still, strikes, crosses, turns, IsFirstRow}
 use Rattle.bus_books.specs.Traces.{Begins, GoesOn, RowOf, apart, begins, goes_on, ends, under_reset}
 use Rattle.bus_books.proofs.InConnection.{in_connection, reading_is, same_phase_is}
@@ -28,7 +29,7 @@ use Rattle.bus_laws.proofs.Apart.{change_plain}
 use Rattle.trace_laws.specs.WriteFacts.{IsPresentWriter}
 use Rattle.trace_laws.proofs.CommandStays.{phase_same}
 use Rattle.trace_laws.proofs.Impossible.{none_some}
-use Rattle.trace_laws.proofs.PhaseLines.{data_out_io, message_is}
+use Rattle.trace_laws.proofs.PhaseLines.{message_is}
 use Rattle.trace_laws.proofs.WriteRows.{WriteRow, Around, around}
 use Rattle.trace_laws.proofs.WriteTurns.{no_byte, a_byte, writer_now}
 use Rattle.bus_base.proofs.Tests.{wrong, wrong'}
@@ -88,7 +89,7 @@ present_next s p row w n x con off begun phase served some = go w.nx.row_is
             let none = ap (λ (z : Option ℕ). is_some z) er in
             let i = in_connection s k row m c false false fault g.row_is ep none ef in
             let here = phase_before ep i.bus_is in
-            let io = ap (λ (l : LineSet). l.io) (sym g.row_is.bus_is) ∙ data_out_io (bus_of k) here in
+            let io = ap (λ (l : LineSet). l.io) (sym g.row_is.bus_is) ∙ no_input (bus_of k) here in
             ap (λ (all : List Writer). writer_of all x.target x.unit) (no_byte s p row (ap (λ (d : RowReading). d.crosses) (reading_is k row m c false g.row_is none)))
             ∙ w.present m x ar.before ar.calm (sym (ap (λ (y : Exchange). y.begun) i.exchange_is) ∙ begun) here (ap (process_item s) (sym i.served_is) ∙ served)
             (ap (λ (y : ℕ). y == 0) (sym (ap (λ (y : Handshakes). y.answers) i.handshakes_is ∙ (λ z. (handshakes_after (ef z) (Some m) c row.time k.handshakes).answers) ∙ counts fault ep er io)) ∙ some)

@@ -36,7 +36,7 @@ use Rattle.bus_due.specs.Sights.{leaving, serving_of}
 use Rattle.bus_due.specs.Tasks.{is_writing}
 use Rattle.bus_due.proofs.Plains.{run_state_plain}
 use Rattle.scsi_device.specs.Heard.{instructions, is_new, is_opening, is_opening_in, is_command_phase, moves_data}
-use Rattle.scsi_device.specs.Writes.{Writer, writers, writers_with, is_data_out}
+use Rattle.scsi_device.specs.Writes.{Writer, writers, writers_with, is_data_out, is_data_in}
 use Rattle.bus_books.specs.Knowing.{Knows}
 use Rattle.bus_books.specs.Rows.{RowKind, still, strikes, crosses, turns}
 use Rattle.bus_books.specs.Traces.{GoesOn}
@@ -52,7 +52,7 @@ use Rattle.trace_laws.proofs.CommandFacts.{served_process, same_process}
 use Rattle.trace_laws.proofs.DoneRuns.{DoneOut, out_done, done_in_data}
 use Rattle.trace_laws.proofs.Impossible.{none_some}
 use Rattle.trace_laws.proofs.Joint.{Stood, NextStood}
-use Rattle.trace_laws.proofs.PhaseLines.{command_phase, is_data_in}
+use Rattle.trace_laws.proofs.PhaseLines.{command_phase}
 use Rattle.trace_laws.proofs.Plans.{Planned, is_directed, writes_of}
 use Rattle.trace_laws.proofs.PointerRows.{phase_by}
 use Rattle.trace_laws.proofs.RowEvents.{carried_of_item}

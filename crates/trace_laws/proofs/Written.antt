@@ -32,7 +32,7 @@ use Rattle.bus_due.specs.RunSteps.{run_state, leaving_of}
 use Rattle.bus_due.specs.Sights.{hearing_of, leaving, serving_of}
 use Rattle.bus_due.specs.Tasks.{is_writing, moved_count, reply_now, task_of, task_if}
 use Rattle.bus_due.proofs.Plains.{run_state_plain}
-use Rattle.scsi_device.specs.Writes.{Writer, writer_of, writers, is_data_out, brings_byte, is_writer, is_next_byte, is_written_byte, is_whole_run, is_written_run, ends_run, is_written_in, is_written_on, is_written, written}
+use Rattle.scsi_device.specs.Writes.{Writer, writer_of, writers, is_data_out, brings_byte, is_writer, is_next_byte, is_written_byte, is_whole_run, is_written_run, ends_run, is_written_in, is_written_on, is_written, written, is_data_in}
 use Rattle.bus_books.specs.Traces.{Begins, Ends, GoesOn, RowOf, apart, begins, goes_on, ends, under_reset}
 use Rattle.bus_books.proofs.InConnection.{in_connection, reading_is}
 use Rattle.bus_books.proofs.Lookups.{self_id, id_is}
@@ -52,7 +52,6 @@ use Rattle.trace_laws.proofs.UnderRst.{none_raised}
 use Rattle.trace_laws.proofs.WriteNext.{write_row}
 use Rattle.trace_laws.proofs.WriteRows.{WriteRow, Around, around, out_is, runs_out, in_lines}
 use Rattle.trace_laws.proofs.WriterUnits.{last_writer}
-use Rattle.trace_laws.proofs.PhaseLines.{is_data_in}
 use Rattle.bus_base.proofs.Tests.{wrong, wrong', implication}
 
 -- ---- a byte of DATA OUT crosses

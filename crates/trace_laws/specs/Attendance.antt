@@ -16,10 +16,10 @@ use Rattle.scenario.specs.Value.{ScenarioValue}
 use Rattle.disk_array.specs.ArrayHistory.{reply_in}
 use Rattle.disk_array.specs.Execution.{Reply}
 use Rattle.bus_story.specs.BusState.{row_reading}
-use Rattle.bus_story.specs.HistoryEvents.{abort_line_at, row_events_by}
+use Rattle.bus_story.specs.HistoryEvents.{abort_line_at}
 use Rattle.bus_story.specs.Items.{process, abort}
 use Rattle.bus_due.specs.RunState.{RunState, array_of, process_served}
-use Rattle.bus_due.specs.RunSteps.{run_state}
+use Rattle.bus_due.specs.RunSteps.{run_state, events_of_row}
 use Rattle.scsi_device.specs.Heard.{instructions, is_opening}
 
 -- ---- one event, and all of a row
@@ -39,19 +39,16 @@ AreShown k n known (e ∷ shown) = IsShown k n known e × AreShown k n known sho
 
 -- ---- a row
 
-abbrev pub events_of : ScenarioValue → List Row → Row → List Event
-events_of s rows row = row_events_by s (run_state s rows).story (row_reading (run_state s rows).story.bus_state row) row
-
 -- In a connection, RST being false before it and after it. In the opening a process is not served where the connection ends.
 pub record ShowsIn (s : ScenarioValue) (rows : List Row) (row : Row) (n : Connection) : Type 0 where
-  pub shown : AreShown (run_state s rows) n (instructions s rows).known (events_of s rows row)
-  pub silent : n.reselected ≡ false → is_opening (run_state s rows) ≡ true → is_some (row_reading (run_state s rows).story.bus_state row).next ≡ true → events_of s rows row ≡ []
+  pub shown : AreShown (run_state s rows) n (instructions s rows).known (events_of_row s rows row)
+  pub silent : n.reselected ≡ false → is_opening (run_state s rows) ≡ true → is_some (row_reading (run_state s rows).story.bus_state row).next ≡ true → events_of_row s rows row ≡ []
   pub ends_alone : n.reselected ≡ false → is_opening (run_state s rows) ≡ true → (row_reading (run_state s rows).story.bus_state row).next ≡ None → process_served s (run_state s rows) ≡ None
 
 -- As RST falls no connection stands any more, and nothing is shown (6.2.2).
 pub record ShowsAfterReset (s : ScenarioValue) (rows : List Row) (row : Row) : Type 0 where
   pub ends : connection (row ∷ rows) ≡ None
-  pub none : events_of s rows row ≡ []
+  pub none : events_of_row s rows row ≡ []
 
 pub record Shows (s : ScenarioValue) (rows : List Row) (row : Row) : Type 0 where
   pub inside : (n : Connection) → connection rows ≡ Some n → (bus rows).rst ≡ false → (bus (row ∷ rows)).rst ≡ false → ShowsIn s rows row n

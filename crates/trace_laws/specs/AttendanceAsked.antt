@@ -20,8 +20,7 @@ use Rattle.bus_dialogue.specs.declared.exchange.Phase.TheVariants as phases
 use Rattle.bus_dialogue.specs.NextPhase.{phase_of}
 use Rattle.bus_due.specs.Allowed.{is_allowed}
 use Rattle.bus_due.specs.RunState.{RunState, array_of, bus_of, carried_here, item_of}
-use Rattle.bus_due.specs.RunSteps.{run_state}
-use Rattle.trace_laws.specs.Attendance.{events_of}
+use Rattle.bus_due.specs.RunSteps.{run_state, events_of_row}
 
 -- The reply that the array has given to the process has this status.
 pub record HasGiven (a : Array) (id : ProcId) (status : ℕ) : Type 0 where
@@ -32,7 +31,7 @@ pub record HasGiven (a : Array) (id : ProcId) (status : ℕ) : Type 0 where
 -- A process ends with the status of its reply.
 abbrev pub EndsAsGiven : ScenarioValue → List Row → Row → Type 0
 EndsAsGiven s rows row =
-    (n : Connection) (id : ProcId) (status : ℕ) → connection rows ≡ Some n → (bus rows).rst ≡ false → (run_state s rows).served ≡ Some (process id) → events_of s rows row ≡ (events.End id status ∷ []) → HasGiven (array_of s (run_state s rows)) id status
+    (n : Connection) (id : ProcId) (status : ℕ) → connection rows ≡ Some n → (bus rows).rst ≡ false → (run_state s rows).served ≡ Some (process id) → events_of_row s rows row ≡ (events.End id status ∷ []) → HasGiven (array_of s (run_state s rows)) id status
 
 -- As a selection begins a connection its process has no reply.
 abbrev pub BeginsUnanswered : ScenarioValue → List Row → Row → Type 0

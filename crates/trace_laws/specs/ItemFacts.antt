@@ -8,7 +8,7 @@ use Rattle.bus_story.specs.CarriedBytes.{CarriedBytes, carried_at}
 use Rattle.bus_story.specs.Items.{Item, Sent, abort, command_item, has_item, is_clash, is_done, is_open, may_send, open_from, process, sense_from, sense_item}
 use Rattle.bus_story.specs.Links.{Link, is_open_sense}
 use Rattle.bus_story.specs.Story.{Story}
-use Rattle.bus_story.specs.TraceHistory.{aim_of, is_host}
+use Rattle.bus_story.specs.TraceHistory.{aim_of}
 use Rattle.bus_trace.specs.Terms.{arbitration, call, connection}
 use Rattle.bus_trace.specs.Trace.{bus, drives}
 use Rattle.bus_trace.specs.declared.Row.{Row}
@@ -17,6 +17,7 @@ use Rattle.bus_trace.specs.declared.connection.Connection.{Connection}
 use Rattle.bus_trace.specs.declared.selection.Call.{Call}
 use Rattle.disk_array.specs.Processes.{Process, command_at, process_of}
 use Rattle.disk_array.specs.Units.{RunningProcess, UnitState}
+use Rattle.disk_array.specs.Seats.{is_initiator}
 use Rattle.scenario.specs.Value.{ScenarioValue}
 use Rattle.scenario.specs.declared.value.CmdDef.{CmdDef}
 use Rattle.std.specs.List.{list_any}
@@ -39,8 +40,8 @@ IsAimed s k dev = (item : Item) → aim_of k.story.aims dev ≡ Some item → Is
 
 -- Of the contenders, and of the caller.
 pub record AimsFit (s : ScenarioValue) (p : List Row) : Type 0 where
-  pub contends : (dev : ℕ) (a : Arbitration) → dev < 8 → arbitration p ≡ Some a → (drives p dev).bsy ≡ true → is_host s.hosts dev ≡ true → IsAimed s (run_state s p) dev
-  pub calls : (c : Call) → call p ≡ Some c → is_host s.hosts c.caller ≡ true → IsAimed s (run_state s p) c.caller
+  pub contends : (dev : ℕ) (a : Arbitration) → dev < 8 → arbitration p ≡ Some a → (drives p dev).bsy ≡ true → is_initiator s.hosts dev ≡ true → IsAimed s (run_state s p) dev
+  pub calls : (c : Call) → call p ≡ Some c → is_initiator s.hosts c.caller ≡ true → IsAimed s (run_state s p) c.caller
 
 -- The item of a link, and the process whose bytes MESSAGE PARITY ERROR brings back, were sent.
 pub record LinkSent (sent : List Item) (l : Link) : Type 0 where

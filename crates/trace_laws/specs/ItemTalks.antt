@@ -8,12 +8,13 @@ use Rattle.bus_dialogue.specs.declared.exchange.Messages.{Messages}
 use Rattle.bus_dialogue.specs.declared.exchange.Next.{Next}
 use Rattle.bus_due.specs.RunState.{RunState, bus_of}
 use Rattle.bus_story.specs.HistoryEvents.{is_complete}
-use Rattle.bus_story.specs.Items.{Item, abort, has_item, process, tag_number_if}
+use Rattle.bus_story.specs.Items.{Item, abort, has_item, process}
 use Rattle.bus_story.specs.Links.{LastMessage, Link, abortive, complete, disconnect, plain}
 use Rattle.bus_trace.specs.LineSet.{LineSet}
 use Rattle.bus_trace.specs.Phases.{is_message_in, is_message_out}
 use Rattle.bus_trace.specs.declared.connection.Connection.{Connection}
 use Rattle.disk_array.specs.Processes.{Process, process_of}
+use Rattle.disk_array.specs.Order.{tag_number}
 use Rattle.msg_grammar.specs.declared.message.MsgIn.{MsgIn}
 use Rattle.scenario.specs.Value.{ScenarioValue}
 use Rattle.bus_dialogue.specs.declared.exchange.Next.TheVariants as nexts
@@ -97,7 +98,7 @@ last_well sense l = not (is_complete l.before) && (not sense || (is_plain l.befo
 -- The names of a process; other messages are none.
 abbrev pub IsNameOf : Process → MsgIn → Type 0
 IsNameOf p (to_initiator.Identify lun) = lun ≡ p.unit
-IsNameOf p (to_initiator.SimpleTag n) = tag_number_if p.tag ≡ Some n
+IsNameOf p (to_initiator.SimpleTag n) = tag_number p.tag ≡ Some n
 IsNameOf p _ = ⊤
 
 -- No byte has crossed yet.

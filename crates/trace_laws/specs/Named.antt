@@ -11,8 +11,9 @@ use Rattle.bus_lines.specs.Handshakes.{Handshakes}
 use Rattle.msg_grammar.specs.declared.message.MsgIn.{MsgIn}
 use Rattle.scenario.specs.Value.{ScenarioValue}
 use Rattle.disk_array.specs.Processes.{Process, process_of}
+use Rattle.disk_array.specs.Order.{tag_number}
 use Rattle.bus_story.specs.HistoryEvents.{is_complete}
-use Rattle.bus_story.specs.Items.{process, Sent, has_item, tag_number_if}
+use Rattle.bus_story.specs.Items.{process, Sent, has_item}
 use Rattle.bus_story.specs.Links.{Link, named_item}
 use Rattle.bus_dialogue.specs.declared.exchange.Cause.TheVariants as causes
 use Rattle.bus_dialogue.specs.declared.exchange.Messages.{Messages}
@@ -41,7 +42,7 @@ pub record AreFound (s : ScenarioValue) (k : RunState) (n : Connection) : Type 0
 -- The names of the process find one.
 abbrev pub IsFoundBy : ScenarioValue → Connection → Sent → Process → Type 0
 IsFoundBy s n sent p =
-    (l : Link) → l.initiator ≡ n.initiator → l.target ≡ n.target → l.unit ≡ p.unit → is_some (named_item sent s.commands l (tag_number_if p.tag)) ≡ true
+    (l : Link) → l.initiator ≡ n.initiator → l.target ≡ n.target → l.unit ≡ p.unit → is_some (named_item sent s.commands l (tag_number p.tag)) ≡ true
 
 -- ---- its names
 

@@ -11,7 +11,7 @@ use Rattle.disk_array.specs.Execution.{Reply, is_request_sense}
 use Rattle.disk_array.specs.Processes.{Process, process_of, same_id}
 use Rattle.disk_array.specs.SoundArray.{IsSound}
 use Rattle.disk_array.specs.Steps.{process_count, running_if, running_process, has_ended}
-use Rattle.disk_array.specs.Units.{RunningProcess, UnitState, Array, unit_state_at, guest_at, is_held}
+use Rattle.disk_array.specs.Units.{RunningProcess, UnitState, Array, unit_state_at, guest_at, is_held, without_reply}
 use Rattle.bus_dialogue.specs.declared.exchange.Cause.{Cause}
 use Rattle.bus_dialogue.specs.declared.exchange.Cause.TheVariants as causes
 use Rattle.bus_dialogue.specs.declared.exchange.Messages.{Messages}
@@ -33,12 +33,9 @@ use Rattle.trace_laws.specs.ItemTalks.{is_complete_in}
 
 -- ---- of each process that waits, that runs, and that is outside the queues
 
-abbrev pub fresh : Process → RunningProcess
-fresh p = record { process = p; reply = None }
-
 abbrev pub Waits : (RunningProcess → Type 0) → List Process → Type 0
 Waits q [] = ⊤
-Waits q (p ∷ waiting) = q (fresh p) × Waits q waiting
+Waits q (p ∷ waiting) = q (without_reply p) × Waits q waiting
 
 abbrev pub Runs : (RunningProcess → Type 0) → Option RunningProcess → Type 0
 Runs q None = ⊤
@@ -85,7 +82,7 @@ IsOutside a p = (unit_state_at a.units p.target p.unit ≡ None) ⊎ (is_request
 
 -- It was not answered and may run: outside the queue, or as long as its unit is not held.
 pub record MayRun (a : Array) (p : Process) : Type 0 where
-  pub running_is : running_process a p.id ≡ Some (fresh p)
+  pub running_is : running_process a p.id ≡ Some (without_reply p)
   pub free : (is_some (guest_at a.guests p.id) || not (is_held a.holds p.target p.unit)) ≡ true
   pub reply : reply_in a.replies p.id ≡ None
   pub kind : IsOutside a p ⊎ IsAtRest a p.id

@@ -1,25 +1,15 @@
 -- A process that runs as its last data run is done has sent all that it sends (6.1.5.1, 6.6.6).
 use Rattle.std.specs.Prelude.{ℕ, ◌+◌, ◌*◌, ◌≡◌, ◌≤◌, true, List, length, Some, ⊤, if◌then◌else◌}
-use Rattle.cdb_codec.specs.Cdb.{command_of}
-use Rattle.scenario.specs.Lookups.{unit_of}
 use Rattle.scenario.specs.Value.{ScenarioValue}
 use Rattle.scenario.specs.declared.value.Policy.{Policy}
 use Rattle.scenario.specs.declared.value.Policy.TheVariants as policies
-use Rattle.disk_array.specs.Order.{range_in}
 use Rattle.disk_array.specs.Processes.{Process}
-use Rattle.bus_dialogue.specs.Arrivals.{policy_of}
-use Rattle.bus_dialogue.specs.DataRuns.{run_in}
 use Rattle.bus_dialogue.specs.NextPhase.{phase_of}
 use Rattle.bus_dialogue.specs.declared.exchange.Task.{Task}
-use Rattle.bus_due.specs.Defs.{target_def_of}
 use Rattle.bus_due.specs.LastingState.{progress_in}
 use Rattle.bus_due.specs.RunState.{RunState, bus_of}
-use Rattle.bus_due.specs.Tasks.{blocks_in, is_writing}
-use Rattle.scsi_device.specs.Writes.{Writer, block_size, writer_of, is_data_out}
-
--- Where the n-th run of a process begins, by the size of a block that the scenario says.
-abbrev pub start_of_run : ScenarioValue → Process → ℕ → ℕ
-start_of_run s p n = (run_in (policy_of (target_def_of s p.target)) (blocks_in (range_in (command_of p.cdb))) (block_size (unit_of s p.target p.unit)) 0 n).start
+use Rattle.bus_due.specs.Tasks.{is_writing}
+use Rattle.scsi_device.specs.Writes.{Writer, writer_of, is_data_out, start_of_run}
 
 -- So many bytes have come with the runs that it has made, and with the present one in DATA OUT.
 abbrev pub bytes_come : ScenarioValue → RunState → Process → ℕ

@@ -12,3 +12,4 @@ pub mod RowFront
 pub mod Taken
 mod TouchedBlocks
 pub mod PiecesLeft
+pub mod Devices

@@ -1,9 +1,8 @@
 -- What is read as a trace is rows that the bus can have, and an end below 2 ^ 63.
-use Rattle.std.proofs.Common.{◌≡◌, ℕ, ◌+◌, ◌-◌, ◌^◌, ◌<◌, ◌≤◌, Bool, true, false, cond, ◌&&◌, List, [], ◌∷◌, length, reverse, Option, Some, None, Result, Ok, Err, refl, sym, subst, arith}
+use Rattle.std.proofs.Common.{◌≡◌, ℕ, ◌+◌, ◌-◌, ◌^◌, ◌<◌, ◌≤◌, Bool, true, false, cond, ◌&&◌, List, [], ◌∷◌, length, reverse, Option, Some, None, Result, Ok, Err, refl, subst, arith}
 use Rattle.std.specs.Prelude.{◌==◌, nat_le, nat_lt, codes, IfOk}
 use Rattle.std.specs.List.{AllByRecursion}
 use Rattle.std.proofs.lemmas.Bool.Decides.{nat_tests}
-use Rattle.std.proofs.lemmas.List.{reverse-append}
 use Rattle.text_words.specs.Words.{after, number_at, digit_at, is_hex, is_whole}
 use Rattle.text_words.proofs.Only.{bind_some, cond_some, digit_only}
 use Rattle.trace_text.specs.declared.limit.TheConstants.{LIMIT as TRACE_LIMIT}
@@ -25,7 +24,7 @@ use Rattle.trace_text.specs.Lines.{below, value_of, kind_at, row_at, end_at, is_
 use Rattle.trace_text.specs.Bytes.{Cut, cut_of, quiet, told_next, told_at, end_told, end_of, rows_next, rows_of}
 use Rattle.trace_text.specs.Whole.{with_rows, trace_of, Answers}
 use Rattle.trace_text.proofs.Short.{below_is}
-use Rattle.bus_base.proofs.Tests.{all_append}
+use Rattle.bus_base.proofs.Tests.{all_reverse}
 
 -- ---- rows
 
@@ -142,10 +141,6 @@ end_fits (states.Open (stages.Ended t) count) [] end h e = let same : t ≡ end 
 end_fits (states.Open (stages.Ended t) count) (b ∷ rest) end h e = absurd cc
 
 -- ---- whole texts
-
-all_reverse : {A : Type 0} (P : A → Type 0) (xs : List A) → AllByRecursion P xs → AllByRecursion P (reverse xs)
-all_reverse P [] h = tt
-all_reverse P (x ∷ xs) h = subst (AllByRecursion P) (sym (reverse-append (x ∷ []) xs)) (all_append P (reverse xs) (x ∷ []) (all_reverse P xs h.1) (h.0, tt))
 
 record Says (read : List Row) (answer : Result ℕ ℕ) (rows : List Row) (end : ℕ) : Type 0 where
   all : read ≡ rows

@@ -1,22 +1,14 @@
 -- The text of a history: a line for each event.
 use Rattle.std.specs.Prelude.{ℕ, List, [], ◌∷◌, ◌++◌, codes, decimal, if◌then◌else◌}
 use Rattle.text_words.specs.Spelling.{byte_text}
+use Rattle.text_pages.specs.AbortText.{abort_text}
 use Rattle.bus_base.specs.declared.ProcId.{ProcId}
-use Rattle.bus_base.specs.declared.AbortKind.{AbortKind}
-use Rattle.bus_base.specs.declared.AbortKind.TheVariants as aborts
 use Rattle.bus_base.specs.declared.Event.{Event}
 use Rattle.bus_base.specs.declared.Event.TheVariants as events
 
 -- the number of a command, with `S` after it for its automatic REQUEST SENSE
 abbrev pub process_text : ProcId → List ℕ
 process_text p = decimal p.command ++ (if p.sense then 83 ∷ [] else [])
-
--- what an abort message is aimed at
-abbrev pub abort_text : AbortKind → List ℕ
-abort_text aborts.All = codes "all"
-abort_text (aborts.Tag tag) = codes "tag " ++ decimal tag
-abort_text aborts.WholeQueue = codes "queue"
-abort_text aborts.Device = codes "device"
 
 abbrev pub event_words : Event → List ℕ
 event_words (events.Accept p) = codes "accept " ++ process_text p

@@ -1,5 +1,5 @@
 -- The text of a trace: a line for each row, from the line `trace 1` to the line `end T`.
-use Rattle.std.specs.Prelude.{ℕ, ◌+◌, ◌<◌, ◌/◌, ◌%◌, List, [], ◌∷◌, ◌++◌, codes, decimal}
+use Rattle.std.specs.Prelude.{ℕ, ◌+◌, ◌/◌, ◌%◌, List, [], ◌∷◌, ◌++◌, codes, decimal}
 use Rattle.std.specs.List.{flat_map}
 use Rattle.text_words.specs.Spelling.{hex_digit}
 use Rattle.bus_trace.specs.LineSet.{number_of}
@@ -16,10 +16,6 @@ lines_text n =
 abbrev pub kind_text : Kind → List ℕ
 kind_text (Drives lines) = lines_text (number_of lines)
 kind_text (Fault bit) = 102 ∷ decimal bit
-
--- a row of one of the eight devices
-abbrev pub IsOfEight : Row → Type 0
-IsOfEight row = row.dev < 8
 
 -- `T D HHHHH` or `T D fB`, and a line feed
 abbrev pub row_text : Row → List ℕ

@@ -6,11 +6,10 @@ ghost use Rattle.trace_text.specs.BlockText.{is_zero, block_text, blocks_from, d
 ghost use Rattle.trace_text.specs.ReportText.{disk_name};
 ghost use Rattle.text_pages.specs.Pages.{Prints};
 
-use crate::spaced::{put_hex, put_spaced};
 use bus_base::{Dev, Sink};
 use disk_unit::{Blocks, SparseBlocks};
 use scenario::UnitDef;
-use text_pages::{Page, put};
+use text_pages::{Page, put, put_hex, put_spaced};
 
 /// No block has more bytes.
 const SIZE_LIMIT: usize = 2048;

@@ -2,12 +2,11 @@
 ghost use Rattle.std.specs.Prelude.{◌++◌, ◌∷◌, [], decimal};
 ghost use Rattle.std.specs.List.{flat_map};
 ghost use Rattle.text_words.specs.Spelling.{byte_text};
-ghost use Rattle.trace_text.specs.EventText.{process_text, abort_text, event_words, event_text};
+ghost use Rattle.trace_text.specs.EventText.{process_text, event_words, event_text};
 ghost use Rattle.text_pages.specs.Pages.{Prints};
 
-use crate::spaced::{put_byte, put_spaced};
 use bus_base::{AbortKind, Dev, Event, ProcId, Sink};
-use text_pages::{Page, put, put_number};
+use text_pages::{Page, put, put_abort, put_byte, put_number, put_spaced};
 
 fn put_process<K: Sink>(out: &mut K, page: &mut Page, process: ProcId)
     ensures { Prints K.written K.faults out.old out.new page.old page.new (process_text process) }
@@ -15,20 +14,6 @@ fn put_process<K: Sink>(out: &mut K, page: &mut Page, process: ProcId)
     put_number(out, page, process.command as u64);
     if process.sense {
         put(out, page, b"S");
-    }
-}
-
-fn put_abort<K: Sink>(out: &mut K, page: &mut Page, what: AbortKind)
-    ensures { Prints K.written K.faults out.old out.new page.old page.new (abort_text what) }
-{
-    match what {
-        AbortKind::All => put(out, page, b"all"),
-        AbortKind::Tag(tag) => {
-            put(out, page, b"tag ");
-            put_number(out, page, tag as u64)
-        }
-        AbortKind::WholeQueue => put(out, page, b"queue"),
-        AbortKind::Device => put(out, page, b"device"),
     }
 }
 

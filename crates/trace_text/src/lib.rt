@@ -6,7 +6,7 @@
 //!
 //! It stands on `text_words`, `text_pages`, `bus_base`, `bus_trace`, `cdb_codec`, `scenario` and `run_record`. Its
 //! contract: [`report`] writes the report of a run to any sink, or a front of it where the sink fails, and
-//! [`short_report`] the short one;
+//! [`short_report`] the short one, and [`write_trace`] the text of a trace alone;
 //! [`print_row`] is the line of a row; [`TraceReader`], which takes a trace text byte by byte or in pieces and
 //! keeps no row, tells each row and the first line that breaks the form, however the text is cut; and
 //! [`read_trace`] is all rows and the end, or that line. What is printed is read again
@@ -24,11 +24,11 @@ mod replies_part;
 mod row_line;
 mod rows;
 mod short_form;
-mod spaced;
 mod stages;
 mod trace_part;
 mod whole;
 mod whole_report;
+mod whole_trace;
 
 pub use bus_base::Ns;
 pub use bus_trace::{Kind, Lines, Row};
@@ -40,3 +40,4 @@ pub use short_form::short_report;
 pub use stages::Told;
 pub use whole::{Trace, TraceBad, read_trace};
 pub use whole_report::report;
+pub use whole_trace::write_trace;

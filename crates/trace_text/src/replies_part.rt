@@ -2,11 +2,10 @@
 ghost use Rattle.trace_text.specs.ReplyText.{bytes_text, sense_text, outcome_text, reply_text, replies_text};
 ghost use Rattle.text_pages.specs.Pages.{Prints};
 
-use crate::spaced::{put_byte, put_hex, put_spaced};
 use bus_base::Sink;
 use cdb_codec::Sense;
 use initiator::Outcome;
-use text_pages::{Page, put};
+use text_pages::{Page, put, put_byte, put_hex, put_spaced};
 
 // The bytes that came in, if any did.
 fn put_bytes<K: Sink>(out: &mut K, page: &mut Page, bytes: &[u8])

@@ -1,8 +1,9 @@
 //! The part of a report with the trace.
 ghost use Rattle.std.specs.Prelude.{◌≡◌, ◌+◌, ◌<◌, ◌^◌, ◌++◌, ◌∷◌, [], decimal};
 ghost use Rattle.std.specs.List.{AllByRecursion, flat_map};
-ghost use Rattle.trace_text.specs.RowText.{IsOfEight, lines_text, kind_text, row_text, trace_text};
+ghost use Rattle.trace_text.specs.RowText.{lines_text, kind_text, row_text, trace_text};
 ghost use Rattle.bus_trace.specs.declared.Kind.TheVariants.{Fault};
+ghost use Rattle.bus_trace.specs.OfTrace.{IsOfDevice};
 ghost use Rattle.text_pages.specs.Pages.{Prints};
 
 use crate::row_line::{RowLine, SPAN, line_end};
@@ -49,7 +50,7 @@ fn put_driven<K: Sink>(
 }
 
 fn put_row<K: Sink>(out: &mut K, page: &mut Page, line: &mut RowLine, row: &Row)
-    requires { IsOfEight row.now }
+    requires { IsOfDevice row.now }
     ensures { Prints K.written K.faults out.old out.new page.old page.new (row_text row.now) }
 {
     match row.kind {
@@ -59,7 +60,7 @@ fn put_row<K: Sink>(out: &mut K, page: &mut Page, line: &mut RowLine, row: &Row)
 }
 
 fn put_rows<K: Sink>(out: &mut K, page: &mut Page, rows: &[Row])
-    requires { AllByRecursion IsOfEight rows.now }
+    requires { AllByRecursion IsOfDevice rows.now }
     ensures { Prints K.written K.faults out.old out.new page.old page.new (flat_map row_text rows.now) }
 {
     let mut line = RowLine::begun(0);
@@ -69,7 +70,7 @@ fn put_rows<K: Sink>(out: &mut K, page: &mut Page, rows: &[Row])
 }
 
 pub(crate) fn put_trace<K: Sink>(out: &mut K, page: &mut Page, rows: &[Row], end: Ns)
-    requires { AllByRecursion IsOfEight rows.now }
+    requires { AllByRecursion IsOfDevice rows.now }
     ensures { Prints K.written K.faults out.old out.new page.old page.new (trace_text rows.now end) }
 {
     put(out, page, b"trace 1\n");

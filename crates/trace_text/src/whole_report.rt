@@ -4,8 +4,8 @@ ghost use Rattle.std.specs.List.{AllByRecursion};
 ghost use Rattle.bus_base.specs.Faults.{HasRisen};
 ghost use Rattle.bus_base.specs.Whole.{WritesAll};
 ghost use Rattle.trace_text.specs.ReportText.{report_of};
-ghost use Rattle.trace_text.specs.RowText.{IsOfEight};
 ghost use Rattle.text_pages.specs.Pages.{Prints};
+ghost use Rattle.bus_trace.specs.OfTrace.{IsOfDevice};
 
 use crate::blocks_part::put_disks;
 use crate::history_part::put_history;
@@ -18,7 +18,7 @@ use text_pages::{Page, flush, is_failed, new_page, put};
 
 fn put_report<K: Sink>(out: &mut K, page: &mut Page, s: &Scenario, run: &Run)
     requires disks { length run.now.disks ≡ length s.now.units }
-    requires rows { AllByRecursion IsOfEight run.now.rows }
+    requires rows { AllByRecursion IsOfDevice run.now.rows }
     ensures { Prints K.written K.faults out.old out.new page.old page.new (report_of s.now run.now) }
 {
     put_trace(out, page, &run.rows, run.end);
@@ -40,7 +40,7 @@ fn put_report<K: Sink>(out: &mut K, page: &mut Page, s: &Scenario, run: &Run)
 pub fn report<K: Sink>(s: &Scenario, run: &Run, out: &mut K) -> Result<(), Failed>
     requires replies { length run.now.replies ≡ length s.now.commands }
     requires disks { length run.now.disks ≡ length s.now.units }
-    requires rows { AllByRecursion IsOfEight run.now.rows }
+    requires rows { AllByRecursion IsOfDevice run.now.rows }
     ensures whole { WritesAll (K.written out.old) (K.written out.new) (report_of s.now run.now) result }
     ensures failed { OnErr result (HasRisen (K.faults out.old) (K.faults out.new)) }
     ensures never_falls { K.faults out.old ≤ K.faults out.new }

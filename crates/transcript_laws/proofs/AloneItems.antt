@@ -10,8 +10,9 @@ use Rattle.scenario.specs.declared.value.CmdDef.{CmdDef}
 use Rattle.scenario.specs.Value.{ScenarioValue}
 use Rattle.scenario.specs.Writing.{Obeys}
 use Rattle.disk_array.specs.Processes.{Process, command_at, process_by, process_if, process_of}
-use Rattle.bus_story.specs.Items.{Item, Sent, process, abort, command_item, sense_item, tag_number_if, is_tag_clash, is_clash, is_done}
-use Rattle.bus_story.specs.Links.{same_number, is_open_sense}
+use Rattle.disk_array.specs.Order.{same_number, tag_number}
+use Rattle.bus_story.specs.Items.{Item, Sent, process, abort, command_item, sense_item, is_tag_clash, is_clash, is_done, sense_id, command_id}
+use Rattle.bus_story.specs.Links.{is_open_sense}
 use Rattle.bus_story.specs.Story.{Story}
 use Rattle.bus_story.specs.TraceHistory.{aim_of}
 use Rattle.bus_due.specs.Next.{IsPrompt}
@@ -30,8 +31,6 @@ use Rattle.transcript_laws.specs.RowTests.{shares_nexus, is_alone}
 use Rattle.transcript_laws.proofs.DueSenses.{SensesAlone, senses_alone}
 use Rattle.transcript_laws.proofs.SentProcesses.{none_any}
 use Rattle.bus_base.proofs.Tests.{wrong, wrong', and_first, and_second, eq_self}
-use Rattle.progress_laws.specs.Debts.{sense_id}
-use Rattle.progress_laws.specs.Queued.{command_id}
 
 -- ---- commands of one nexus clash
 
@@ -47,11 +46,11 @@ record OfOne (c d : CmdDef) : Type 0 where
 
 of_one : (s : ScenarioValue) (n m : ℕ) (c d : CmdDef) → same_nexus (nexus_of (process_by s (command_id n) c)) (nexus_of (process_by s (command_id m) d)) ≡ true → OfOne c d
 of_one s n m c d e =
-    let ends = and_first (c.host == d.host && c.target == d.target) (c.unit == d.unit && same_number (tag_number_if c.tag) (tag_number_if d.tag)) e in
-    let rest = and_second (c.host == d.host && c.target == d.target) (c.unit == d.unit && same_number (tag_number_if c.tag) (tag_number_if d.tag)) e in
+    let ends = and_first (c.host == d.host && c.target == d.target) (c.unit == d.unit && same_number (tag_number c.tag) (tag_number d.tag)) e in
+    let rest = and_second (c.host == d.host && c.target == d.target) (c.unit == d.unit && same_number (tag_number c.tag) (tag_number d.tag)) e in
     record {
       host = eqb-true c.host d.host (and_first (c.host == d.host) (c.target == d.target) ends);
-      clash = λ i. (and_second (c.host == d.host) (c.target == d.target) ends i && and_first (c.unit == d.unit) (same_number (tag_number_if c.tag) (tag_number_if d.tag)) rest i) && same_clash (tag_number_if c.tag) (tag_number_if d.tag) (and_second (c.unit == d.unit) (same_number (tag_number_if c.tag) (tag_number_if d.tag)) rest) i;
+      clash = λ i. (and_second (c.host == d.host) (c.target == d.target) ends i && and_first (c.unit == d.unit) (same_number (tag_number c.tag) (tag_number d.tag)) rest i) && same_clash (tag_number c.tag) (tag_number d.tag) (and_second (c.unit == d.unit) (same_number (tag_number c.tag) (tag_number d.tag)) rest) i;
     }
 
 -- ---- no other is open
@@ -90,14 +89,14 @@ no_tag (Some a) e = wrong' e
 -- An automatic REQUEST SENSE is untagged: it clashes with all commands of its unit.
 sense_clash : (s : ScenarioValue) (n m : ℕ) (c d : CmdDef) → same_nexus (nexus_of (process_by s (sense_id n) c)) (nexus_of (process_by s (command_id m) d)) ≡ true → OfOne d c
 sense_clash s n m c d e =
-    let ends = and_first (c.host == d.host && c.target == d.target) (c.unit == d.unit && same_number None (tag_number_if d.tag)) e in
-    let rest = and_second (c.host == d.host && c.target == d.target) (c.unit == d.unit && same_number None (tag_number_if d.tag)) e in
+    let ends = and_first (c.host == d.host && c.target == d.target) (c.unit == d.unit && same_number None (tag_number d.tag)) e in
+    let rest = and_second (c.host == d.host && c.target == d.target) (c.unit == d.unit && same_number None (tag_number d.tag)) e in
     let target : c.target ≡ d.target = eqb-true c.target d.target (and_second (c.host == d.host) (c.target == d.target) ends) in
-    let unit : c.unit ≡ d.unit = eqb-true c.unit d.unit (and_first (c.unit == d.unit) (same_number None (tag_number_if d.tag)) rest) in
-    let untagged : tag_number_if d.tag ≡ None = no_tag (tag_number_if d.tag) (and_second (c.unit == d.unit) (same_number None (tag_number_if d.tag)) rest) in
+    let unit : c.unit ≡ d.unit = eqb-true c.unit d.unit (and_first (c.unit == d.unit) (same_number None (tag_number d.tag)) rest) in
+    let untagged : tag_number d.tag ≡ None = no_tag (tag_number d.tag) (and_second (c.unit == d.unit) (same_number None (tag_number d.tag)) rest) in
     record {
       host = sym (eqb-true c.host d.host (and_first (c.host == d.host) (c.target == d.target) ends));
-      clash = (λ i. (d.target == target i && d.unit == unit i) && is_tag_clash (untagged i) (tag_number_if c.tag)) ∙ (λ i. (eq_self d.target i && eq_self d.unit i) && true);
+      clash = (λ i. (d.target == target i && d.unit == unit i) && is_tag_clash (untagged i) (tag_number c.tag)) ∙ (λ i. (eq_self d.target i && eq_self d.unit i) && true);
     }
 
 sense_alone : (s : ScenarioValue) (b : Sent) (n : ℕ) (c : CmdDef) → SensesAlone s b → command_at s.commands n ≡ Some c → list_any (λ k. k == n) b.checks ≡ true

@@ -16,7 +16,8 @@ use Rattle.bus_story.specs.HistoryEvents.{carried_if}
 use Rattle.bus_story.specs.Items.{Item, process, abort}
 use Rattle.bus_story.specs.Story.{Story}
 use Rattle.bus_story.specs.TraceHistory.{story_with_carried, story_with_restored, carried_after_message_if, carried_after_byte_if, carried_after_fault_if}
-use Rattle.bus_books.proofs.Lookups.{carried_id, put_own, put_other}
+use Rattle.bus_story.proofs.CarriedLists.{carried_id}
+use Rattle.bus_books.proofs.Lookups.{put_own, put_other}
 use Rattle.bus_books.proofs.Areas.{with_command_byte}
 use Rattle.transcript_laws.specs.Serving.{IsBlank}
 use Rattle.transcript_laws.specs.Standing.{AreAlike}

@@ -38,7 +38,7 @@ use Rattle.transcript_laws.specs.RowTests.{names_item, fits_in, is_no_abort}
 use Rattle.transcript_laws.proofs.OpenedBytes.{OpenedBytes, crosses_is, begun_crossing}
 use Rattle.transcript_laws.proofs.OpenedFacts.{Going, knows_before}
 use Rattle.transcript_laws.proofs.TurnFits.{item_served, not_both}
-use Rattle.bus_base.proofs.Tests.{wrong, wrong', eq_self}
+use Rattle.bus_base.proofs.Tests.{wrong, wrong', eq_self, second_false}
 
 some_of : (o : Option ℕ) (dev : ℕ) → o ≡ Some dev → is_some o ≡ true
 some_of o dev e = ap (λ (x : Option ℕ). is_some x) e
@@ -47,11 +47,6 @@ some_of o dev e = ap (λ (x : Option ℕ). is_some x) e
 
 not_less : {A : Type 0} (a b : ℕ) → a ≡ b → a < b → A
 not_less a b e h = absurd omega (arith, e, h)
-
-second_false : (a x y b : Bool) → x ≡ false → (a && x && y && b) ≡ false
-second_false true true y b e = wrong e
-second_false true false y b e = refl
-second_false false x y b e = refl
 
 third_false : (a x y b : Bool) → y ≡ false → (a && x && y && b) ≡ false
 third_false true true true b e = wrong e

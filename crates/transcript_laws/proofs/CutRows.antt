@@ -21,9 +21,8 @@ use Rattle.bus_story.specs.HistoryEvents.{link_events}
 use Rattle.bus_story.specs.Items.{Item, process, Sent, same_item, has_item, sense_item, is_open}
 use Rattle.bus_story.specs.Story.{Story, Ending, by_reset, story_with_over, story_with_end, story_with_ends, story_after_events}
 use Rattle.bus_story.specs.TraceHistory.{story_on_bus, story_with_history, story_with, story_by, story}
-use Rattle.bus_story.proofs.StorySteps.{ends_keep}
+use Rattle.bus_story.proofs.StorySteps.{ends_keep, events_sent}
 use Rattle.trace_laws.proofs.OpenCommands.{item_is}
-use Rattle.trace_laws.proofs.SentItems.{events_sent}
 use Rattle.bus_transcript.specs.declared.item.Item as item_of
 use Rattle.bus_transcript.specs.declared.item.Item.TheVariants as items
 use Rattle.bus_transcript.specs.declared.item.Name.{Name}

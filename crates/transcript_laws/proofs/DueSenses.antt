@@ -38,7 +38,8 @@ use Rattle.trace_laws.proofs.FreshItems.{calm_before}
 use Rattle.trace_laws.proofs.ItemFacts.{aimed_next}
 use Rattle.trace_laws.proofs.Joint.{NextStood}
 use Rattle.trace_laws.proofs.OpenCommands.{next_free, opened, same_process}
-use Rattle.trace_laws.proofs.OverItems.{ends_checks, events_grow, in_append, not_grown}
+use Rattle.trace_laws.proofs.OverItems.{events_grow, in_append, not_grown}
+use Rattle.bus_story.proofs.StorySteps.{ends_checks}
 use Rattle.trace_laws.proofs.RowEvents.{carried_of_item}
 use Rattle.trace_laws.proofs.Whole.{Whole, standing_next, whole}
 use Rattle.trace_laws.proofs.PointerWaits.{change_over}

@@ -22,10 +22,11 @@ use Rattle.scenario.specs.declared.value.AbortDef.{AbortDef}
 use Rattle.scenario.specs.Value.{ScenarioValue}
 use Rattle.scenario.specs.Writing.{Obeys}
 use Rattle.disk_array.specs.Processes.{Process, process_of}
+use Rattle.disk_array.specs.Order.{same_number}
 use Rattle.bus_story.specs.BusState.{RowReading, row_reading}
 use Rattle.bus_story.specs.HistoryEvents.{abort_line_at}
 use Rattle.bus_story.specs.Items.{Item, process, abort}
-use Rattle.bus_story.specs.Links.{Link, LastMessage, plain, abortive, same_number}
+use Rattle.bus_story.specs.Links.{Link, LastMessage, plain, abortive}
 use Rattle.bus_dialogue.specs.declared.exchange.Cause.{Cause}
 use Rattle.bus_dialogue.specs.declared.exchange.Cause.TheVariants as causes
 use Rattle.bus_dialogue.specs.declared.exchange.Next.{Next}

@@ -16,7 +16,8 @@ use Rattle.bus_transcript.specs.declared.part.Part.{Part}
 use Rattle.bus_transcript.specs.declared.part.Part.TheVariants as parts_of
 use Rattle.bus_transcript.specs.declared.summary.Departure.TheVariants.{Loss, Leave, Abortion}
 use Rattle.bus_transcript.specs.declared.summary.Summary.{Summary}
-use Rattle.bus_transcript.specs.Nexus.{no_summary, is_abort, summary_out, summary_in, summary_after, summary_of}
+use Rattle.bus_transcript.specs.Nexus.{no_summary, summary_out, summary_in, summary_after, summary_of}
+use Rattle.msg_grammar.specs.Grammar.{is_abort}
 use Rattle.bus_transcript.specs.Opened.{OpenedValue, held_part, data_parts, phase_parts}
 use Rattle.transcript_laws.specs.Parts.{is_talk, out_parts, parts_now, summary_by}
 use Rattle.transcript_laws.specs.RowTests.{closing_parts}

@@ -16,19 +16,19 @@ use Rattle.scenario.specs.declared.value.AbortDef.{AbortDef}
 use Rattle.scenario.specs.Value.{ScenarioValue}
 use Rattle.disk_array.specs.Processes as array_of
 use Rattle.disk_array.specs.Processes.{same_id}
+use Rattle.disk_array.specs.Order.{same_number}
 use Rattle.bus_story.specs.BusState.{RowReading, row_reading, bus_state_after}
 use Rattle.bus_story.specs.CarriedBytes.{CarriedBytes, carried_of}
 use Rattle.bus_story.specs.HistoryEvents.{abort_line_at, abort_line_events, item_abort_events, connection_events, bus_free_events, link_events}
 use Rattle.bus_story.specs.Items.{Item, process, abort, has_item}
-use Rattle.bus_story.specs.Links.{Link, LastMessage, plain, complete, disconnect, abortive, same_number}
+use Rattle.bus_story.specs.Links.{Link, LastMessage, plain, complete, disconnect, abortive}
 use Rattle.bus_story.specs.Story.{Story, by_abort, is_aborted, is_sense_stopped, story_after_events}
 use Rattle.bus_story.specs.TraceHistory.{story_on_bus, story_with_history, story_with, story_by, story}
-use Rattle.bus_story.proofs.StorySteps.{ends_keep, events_link}
+use Rattle.bus_story.proofs.StorySteps.{ends_keep, events_link, events_sent}
 use Rattle.bus_due.specs.Telling.{same_kind}
 use Rattle.bus_due.proofs.SameEvents.{kinds_are}
 use Rattle.bus_books.specs.Accounts.{is_open_in}
 use Rattle.trace_laws.proofs.OverItems.{events_grow}
-use Rattle.trace_laws.proofs.SentItems.{events_sent}
 use Rattle.bus_transcript.specs.Accounts.{account_of}
 use Rattle.bus_transcript.specs.declared.item.Item as item_of
 use Rattle.bus_transcript.specs.declared.item.Item.TheVariants as items

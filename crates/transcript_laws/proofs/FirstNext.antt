@@ -16,7 +16,8 @@ use Rattle.bus_story.specs.Items.{process, abort, has_item}
 use Rattle.bus_story.specs.Links.{link_of}
 use Rattle.bus_story.specs.Story.{Story}
 use Rattle.bus_story.specs.TraceHistory.{aim_of, story_with_history, story}
-use Rattle.bus_books.proofs.Lookups.{carried_id, put_there, put_own}
+use Rattle.bus_story.proofs.CarriedLists.{carried_id, carried_with}
+use Rattle.bus_books.proofs.Lookups.{put_own}
 use Rattle.trace_laws.proofs.Impossible.{none_some}
 use Rattle.bus_transcript.specs.declared.process.Process.{Process}
 use Rattle.bus_transcript.specs.Events.{names_begun}
@@ -144,7 +145,7 @@ begun_own b id none = put_own b.carried (begun_carried b id) id (carried_id b.ca
 
 begun_marked : (b : Story) (id x : ProcId) → ((y : ProcId) → IsMarked b.history (carried_of b.carried y))
     → IsMarked b.history (carried_of (with_carried b.carried (begun_carried b id)) x)
-begun_marked b id x marked = subst (λ (c : CarriedBytes). IsMarked b.history c) (sym (put_there b.carried (begun_carried b id) x)) (go (same_id (carried_of b.carried id).id x))
+begun_marked b id x marked = subst (λ (c : CarriedBytes). IsMarked b.history c) (sym (carried_with b.carried (begun_carried b id) x)) (go (same_id (carried_of b.carried id).id x))
   where
     go : (q : Bool) → IsMarked b.history (if q then begun_carried b id else carried_of b.carried x)
     go true = record { refused = (marked id).refused; shown = (marked id).shown; apart = (marked id).apart; saved = (marked id).saved }
@@ -152,7 +153,7 @@ begun_marked b id x marked = subst (λ (c : CarriedBytes). IsMarked b.history c)
 
 begun_other : (b : Story) (id x : ProcId) → same_id x id ≡ false → carried_of (with_carried b.carried (begun_carried b id)) x ≡ carried_of b.carried x
 begun_other b id x e =
-    put_there b.carried (begun_carried b id) x
+    carried_with b.carried (begun_carried b id) x
     ∙ ap (λ (q : Bool). if q then begun_carried b id else carried_of b.carried x) (ap (λ (y : ProcId). same_id y x) (carried_id b.carried id) ∙ id_turned x id e)
 
 pub process_next : (s : ScenarioValue) (rows : List Row) (row : Row) (n : Connection) (id : ProcId) → n.reselected ≡ false

@@ -13,15 +13,16 @@ use Rattle.msg_grammar.specs.declared.message.MsgIn.TheVariants as to_initiator
 use Rattle.scenario.specs.declared.value.CmdDef.{CmdDef}
 use Rattle.scenario.specs.Value.{ScenarioValue}
 use Rattle.disk_array.specs.Processes.{same_id}
+use Rattle.disk_array.specs.Order.{same_number, tag_number}
 use Rattle.bus_story.specs.BusState.{RowReading, row_reading}
 use Rattle.bus_story.specs.CarriedBytes.{CarriedBytes, carried_of, with_restored_pointers, carried_after_message, is_status_phase}
 use Rattle.bus_story.specs.HistoryEvents.{carried_if}
-use Rattle.bus_story.specs.Items.{Item, process, abort, Sent, is_open, command_item, sense_item, tag_number_if}
-use Rattle.bus_story.specs.Links.{Link, last_in, is_of_nexus, is_open_sense, same_number, named_item_from, link_after_name}
+use Rattle.bus_story.specs.Items.{Item, process, abort, Sent, is_open, command_item, sense_item}
+use Rattle.bus_story.specs.Links.{Link, last_in, is_of_nexus, is_open_sense, named_item_from, link_after_name}
 use Rattle.bus_story.specs.Story.{Story}
 use Rattle.bus_story.specs.TraceHistory.{story_with_carried, carried_after_message_if, story}
+use Rattle.bus_story.proofs.CarriedLists.{carried_id}
 use Rattle.bus_books.specs.RowTests.{same_item_if}
-use Rattle.bus_books.proofs.Lookups.{carried_id}
 use Rattle.bus_books.proofs.RowTies.{item_if_is}
 use Rattle.trace_laws.proofs.OverItems.{grows_same}
 use Rattle.trace_laws.proofs.Impossible.{none_some}
@@ -136,7 +137,7 @@ same_stands s rows row h c lines marked crossed link sent same = record {
 found_process : {A : Type 0} (b : Sent) (i t u : ℕ) (tag : Option ℕ) (n : ℕ) (commands : List CmdDef) (j : ℕ) → named_item_from b i t u tag n commands ≡ Some (abort j) → A
 found_process b i t u tag n [] j e = none_some (abort j) e
 found_process b i t u tag n (c ∷ commands) j e =
-    go (is_of_nexus c i t u && is_open b n && same_number (tag_number_if c.tag) tag) (is_of_nexus c i t u && is_open_sense b n && same_number None tag) e (λ z. found_process b i t u tag (n + 1) commands j z)
+    go (is_of_nexus c i t u && is_open b n && same_number (tag_number c.tag) tag) (is_of_nexus c i t u && is_open_sense b n && same_number None tag) e (λ z. found_process b i t u tag (n + 1) commands j z)
   where
     go : {A : Type 0} (q r : Bool)
         → (if q then Some (command_item n) else if r then Some (sense_item n) else named_item_from b i t u tag (n + 1) commands) ≡ Some (abort j)

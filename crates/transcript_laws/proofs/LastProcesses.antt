@@ -6,7 +6,6 @@ use Rattle.std.specs.BTreeMap.{is_at, insert_entry}
 use Rattle.std.specs.Ordering.{is_eq, match_ordering}
 use Rattle.std.specs.declared.cmp.Ordering.{Ordering}
 use Rattle.std.specs.declared.cmp.Ordering.TheVariants.{Less, Equal, Greater}
-use Rattle.bus_story.specs.Links.{same_number}
 use Rattle.bus_transcript.specs.declared.item.Name.{Name}
 use Rattle.bus_transcript.specs.declared.process.Process.{Process}
 use Rattle.bus_transcript.specs.Keys.{Key, key_of, key_cmp}
@@ -14,6 +13,7 @@ use Rattle.bus_transcript.specs.Processes.{process_of, with_last, same_nexus, Is
 use Rattle.bus_transcript.proofs.Nexuses.{by_key}
 use Rattle.std.proofs.lemmas.Bool.{eqb-true, and_parts}
 use Rattle.bus_base.proofs.Tests.{wrong', eq_turned}
+use Rattle.disk_array.specs.Order.{same_number}
 
 -- ---- keys that are the same
 

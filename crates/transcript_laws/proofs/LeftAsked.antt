@@ -6,13 +6,14 @@ use Rattle.bus_trace.specs.Phases.{changes_phase}
 use Rattle.bus_trace.specs.Trace.{drives, last_time}
 use Rattle.bus_trace.specs.declared.connection.Connection.{Connection}
 use Rattle.bus_trace.specs.declared.rows.Row.{Row}
+use Rattle.bus_trace.proofs.Sets.{same_self}
 use Rattle.scenario.specs.Value.{ScenarioValue}
 use Rattle.bus_dialogue.specs.Hearing.{begun}
 use Rattle.bus_laws.specs.Ends.{EndLines, Linked, connected_bus, initiator_side, target_side}
 use Rattle.bus_laws.specs.Rows.{row_of_fault, row_of_lines}
 use Rattle.bus_laws.proofs.Rows.{fault_change}
 use Rattle.link_laws.specs.Phases.{ends}
-use Rattle.link_laws.proofs.Moves.{initiator_moves, target_moves, phase_same, same_self}
+use Rattle.link_laws.proofs.Moves.{initiator_moves, target_moves, phase_same}
 use Rattle.trace_laws.proofs.LinkRows as rows
 use Rattle.trace_laws.proofs.LinkRows.{LinkRow, is_unasked}
 use Rattle.bus_base.proofs.Tests.{wrong, wrong'}

@@ -9,9 +9,9 @@ use Rattle.msg_grammar.specs.declared.message.MsgIn.TheVariants as to_initiator
 use Rattle.msg_grammar.specs.declared.message.MsgOut.{MsgOut}
 use Rattle.msg_grammar.specs.Messages.{form_in, got_in}
 use Rattle.disk_array.specs.Processes.{Process}
+use Rattle.disk_array.specs.Order.{tag_number}
 use Rattle.bus_phases.specs.Half.{is_nil, left_of}
 use Rattle.bus_story.specs.BusState.{whole_in}
-use Rattle.bus_story.specs.Items.{tag_number_if}
 use Rattle.bus_dialogue.specs.declared.exchange.Messages.{Messages}
 use Rattle.bus_dialogue.specs.Exchange.{bytes_of_messages, message_bytes, from_byte, one_message}
 use Rattle.bus_dialogue.specs.Words.{naming_messages, tag_named, is_name, is_naming}
@@ -19,7 +19,8 @@ use Rattle.bus_transcript.specs.declared.part.Part.{Part}
 use Rattle.bus_transcript.specs.declared.part.Part.TheVariants as parts_of
 use Rattle.bus_transcript.specs.declared.summary.Departure.TheVariants.{Loss}
 use Rattle.bus_transcript.specs.declared.summary.Summary.{Summary}
-use Rattle.bus_transcript.specs.Nexus.{no_summary, is_abort, named, unit_in, tag_in, summary_of, summary_in, summary_out}
+use Rattle.bus_transcript.specs.Nexus.{no_summary, named, unit_in, tag_in, summary_of, summary_in, summary_out}
+use Rattle.msg_grammar.specs.Grammar.{is_abort}
 use Rattle.transcript_laws.specs.Parts.{out_parts, summary_by}
 use Rattle.transcript_laws.proofs.OutNames.{outs_of, is_tame, are_tame}
 use Rattle.bus_base.proofs.Tests.{wrong, wrong', and_first, and_second}
@@ -113,8 +114,8 @@ again_abort n parts re e = ap (λ (q : Bool). (summary_of q no_summary parts).ab
 
 pub record AreNames (a : Summary) (q : Process) : Type 0 where
   pub unit : a.unit ≡ Some q.unit
-  pub tag : a.tag ≡ tag_number_if q.tag
-  pub awaits : a.awaits_tag ≡ true → tag_number_if q.tag ≡ None
+  pub tag : a.tag ≡ tag_number q.tag
+  pub awaits : a.awaits_tag ≡ true → tag_number q.tag ≡ None
 
 no_tag : (m : MsgIn) → is_name m ≡ false → tag_in m ≡ None
 no_tag to_initiator.CommandComplete e = refl
@@ -135,7 +136,7 @@ names_stay a q m e h = subst (λ (x : Bool). AreNames (if x then record a { unit
     go false f = h
 
 pub names_of_parts : (n : Connection) (q : Process) (parts : List Part) → n.reselected ≡ true → AreNames (heard_names no_summary (ins_of parts)) q
-    → ((summary_by n parts).unit ≡ Some q.unit) × ((summary_by n parts).tag ≡ tag_number_if q.tag)
+    → ((summary_by n parts).unit ≡ Some q.unit) × ((summary_by n parts).tag ≡ tag_number q.tag)
 names_of_parts n q parts re h =
     let is : told (summary_by n parts) ≡ heard_names no_summary (ins_of parts) = ap (λ (x : Bool). told (summary_of x no_summary parts)) re ∙ told_same parts no_summary in
     (ap (λ (x : Summary). x.unit) is ∙ h.unit, ap (λ (x : Summary). x.tag) is ∙ h.tag)
@@ -144,7 +145,7 @@ names_of_parts n q parts re h =
 
 pub record IsTag (q : Process) (t : ℕ) : Type 0 where
   pub named : tag_named q.tag ≡ Some (to_initiator.SimpleTag t)
-  pub number : tag_number_if q.tag ≡ Some t
+  pub number : tag_number q.tag ≡ Some t
 
 -- ---- as they are said
 

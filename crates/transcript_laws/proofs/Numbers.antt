@@ -15,7 +15,7 @@ use Rattle.transcript_laws.specs.Numbered.{OnNames, AreOther, AreDistinct, HasLa
 use Rattle.transcript_laws.proofs.LastProcesses.{is_last, nexus_is, nexus_turned}
 use Rattle.bus_base.proofs.Tests.{wrong}
 use Rattle.trace_laws.proofs.Impossible.{none_some}
-use Rattle.bus_transcript.proofs.Inside.{number_same}
+use Rattle.disk_array.proofs.SeatLookups.{number_same}
 
 -- ---- numbers
 

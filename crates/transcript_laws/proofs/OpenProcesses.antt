@@ -8,8 +8,9 @@ use Rattle.disk_array.specs.Processes.{same_id}
 use Rattle.bus_story.specs.CarriedBytes.{CarriedBytes, carried_of, with_carried}
 use Rattle.bus_story.specs.Items.{Item}
 use Rattle.bus_story.specs.Story.{Story}
+use Rattle.bus_story.proofs.CarriedLists.{carried_with}
 use Rattle.bus_books.specs.Accounts.{is_open_in}
-use Rattle.bus_books.proofs.Lookups.{put_there, id_is}
+use Rattle.bus_books.proofs.Lookups.{id_is}
 use Rattle.bus_transcript.specs.declared.item.Name.{Name}
 use Rattle.bus_transcript.specs.declared.process.Process.{Process}
 use Rattle.bus_transcript.specs.Events.{names_begun, name_sent}
@@ -43,8 +44,8 @@ alike_put all c h x = go (same_id c.id x) refl
     go : (q : Bool) → same_id c.id x ≡ q → AreAlike (carried_of all x) (carried_of (with_carried all c) x)
     go true e =
         alike_on (carried_of all x) (carried_of all c.id) (carried_of (with_carried all c) x) (alike_self _ _ (ap (λ (y : ProcId). carried_of all y) (sym (id_is c.id x e))))
-        (alike_on (carried_of all c.id) c (carried_of (with_carried all c) x) h (alike_self _ _ (sym (put_there all c x ∙ ap (λ (q : Bool). if q then c else carried_of all x) e))))
-    go false e = alike_self _ _ (sym (put_there all c x ∙ ap (λ (q : Bool). if q then c else carried_of all x) e))
+        (alike_on (carried_of all c.id) c (carried_of (with_carried all c) x) h (alike_self _ _ (sym (carried_with all c x ∙ ap (λ (q : Bool). if q then c else carried_of all x) e))))
+    go false e = alike_self _ _ (sym (carried_with all c x ∙ ap (λ (q : Bool). if q then c else carried_of all x) e))
 
 -- What holds of all holds where one is put of which it holds.
 pub put_each : (P : CarriedBytes → Type 0) (all : List CarriedBytes) (c : CarriedBytes) (x : ProcId) → (P (carried_of all c.id) → P c) → P (carried_of all x)
@@ -53,8 +54,8 @@ put_each P all c x f h = go (same_id c.id x) refl
   where
     go : (q : Bool) → same_id c.id x ≡ q → P (carried_of (with_carried all c) x)
     go true e =
-        subst P (sym (put_there all c x ∙ ap (λ (q : Bool). if q then c else carried_of all x) e)) (f (subst (λ (y : ProcId). P (carried_of all y)) (sym (id_is c.id x e)) h))
-    go false e = subst P (sym (put_there all c x ∙ ap (λ (q : Bool). if q then c else carried_of all x) e)) h
+        subst P (sym (carried_with all c x ∙ ap (λ (q : Bool). if q then c else carried_of all x) e)) (f (subst (λ (y : ProcId). P (carried_of all y)) (sym (id_is c.id x e)) h))
+    go false e = subst P (sym (carried_with all c x ∙ ap (λ (q : Bool). if q then c else carried_of all x) e)) h
 
 -- ---- what is kept
 

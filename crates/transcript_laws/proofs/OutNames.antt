@@ -11,8 +11,7 @@ use Rattle.scenario.specs.declared.value.Tag.{Tag}
 use Rattle.scenario.specs.declared.value.Tag.TheVariants as tags
 use Rattle.scenario.specs.Value.{ScenarioValue}
 use Rattle.disk_array.specs.Processes.{Process, process_of}
-use Rattle.bus_story.specs.Items.{tag_number_if}
-use Rattle.bus_story.specs.Links.{same_number}
+use Rattle.disk_array.specs.Order.{same_number, tag_number}
 use Rattle.bus_transcript.specs.declared.part.Incoming.{Incoming}
 use Rattle.bus_transcript.specs.declared.part.Incoming.TheVariants.{Whole, Broken}
 use Rattle.bus_transcript.specs.declared.part.Part.{Part}
@@ -20,9 +19,10 @@ use Rattle.bus_transcript.specs.declared.part.Part.TheVariants as parts_of
 use Rattle.bus_transcript.specs.declared.summary.Departure.{Departure}
 use Rattle.bus_transcript.specs.declared.summary.Departure.TheVariants.{Loss}
 use Rattle.bus_transcript.specs.declared.summary.Summary.{Summary}
-use Rattle.bus_transcript.specs.Nexus.{no_summary, named, unit_out, tag_out, is_abort, last_abort, departure_out, summary_out, summary_in, summary_of}
+use Rattle.bus_transcript.specs.Nexus.{no_summary, named, unit_out, tag_out, last_abort, departure_out, summary_out, summary_in, summary_of}
+use Rattle.msg_grammar.specs.Grammar.{is_abort}
 use Rattle.bus_transcript.specs.Opened.{OpenedValue, held_part}
-use Rattle.bus_transcript.proofs.Inside.{number_same}
+use Rattle.disk_array.proofs.SeatLookups.{number_same}
 use Rattle.transcript_laws.specs.Parts.{held_parts, base_parts, out_parts, parts_now, summary_by, is_of, name_process}
 use Rattle.transcript_laws.proofs.OutWords.{tag_messages, offers_if}
 use Rattle.bus_base.proofs.Tests.{wrong', and_first, and_second, eq_self}
@@ -222,7 +222,7 @@ untagged_steps unit (m ∷ ms) e =
     record { unit_is = ap (λ (x : Summary). x.unit) is; tag_is = ap (λ (x : Summary). x.tag) is }
 
 opening_steps : (unit : ℕ) (tag : Tag) (disc : Bool) (rest : List MsgOut) → are_mild rest ≡ true
-    → AreNames (name_steps no_summary (to_target.Identify disc unit ∷ tag_messages tag rest)) unit (tag_number_if tag)
+    → AreNames (name_steps no_summary (to_target.Identify disc unit ∷ tag_messages tag rest)) unit (tag_number tag)
 opening_steps unit tags.Untagged disc rest e = untagged_steps unit rest e
 opening_steps unit (tags.Simple n) disc rest e = let is = mild_steps unit (Some n) rest e in record { unit_is = ap (λ (x : Summary). x.unit) is; tag_is = ap (λ (x : Summary). x.tag) is }
 opening_steps unit (tags.Ordered n) disc rest e = let is = mild_steps unit (Some n) rest e in record { unit_is = ap (λ (x : Summary). x.unit) is; tag_is = ap (λ (x : Summary). x.tag) is }
@@ -231,11 +231,11 @@ opening_steps unit (tags.Head n) disc rest e = let is = mild_steps unit (Some n)
 -- ---- they name the process
 
 pub name_by : (s : ScenarioValue) (n : Connection) (parts : List Part) (id : ProcId) (p : Process) → process_of s id ≡ Some p → p.initiator ≡ n.initiator → p.target ≡ n.target
-    → (summary_by n parts).unit ≡ Some p.unit → (summary_by n parts).tag ≡ tag_number_if p.tag → name_process s n parts id ≡ true
+    → (summary_by n parts).unit ≡ Some p.unit → (summary_by n parts).tag ≡ tag_number p.tag → name_process s n parts id ≡ true
 name_by s n parts id p of initiator target unit tag =
     ap (λ (o : Option Process). is_of (Rattle.bus_transcript.specs.Rows.name_of n (summary_by n parts)) o) of
-    ∙ (λ i. (n.initiator == initiator i && n.target == target i) && (same_number (unit i) (Some p.unit) && same_number (tag i) (tag_number_if p.tag)))
-    ∙ (λ i. (eq_self n.initiator i && eq_self n.target i) && (eq_self p.unit i && number_same (tag_number_if p.tag) i))
+    ∙ (λ i. (n.initiator == initiator i && n.target == target i) && (same_number (unit i) (Some p.unit) && same_number (tag i) (tag_number p.tag)))
+    ∙ (λ i. (eq_self n.initiator i && eq_self n.target i) && (eq_self p.unit i && number_same (tag_number p.tag) i))
 
 pub opening_names : (s : ScenarioValue) (n : Connection) (parts : List Part) (id : ProcId) (p : Process) → n.reselected ≡ false → process_of s id ≡ Some p
     → p.initiator ≡ n.initiator → p.target ≡ n.target → IsOpening p (outs_of parts) → name_process s n parts id ≡ true

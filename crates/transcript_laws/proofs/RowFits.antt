@@ -18,7 +18,7 @@ use Rattle.bus_story.specs.BusState.{RowReading, row_reading, message_in, messag
 use Rattle.bus_story.specs.CarriedBytes.{carried_of}
 use Rattle.bus_story.specs.HistoryEvents as story_of
 use Rattle.bus_story.specs.Items.{Item, process}
-use Rattle.bus_story.specs.Links.{Link, LastMessage, plain, complete, disconnect, abortive}
+use Rattle.bus_story.specs.Links.{Link, LastMessage, plain}
 use Rattle.bus_dialogue.specs.declared.exchange.Phase.{Phase}
 use Rattle.bus_dialogue.specs.declared.exchange.Phase.TheVariants as phases
 use Rattle.bus_dialogue.specs.Exchange.{one_message}
@@ -33,6 +33,7 @@ use Rattle.trace_laws.specs.LastTalks.{LastBy, LastGiven, still_stays, to_close,
 use Rattle.trace_laws.specs.Statuses.{CarriesBy, HasStatus}
 use Rattle.trace_laws.specs.Tells.{IsServed, of_process, of_abort}
 use Rattle.trace_laws.proofs.PhaseLines.{in_phase, out_in, out_lines}
+use Rattle.trace_laws.proofs.CloseStays.{complete_is}
 use Rattle.bus_books.proofs.Gives.{not_both}
 use Rattle.transcript_laws.specs.Parts.{are_talk, base_parts, is_known}
 use Rattle.transcript_laws.specs.RowTests.{is_broken, fits_out, fits_in, is_no_abort, fits_crossing, undoes_nothing, arrives_first, gets_known, is_open_item, fits_turn, has_status, fits_still, fits_on}
@@ -150,13 +151,6 @@ still_same s p row n g o l h el here = go (story_of.is_complete l.last) refl
     go : (q : Bool) → story_of.is_complete l.last ≡ q → same_bool (story_of.is_complete l.last) (is_complete o.held && is_nil k.story.bus_state.dialogue.half) ≡ true
     go true e = λ i. same_bool (e i) ((sym same ∙ e) i && whole (t.completes e) i)
     go false e = λ i. same_bool (e i) ((sym same ∙ e) i && is_nil k.story.bus_state.dialogue.half)
-
--- With COMMAND COMPLETE a status has come.
-complete_is : (last : LastMessage) → story_of.is_complete last ≡ true → last ≡ complete
-complete_is complete e = refl
-complete_is plain e = wrong' e
-complete_is disconnect e = wrong' e
-complete_is abortive e = wrong' e
 
 not_plain : {A : Type 0} (last : LastMessage) → last ≡ plain → story_of.is_complete last ≡ true → A
 not_plain last e z = wrong' (sym (ap story_of.is_complete e) ∙ z)

@@ -27,7 +27,7 @@ use Rattle.bus_laws.proofs.Prompt.{least_is}
 use Rattle.bus_books.specs.Items.{IsItem, is_process, is_abort}
 use Rattle.bus_books.proofs.Aims.{aims_are}
 use Rattle.trace_laws.proofs.FreshItems.{items_fresh}
-use Rattle.trace_laws.proofs.OverItems.{none_at}
+use Rattle.disk_array.proofs.SeatLookups.{none_at}
 use Rattle.trace_laws.proofs.Whole.{Whole, whole}
 use Rattle.trace_laws.proofs.Impossible.{none_some}
 use Rattle.trace_laws.proofs.OpenCommands.{item_is}

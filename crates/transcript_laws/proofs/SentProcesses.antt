@@ -21,10 +21,12 @@ use Rattle.bus_books.specs.Items.{IsItem, is_process, is_abort}
 use Rattle.bus_books.proofs.Aims.{aims_are}
 use Rattle.bus_books.proofs.Lookups.{id_is}
 use Rattle.trace_laws.specs.ItemFacts.{AreChecked, IsChecked}
-use Rattle.trace_laws.proofs.OverItems.{none_at, reset_senses}
+use Rattle.trace_laws.proofs.OverItems.{reset_senses}
+use Rattle.disk_array.proofs.SeatLookups.{none_at}
 use Rattle.trace_laws.proofs.PointerEnds.{reset_over}
 use Rattle.trace_laws.proofs.RowItems.{inside_sent}
-use Rattle.trace_laws.proofs.SentItems.{own_has, more_has, event_sent, events_sent, free_keeps, restored_sent}
+use Rattle.trace_laws.proofs.SentItems.{own_has, more_has, free_keeps, restored_sent}
+use Rattle.bus_story.proofs.StorySteps.{event_sent, events_sent}
 use Rattle.trace_laws.proofs.Impossible.{none_some}
 use Rattle.transcript_laws.specs.RowTests.{is_open_process, ends_all}
 use Rattle.bus_base.proofs.Tests.{wrong', and_false}

@@ -19,7 +19,8 @@ use Rattle.bus_story.specs.HistoryEvents as story_of
 use Rattle.bus_story.specs.Items.{Item, process, abort, has_item}
 use Rattle.bus_story.specs.Story.{Story}
 use Rattle.bus_story.specs.TraceHistory.{aim_of, story}
-use Rattle.bus_books.proofs.Lookups.{carried_id, id_is}
+use Rattle.bus_story.proofs.CarriedLists.{carried_id}
+use Rattle.bus_books.proofs.Lookups.{id_is}
 use Rattle.trace_laws.proofs.Impossible.{none_some}
 use Rattle.bus_transcript.specs.declared.item.Name.{Name}
 use Rattle.bus_transcript.specs.Events.{same_name, names_begun, name_sent, TellsHistory}

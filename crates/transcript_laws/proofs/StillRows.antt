@@ -16,6 +16,7 @@ use Rattle.bus_trace.specs.declared.rows.Row.{Row}
 use Rattle.cdb_codec.specs.declared.sense.TheConstants.{PARITY_ERROR, INITIATOR_DETECTED_ERROR}
 use Rattle.scenario.specs.Value.{ScenarioValue}
 use Rattle.disk_array.specs.Processes.{same_id, same_bool}
+use Rattle.disk_array.proofs.SeatLookups.{same_bool_is}
 use Rattle.bus_phases.specs.Half.{is_nil}
 use Rattle.bus_story.specs.BusState.{RowReading, row_reading}
 use Rattle.bus_story.specs.CarriedBytes.{CarriedBytes, carried_of}
@@ -24,11 +25,10 @@ use Rattle.bus_story.specs.HistoryEvents.{carried_if, phase_events, end_events, 
 use Rattle.bus_story.specs.Items.{Item, process, Sent}
 use Rattle.bus_story.specs.Story.{Story, by_status, story_with_end, story_after_events}
 use Rattle.bus_story.specs.TraceHistory.{story_with_carried, carried_after_fault_if, story_after_fault, story_after_crossing, story_in_connection, story}
-use Rattle.bus_story.proofs.StorySteps.{check_keeps}
+use Rattle.bus_story.proofs.StorySteps.{check_keeps, events_sent}
+use Rattle.bus_story.proofs.CarriedLists.{carried_id}
 use Rattle.bus_books.proofs.InConnection.{same_phase_is}
-use Rattle.bus_books.proofs.Lookups.{is_bool, carried_id}
 use Rattle.trace_laws.proofs.OverItems.{grows_same, events_grow}
-use Rattle.trace_laws.proofs.SentItems.{events_sent}
 use Rattle.bus_transcript.specs.declared.part.Part.{Part}
 use Rattle.bus_transcript.specs.declared.part.Part.TheVariants as parts_of
 use Rattle.bus_transcript.specs.Events.{names_begun}
@@ -85,7 +85,7 @@ still_story s rows row h r = λ i. if r.crosses i then story_after_crossing s (s
 -- ---- COMMAND COMPLETE is taken for both
 
 agree : (r m a x y z : Bool) → (not (r && m && a) || same_bool x (y && z)) ≡ true → (r && m && x && a) ≡ (r && m && y && z && a)
-agree true true true x y z e = ap (λ (q : Bool). q && true) (is_bool x (y && z) e)
+agree true true true x y z e = ap (λ (q : Bool). q && true) (same_bool_is x (y && z) e)
 agree true true false x y z e = and_false x ∙ sym (and_false (y && z))
 agree true false a x y z e = refl
 agree false m a x y z e = refl

@@ -27,11 +27,12 @@ use Rattle.bus_due.specs.Defs.{host_of}
 use Rattle.bus_due.specs.RunState.{RunState, bus_of}
 use Rattle.bus_due.specs.RunSteps.{run_state}
 use Rattle.bus_due.specs.Sights.{hearing_of, leaving, serving_of}
+use Rattle.bus_due.proofs.Stills.{still_talk}
 use Rattle.bus_books.specs.Giving.{OnMessages}
 use Rattle.bus_books.specs.Knowing.{IsNoName}
 use Rattle.bus_books.specs.Rows.{reading_in}
 use Rattle.bus_books.proofs.Gives.{byte_messages}
-use Rattle.bus_books.proofs.InConnection.{InConnection, in_connection, exchange_by}
+use Rattle.bus_books.proofs.InConnection.{InConnection, in_connection}
 use Rattle.bus_books.proofs.Knows.{nameless_item, others_nameless, from_nameless}
 use Rattle.bus_books.proofs.Leavings.{left_messages}
 use Rattle.bus_transcript.specs.declared.part.Incoming.{Incoming}
@@ -124,7 +125,7 @@ turn_nameless x w l was next true true = go (is_message_in w.change.before)
 turn_nameless x w l was next true false = was
 
 row_nameless : (s : ScenarioValue) (n : Connection) (phase now fault : Bool) (x : Exchange) (w : Hearing) (l : Leaving) → OnMessages IsNoName x.plan.messages
-    → OnMessages IsNoName l.messages → OnMessages IsNoName (exchange_by phase now fault (host_of s n.initiator) w l x).plan.messages
+    → OnMessages IsNoName l.messages → OnMessages IsNoName (still_talk phase now fault (host_of s n.initiator) w l x).plan.messages
 row_nameless s n true now fault x w l was next = turn_nameless x w l was next (is_message_out w.change.after) w.begun
 row_nameless s n false true fault x w l was next = subst (λ (m : Messages). OnMessages IsNoName m) (sym (byte_messages (is_message_out w.change.before) w.is_last w.out x.plan)) was
 row_nameless s n false false fault x w l was next = go (fault && not w.change.before.io)

@@ -11,7 +11,8 @@ use Rattle.bus_story.specs.CarriedBytes.{CarriedBytes, carried_of, with_carried}
 use Rattle.bus_story.specs.HistoryEvents.{is_refuse, status_event}
 use Rattle.bus_story.specs.Story.{Story, by_status, marked_refused, marked_shown, story_with_end, story_after_event, story_after_events}
 use Rattle.bus_story.proofs.StorySteps.{check_keeps}
-use Rattle.bus_books.proofs.Lookups.{self_id, carried_id, put_own, put_other}
+use Rattle.bus_story.proofs.CarriedLists.{carried_id}
+use Rattle.bus_books.proofs.Lookups.{self_id, put_own, put_other}
 use Rattle.transcript_laws.specs.Past.{IsOwnEvent, AreOwnEvents}
 use Rattle.transcript_laws.specs.Serving.{marked_by, marked_with}
 use Rattle.transcript_laws.specs.Told.{has_refusal, has_answer, IsMarked}

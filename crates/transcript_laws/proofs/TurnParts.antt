@@ -9,11 +9,11 @@ use Rattle.bus_trace.specs.Phases.{is_command, is_data, is_message_in}
 use Rattle.bus_trace.specs.declared.connection.Connection.{Connection}
 use Rattle.msg_grammar.specs.declared.message.MsgOut.{MsgOut}
 use Rattle.disk_array.specs.Processes.{same_bool}
+use Rattle.disk_array.proofs.SeatLookups.{same_bool_is}
 use Rattle.bus_phases.specs.Half.{is_nil}
 use Rattle.bus_story.specs.CarriedBytes.{CarriedBytes, is_status_phase}
 use Rattle.bus_story.specs.Right.{same_bytes}
-use Rattle.bus_books.proofs.Lookups.{is_bool}
-use Rattle.trace_laws.proofs.Instructed.{bytes_are}
+use Rattle.bus_story.proofs.SameBytes.{bytes_are}
 use Rattle.bus_transcript.specs.Accounts.{AccountValue}
 use Rattle.bus_transcript.specs.declared.part.Incoming.TheVariants.{Broken}
 use Rattle.bus_transcript.specs.declared.part.Part.{Part}
@@ -188,12 +188,12 @@ alike_is u c e =
     let two = and_first (same_bytes u.block c.block && same_bool u.struck c.struck) (same_bytes u.status.bytes c.status.bytes) three in
     record {
       block = bytes_are u.block c.block (and_first (same_bytes u.block c.block) (same_bool u.struck c.struck) two);
-      struck = is_bool u.struck c.struck (and_second (same_bytes u.block c.block) (same_bool u.struck c.struck) two);
+      struck = same_bool_is u.struck c.struck (and_second (same_bytes u.block c.block) (same_bool u.struck c.struck) two);
       bytes = bytes_are u.status.bytes c.status.bytes (and_second (same_bytes u.block c.block && same_bool u.struck c.struck) (same_bytes u.status.bytes c.status.bytes) three);
       active = eqb-true u.status.active c.status.active (and_second (same_bytes u.block c.block && same_bool u.struck c.struck && same_bytes u.status.bytes c.status.bytes) (u.status.active == c.status.active) four);
       saved = eqb-true u.status.saved c.status.saved (and_second (same_bytes u.block c.block && same_bool u.struck c.struck && same_bytes u.status.bytes c.status.bytes && u.status.active == c.status.active) (u.status.saved == c.status.saved) five);
-      shown = is_bool u.shown c.shown (and_second (same_bytes u.block c.block && same_bool u.struck c.struck && same_bytes u.status.bytes c.status.bytes && u.status.active == c.status.active && u.status.saved == c.status.saved) (same_bool u.shown c.shown) six);
-      refused = is_bool u.refused c.refused (and_second (same_bytes u.block c.block && same_bool u.struck c.struck && same_bytes u.status.bytes c.status.bytes && u.status.active == c.status.active && u.status.saved == c.status.saved && same_bool u.shown c.shown) (same_bool u.refused c.refused) e);
+      shown = same_bool_is u.shown c.shown (and_second (same_bytes u.block c.block && same_bool u.struck c.struck && same_bytes u.status.bytes c.status.bytes && u.status.active == c.status.active && u.status.saved == c.status.saved) (same_bool u.shown c.shown) six);
+      refused = same_bool_is u.refused c.refused (and_second (same_bytes u.block c.block && same_bool u.struck c.struck && same_bytes u.status.bytes c.status.bytes && u.status.active == c.status.active && u.status.saved == c.status.saved && same_bool u.shown c.shown) (same_bool u.refused c.refused) e);
     }
 
 -- The account of one is that of the other.

@@ -23,11 +23,11 @@ use Rattle.bus_story.specs.HistoryEvents.{carried_if, phase_events, end_events, 
 use Rattle.bus_story.specs.Items.{Item, process, abort}
 use Rattle.bus_story.specs.Story.{Story, story_after_events}
 use Rattle.bus_story.specs.TraceHistory.{story_after_fault, story_after_crossing, story_in_connection, story}
-use Rattle.bus_story.proofs.StorySteps.{events_link}
-use Rattle.bus_books.proofs.Lookups.{carried_id, id_is}
+use Rattle.bus_story.proofs.StorySteps.{events_link, events_sent}
+use Rattle.bus_story.proofs.CarriedLists.{carried_id}
+use Rattle.bus_books.proofs.Lookups.{id_is}
 use Rattle.bus_books.proofs.Reading.{nil_is}
 use Rattle.trace_laws.proofs.OverItems.{events_grow}
-use Rattle.trace_laws.proofs.SentItems.{events_sent}
 use Rattle.trace_laws.proofs.Impossible.{none_some}
 use Rattle.trace_laws.proofs.TellRows.{no_events}
 use Rattle.bus_transcript.specs.Accounts.{AccountValue}

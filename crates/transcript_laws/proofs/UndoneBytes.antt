@@ -26,16 +26,17 @@ use Rattle.bus_story.specs.Items.{Item, process, abort}
 use Rattle.bus_story.specs.Links.{Link, last_out, last_in, link_after_name}
 use Rattle.bus_story.specs.Story.{Story, by_status, story_with_end, story_after_events}
 use Rattle.bus_story.specs.TraceHistory.{story_with_carried, story_with_restored, is_parity_error, story_after_out, carried_after_message_if, story_after_message, story_after_in, story_after_byte, carried_after_fault_if, story_after_fault, story_in_connection}
-use Rattle.bus_story.proofs.StorySteps.{check_keeps, out_link}
+use Rattle.bus_story.proofs.StorySteps.{check_keeps, out_link, message_id}
+use Rattle.bus_story.proofs.CarriedLists.{carried_id}
 use Rattle.bus_due.specs.RunState.{RunState}
 use Rattle.bus_due.specs.RunSteps.{run_state_after}
 use Rattle.bus_books.specs.Rows.{IsRowIn, reading_in}
 use Rattle.bus_books.proofs.Blocks.{same_self}
 use Rattle.bus_books.proofs.Knows.{link_after}
-use Rattle.bus_books.proofs.Lookups.{carried_id, put_own}
+use Rattle.bus_books.proofs.Lookups.{put_own}
 use Rattle.trace_laws.proofs.FailureNext.{is_restore}
 use Rattle.trace_laws.proofs.PointerStories.{story_row}
-use Rattle.trace_laws.proofs.PointerStorySteps.{message_id, fault_id, message_byte, in_link}
+use Rattle.trace_laws.proofs.PointerStorySteps.{fault_id, message_byte, in_link}
 use Rattle.trace_laws.proofs.TellRows.{no_events}
 use Rattle.transcript_laws.specs.RowTests.{is_alike, undoes_nothing}
 use Rattle.transcript_laws.proofs.ChangedBytes.{KeepsId, changed_each, after_message, after_fault, ChangesBy, by_fault, unchanged, by_none}

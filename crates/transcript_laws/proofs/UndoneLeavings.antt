@@ -27,10 +27,7 @@ use Rattle.bus_dialogue.specs.NextPhase.{Serving, bus_free, phase_entry, with_ta
 use Rattle.bus_dialogue.specs.Words.{reply_to, request_by, is_naming, target_answer}
 use Rattle.bus_books.specs.Giving.{OnMessages}
 use Rattle.trace_laws.specs.Tells.{is_short}
-use Rattle.trace_laws.proofs.FailureNext.{is_restore}
-
-abbrev pub RestoresNone : MsgIn → Type 0
-RestoresNone m = is_restore m ≡ false
+use Rattle.trace_laws.proofs.FailureNext.{RestoresNone}
 
 abbrev pub is_brief : Option MsgIn → Bool
 is_brief m = is_none m || is_short m

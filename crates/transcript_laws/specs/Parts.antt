@@ -7,7 +7,7 @@ use Rattle.bus_trace.specs.declared.connection.Connection.{Connection}
 use Rattle.msg_grammar.specs.declared.message.MsgOut.{MsgOut}
 use Rattle.scenario.specs.Value.{ScenarioValue}
 use Rattle.disk_array.specs.Processes.{Process, process_of}
-use Rattle.bus_story.specs.Items.{tag_number_if}
+use Rattle.disk_array.specs.Order.{tag_number}
 use Rattle.bus_transcript.specs.declared.item.Name.{Name}
 use Rattle.bus_transcript.specs.declared.part.Part.{Part}
 use Rattle.bus_transcript.specs.declared.part.Part.TheVariants as parts_of
@@ -58,7 +58,7 @@ abbrev pub summary_by : Connection → List Part → Summary
 summary_by n parts = summary_of n.reselected no_summary parts
 
 abbrev pub nexus_of : Process → Name
-nexus_of p = record { initiator = p.initiator; target = p.target; unit = Some p.unit; tag = tag_number_if p.tag; number = 0 }
+nexus_of p = record { initiator = p.initiator; target = p.target; unit = Some p.unit; tag = tag_number p.tag; number = 0 }
 
 abbrev pub is_of : Name → Option Process → Bool
 is_of name None = false

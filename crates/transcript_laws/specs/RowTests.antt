@@ -12,13 +12,14 @@ use Rattle.msg_grammar.specs.declared.message.MsgOut.{MsgOut}
 use Rattle.scenario.specs.declared.value.AbortDef.{AbortDef}
 use Rattle.scenario.specs.Value.{ScenarioValue}
 use Rattle.disk_array.specs.Processes.{Process, process_of, same_bool}
+use Rattle.disk_array.specs.Order.{same_number}
 use Rattle.bus_phases.specs.Half.{is_nil}
 use Rattle.bus_story.specs.BusState.{RowReading, row_reading}
 use Rattle.bus_story.specs.CarriedBytes.{CarriedBytes, carried_at, carried_of, is_whole_block, is_status_phase}
 use Rattle.bus_story.specs.HistoryEvents as story_of
 use Rattle.bus_story.specs.HistoryEvents.{abort_line_at}
 use Rattle.bus_story.specs.Items.{Item, process, abort, Sent, has_item}
-use Rattle.bus_story.specs.Links.{Link, LastMessage, plain, complete, disconnect, abortive, link_after_name, same_number}
+use Rattle.bus_story.specs.Links.{Link, LastMessage, plain, complete, disconnect, abortive, link_after_name}
 use Rattle.bus_story.specs.Right.{same_bytes}
 use Rattle.bus_story.specs.Story.{Story, by_reset, story_with_ends}
 use Rattle.bus_story.specs.TraceHistory.{aim_of, story, story_after, is_parity_error}

@@ -1,7 +1,7 @@
 -- The transcript that was printed is that of the rows.
-use Rattle.bus_cli.proofs.Transcribed.{of_devices}
 use Rattle.bus_cli.proofs.Written.{says_transcript}
 use Rattle.bus_cli.proofs.transcribing.write_transcript.Goals as goal
+use Rattle.trace_text.proofs.Devices.{of_devices}
 
 pub transcribe-requires : goal.transcribe-requires
 transcribe-requires g c = of_devices c.args.rows.now c.requires

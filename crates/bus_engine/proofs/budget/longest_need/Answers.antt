@@ -5,8 +5,9 @@ use Rattle.scenario.specs.declared.bounds.TheConstants.{NEED_LIMIT}
 use Rattle.scenario.specs.declared.value.CmdDef.{CmdDef}
 use Rattle.scenario.specs.Needs.{need_of}
 use Rattle.bus_story.specs.Budget.{longest_need}
-use Rattle.bus_engine.proofs.Items.{item_next, max_moves}
+use Rattle.bus_engine.proofs.Items.{max_moves}
 use Rattle.bus_engine.proofs.budget.longest_need.Goals as goal
+use Rattle.bus_base.proofs.Tests.{item_next}
 
 pub loop-index-preserved : goal.loop-index-preserved
 loop-index-preserved c =

@@ -4,8 +4,8 @@ use Rattle.scenario.specs.declared.bounds.TheConstants.{NEED_LIMIT}
 use Rattle.scenario.specs.declared.value.CmdDef.{CmdDef}
 use Rattle.scenario.specs.Needs.{need_of}
 use Rattle.bus_story.specs.Budget.{runs_of_all, data_runs}
-use Rattle.bus_engine.proofs.Items.{item_next}
 use Rattle.bus_engine.proofs.budget.runs_of_all.Goals as goal
+use Rattle.bus_base.proofs.Tests.{item_next}
 
 pub loop-index-preserved : goal.loop-index-preserved
 loop-index-preserved c =

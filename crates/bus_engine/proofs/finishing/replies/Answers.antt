@@ -9,9 +9,10 @@ use Rattle.scsi_device.specs.Lines.{IsCommandLine}
 use Rattle.initiator.specs.Received.{undoes_no_byte}
 use Rattle.bus_members.specs.Answers.{are_answered_from}
 use Rattle.bus_members.specs.Over.{IsPlaceOver}
-use Rattle.bus_engine.proofs.Items.{item_next, all_drop}
+use Rattle.bus_engine.proofs.Items.{all_drop}
 use Rattle.bus_engine.proofs.Replies.{asked_next, command_is}
 use Rattle.bus_engine.proofs.finishing.replies.Goals as goal
+use Rattle.bus_base.proofs.Tests.{item_next}
 
 pub loop-index-preserved : goal.loop-index-preserved
 loop-index-preserved c =

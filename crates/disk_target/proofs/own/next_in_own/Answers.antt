@@ -4,10 +4,10 @@ use Rattle.bus_trace.specs.Trace.{last_time}
 use Rattle.bus_trace.specs.Terms.{receiver}
 use Rattle.bus_reactions.specs.Ends.{sample_due}
 use Rattle.bus_reactions.specs.Reset.{with_reset}
-use Rattle.bus_due.specs.Connected.{is_receiving}
 use Rattle.scsi_device.specs.Told.{told, flip_by}
 use Rattle.target_course.specs.Dues.{calm_by, hand_by, myself_by}
 use Rattle.disk_target.proofs.own.next_in_own.Goals as goal
+use Rattle.bus_rules.specs.Order.{is_of_device}
 
 pub returns : goal.returns
 returns c = λ s rows n i o line devices away at calm own reset r fault plain.
@@ -19,7 +19,7 @@ returns c = λ s rows n i o line devices away at calm own reset r fault plain.
     c.due_with_reset.ensures
     ∙ (λ j. with_reset (c.myself-me.ensures.exact rows v j) (raised j) (c.reset.ensures j) (c.sampled-calm.ensures rows o j))
     ∙ (λ j. with_reset (record { dev = d.dev; latency = d.latency; own = t.lines; since = (sym own j).row }) (sym own j).rst (sym reset j)
-    (sample_due (is_receiving (receiver rows) d.dev) (last_time rows) (flip_by f (last_time rows)) (plain j)))
+    (sample_due (is_of_device (receiver rows) d.dev) (last_time rows) (flip_by f (last_time rows)) (plain j)))
     ∙ (λ j. with_reset (myself_by d t i) i.own.rst i.reset (if sym at.own j then hand_by d t f i else None))
     ∙ (λ j. with_reset (myself_by d t i) i.own.rst i.reset (calm_by d t f i (sym calm j) (sym at.stands j)))
     ∙ sym (c.dues_are_of_targets.ensures s rows d i f line devices away r fault)

@@ -3,7 +3,7 @@ use Rattle.std.proofs.lemmas.List.{take_all}
 use Rattle.bus_base.specs.declared.Event.{Event}
 use Rattle.bus_trace.specs.Terms.{connection}
 use Rattle.bus_due.specs.RunState.{array_of}
-use Rattle.bus_due.specs.RunSteps.{run_state}
+use Rattle.bus_due.specs.RunSteps.{run_state, events_of_row}
 use Rattle.disk_array.specs.Processes.{Process}
 use Rattle.disk_array.specs.Seats.{seat_of}
 use Rattle.scsi_device.specs.Writes.{writers}
@@ -18,7 +18,6 @@ use Rattle.disk_target.proofs.RowSent.{all_sent}
 use Rattle.disk_target.proofs.RowOwn.{own_events}
 use Rattle.disk_target.proofs.RowServed.{empty_on, row_serves, same_served, unopened}
 use Rattle.disk_target.proofs.turn.see_served.Goals as goal
-use Rattle.target_course.specs.Negotiated.{events_of_row}
 
 pub returns-in-None-clause-trace : goal.returns-in-None-clause-trace
 returns-in-None-clause-trace c = λ s rows row d n h own calm reset none opening att.

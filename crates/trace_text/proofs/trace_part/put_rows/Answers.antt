@@ -1,8 +1,9 @@
 use Rattle.std.proofs.Common.{ap, refl}
 use Rattle.std.specs.List.{flat_map}
 use Rattle.trace_text.specs.RowText.{row_text}
-use Rattle.text_pages.proofs.Putting.{begins, goes_on, item_next}
+use Rattle.text_pages.proofs.Putting.{begins, goes_on}
 use Rattle.trace_text.proofs.trace_part.put_rows.Goals as goal
+use Rattle.bus_base.proofs.Tests.{item_next}
 
 pub loop-row-init : goal.loop-row-init
 loop-row-init g c = begins _ _ _ refl

@@ -1,7 +1,8 @@
 use Rattle.std.proofs.Common.{◌∙◌}
-use Rattle.text_pages.proofs.Putting.{goes_on, item_next}
+use Rattle.text_pages.proofs.Putting.{goes_on}
 use Rattle.vcd_text.proofs.Written.{row_next, time_next}
 use Rattle.vcd_text.proofs.writing.put_rows.Goals as goal
+use Rattle.bus_base.proofs.Tests.{item_next}
 
 pub loop-row-preserved : goal.loop-row-preserved
 loop-row-preserved g c =

@@ -21,5 +21,5 @@ returns-clause-array c = λ s a b times p served h stood block st.
     let at = subst (λ (v : Standing). IsStanding (seat_of a dev n) p v) it.is g.standing in
     ProcessEvents.made s a b times c.args.now p n dev _ c.run.ensures.dev
     (c.run.ensures.guest s a b times p at.guest g.units k.own k.id_is (subst (λ (x : ProcId). guest_at (seat_of a dev n).guests x ≡ Some at.guest) k.id_is at.at) (ProcessEvents.guest_sense s a b p dev n it.reply st k.own at) step)
-    (ProcessEvents.guest_ran s a b p dev n c.plan-plan.result.out_len it.reply c.plan-plan.result c.reply_planned.result st k.own at
-    (c.plan-plan.ensures.array s a times p g.units (subst (λ (x : ℕ). is_initiator s.hosts x ≡ true) k.from_is k.host) k.own.target_is k.own.unit_is k.from_is block) c.reply_planned.ensures)
+    (ProcessEvents.guest_ran s a b p dev n c.plan-plan.result.out_len it.reply c.plan-plan.result c.planned_reply.result st k.own at
+    (c.plan-plan.ensures.array s a times p g.units (subst (λ (x : ℕ). is_initiator s.hosts x ≡ true) k.from_is k.host) k.own.target_is k.own.unit_is k.from_is block) c.planned_reply.ensures)

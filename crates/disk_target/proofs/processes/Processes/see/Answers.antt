@@ -3,12 +3,11 @@ use Rattle.std.specs.Prelude.{is_some}
 use Rattle.bus_base.specs.declared.Event.{Event}
 use Rattle.bus_due.specs.Allowed.{allowed}
 use Rattle.bus_due.specs.RunState.{or_start}
-use Rattle.bus_due.specs.RunSteps.{run_state, array_after_events}
+use Rattle.bus_due.specs.RunSteps.{run_state, array_after_events, events_of_row}
 use Rattle.disk_target.specs.Processes.{AreSettledAt, times_of_events}
 use Rattle.disk_target.proofs.RowEvents.{row_events}
 use Rattle.disk_target.proofs.processes.Processes.see.Goals as goal
 use Rattle.bus_base.proofs.Tests.{and_second}
-use Rattle.target_course.specs.Negotiated.{events_of_row}
 
 pub returns-clause-trace : goal.returns-clause-trace
 returns-clause-trace c = λ s rows row p seats permitted is time served own h.

@@ -5,11 +5,11 @@ use Rattle.bus_dialogue.specs.Hearing.{hearing}
 use Rattle.bus_trace.specs.declared.connection.Connection.{Connection}
 use Rattle.disk_target.specs.Bytes.{IsOwnIf, StandsInOwn}
 use Rattle.disk_target.specs.Knowns.{IsQuiet}
-use Rattle.target_course.specs.Negotiated.{events_of_row}
 use Rattle.disk_target.specs.Targets.{KnowsRows, TargetValue}
 use Rattle.disk_target.specs.Turns.{IsSentIf}
 use Rattle.disk_target.proofs.Quiet.{serves}
 use Rattle.disk_target.proofs.target.Target.follow_quiet.Goals as goal
+use Rattle.bus_due.specs.RunSteps.{events_of_row}
 
 pub returns-clause-trace : goal.returns-clause-trace
 returns-clause-trace c = λ s rows fits o devices tied time stands quiet h.

@@ -1,9 +1,8 @@
 use Rattle.std.proofs.Common.{◌∷◌, ◌∙◌, sym, subst, List}
-use Rattle.bus_due.specs.RunSteps.{run_state}
+use Rattle.bus_due.specs.RunSteps.{run_state, events_of_row}
 use Rattle.bus_story.specs.Items.{Sent}
 use Rattle.initiator.specs.declared.endings.CommandEnd.{CommandEnd}
 use Rattle.initiator.specs.Books.{my_book}
-use Rattle.initiator.specs.Wishes.{events_shown}
 use Rattle.initiator.specs.Endings.{ends_after_from, AreEndingsOf}
 use Rattle.initiator.proofs.EndingRows.{endings_go_on}
 use Rattle.initiator.proofs.PastEndings.{from_is_all, past_have_ended}
@@ -16,5 +15,5 @@ returns-clause-trace c = λ s rows row dev d book past at told h.
     (sym
     (c.after_row.ensures
     ∙ (λ i. ends_after_from c.args.past (book i) c.args.aim c.args.self.now (told i))
-    ∙ from_is_all c.args.past (my_book s sent dev) c.args.aim c.args.self.now (events_shown s rows row) (past_have_ended s rows dev sent c.args.self.now c.args.past h past)))
+    ∙ from_is_all c.args.past (my_book s sent dev) c.args.aim c.args.self.now (events_of_row s rows row) (past_have_ended s rows dev sent c.args.self.now c.args.past h past)))
     (endings_go_on s rows row dev c.args.self.now c.args.aim (c.kept_is_plain.ensures.rows s rows d.1) d at h)

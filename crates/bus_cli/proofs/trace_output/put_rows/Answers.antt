@@ -1,8 +1,0 @@
-use Rattle.std.proofs.Common.{ap}
-use Rattle.std.specs.List.{flat_map}
-use Rattle.trace_text.specs.RowText.{row_text}
-use Rattle.text_pages.proofs.Putting.{goes_on, item_next}
-use Rattle.bus_cli.proofs.trace_output.put_rows.Goals as goal
-
-pub loop-row-preserved : goal.loop-row-preserved
-loop-row-preserved g c = goes_on _ c.loop-row.invariant c.put_row.ensures (ap (λ rows. flat_map row_text rows) (item_next _ _ _ c.loop-row-test.true c.row-item.is))

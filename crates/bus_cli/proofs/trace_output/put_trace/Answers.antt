@@ -1,5 +1,0 @@
-use Rattle.text_pages.proofs.Putting.{and_then}
-use Rattle.bus_cli.proofs.trace_output.put_trace.Goals as goal
-
-pub returns : goal.returns
-returns g c = and_then c.put.ensures (and_then c.put_rows.ensures (and_then c.put-2.ensures (and_then c.put_number.ensures c.put-3.ensures)))

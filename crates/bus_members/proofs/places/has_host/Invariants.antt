@@ -1,8 +1,0 @@
-use Rattle.std.specs.Prelude.{◌≡◌, ◌==◌, drop}
-use Rattle.std.specs.List.{find}
-use Rattle.scenario.specs.declared.value.HostDef.{HostDef}
-use Rattle.bus_members.proofs.places.has_host.Given as goal
-
-abbrev pub invariant-loop-def : goal.invariant-loop-def
-invariant-loop-def l =
-    find (λ (h : HostDef). h.dev == l.dev) (drop l.def-index l.hosts) ≡ find (λ (h : HostDef). h.dev == l.dev) l.hosts

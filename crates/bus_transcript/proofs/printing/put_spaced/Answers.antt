@@ -1,5 +1,0 @@
-use Rattle.text_pages.proofs.Putting.{and_then}
-use Rattle.bus_transcript.proofs.printing.put_spaced.Goals as goal
-
-pub returns : goal.returns
-returns g c = and_then c.put_number.ensures c.put.ensures
