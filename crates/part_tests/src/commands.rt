@@ -56,9 +56,8 @@ fn reads_each_code_and_length(rt: HostRuntime) {
         let mut block = [0u8; 12];
         block[0] = code;
         for len in 0..13usize {
-            assert_eq!(rt;
-                from_cdb(&block[..len]),
-                of_zeros(code, len),
+            assert!(rt;
+                from_cdb(&block[..len]) == of_zeros(code, len),
                 "{code:x} {len}"
             );
         }
@@ -84,7 +83,7 @@ fn wrong_bit(free: &[u8]) -> Option<(usize, u8)> {
 #[test]
 fn finds_each_bad_bit(rt: HostRuntime) {
     for (free, command) in FREE {
-        assert_eq!(rt; wrong_bit(free), None, "{command:?}");
+        assert!(rt; wrong_bit(free) == None, "{command:?}");
     }
 }
 
@@ -134,9 +133,9 @@ fn writes_and_reads(rt: HostRuntime) {
         ),
     ];
     for (bytes, command, blocks) in cases {
-        assert_eq!(rt; from_cdb(bytes), Ok(command));
-        assert_eq!(rt; blocks_moved(&command), blocks);
-        assert_eq!(rt; group_len(bytes[0]), Some(bytes.len()));
+        assert!(rt; from_cdb(bytes) == Ok(command));
+        assert!(rt; blocks_moved(&command) == blocks);
+        assert!(rt; group_len(bytes[0]) == Some(bytes.len()));
     }
 }
 
@@ -147,14 +146,14 @@ fn writes_blocks(rt: HostRuntime) {
         count: 0xa506,
     };
     let bytes = [0x28, 0, 0x81, 0x02, 0x03, 0x04, 0, 0xa5, 0x06, 0];
-    assert_eq!(rt; to_cdb(&read).as_slice(), bytes.as_slice());
+    assert!(rt; to_cdb(&read).as_slice() == bytes.as_slice());
     let write = Command::Write6 {
         lba: 0x12_3456,
         count: 0,
     };
     let bytes = [0x0a, 0x12, 0x34, 0x56, 0, 0];
-    assert_eq!(rt; to_cdb(&write).as_slice(), bytes.as_slice());
-    assert_eq!(rt; group_len(0x40), None);
+    assert!(rt; to_cdb(&write).as_slice() == bytes.as_slice());
+    assert!(rt; group_len(0x40) == None);
 }
 
 #[test]
@@ -175,14 +174,14 @@ fn lays_out_replies(rt: HostRuntime) {
             *b"\x70\0\x05\0\0\0\0\x0a\0\0\0\0\x24\x01\0\0\0\0",
         ),
     ] {
-        assert_eq!(rt; sense_bytes(&Sense { key, asc, ascq }), bytes);
+        assert!(rt; sense_bytes(&Sense { key, asc, ascq }) == bytes);
     }
     let disk =
         *b"\x00\x00\x02\x02\x1f\x00\x00\x12\x42\x55\x53\x4d\x4f\x44\x45\x4c\x53\x49\x4d\x55\x4c\x41\x54\x45\x44\x20\x44\x49\x53\x4b\x20\x20\x30\x30\x30\x31";
-    assert_eq!(rt; inquiry_bytes(true), disk);
+    assert!(rt; inquiry_bytes(true) == disk);
     let absent = inquiry_bytes(false);
-    assert_eq!(rt; absent[0], 0x7f);
-    assert_eq!(rt; absent[1..], disk[1..]);
-    assert_eq!(rt; capacity_bytes(0, 16), [0, 0, 0, 0, 0, 0, 0, 16]);
-    assert_eq!(rt; capacity_bytes(0x0102_0304, 512), [1, 2, 3, 4, 0, 0, 2, 0]);
+    assert!(rt; absent[0] == 0x7f);
+    assert!(rt; absent[1..] == disk[1..]);
+    assert!(rt; capacity_bytes(0, 16) == [0, 0, 0, 0, 0, 0, 0, 16]);
+    assert!(rt; capacity_bytes(0x0102_0304, 512) == [1, 2, 3, 4, 0, 0, 2, 0]);
 }

@@ -66,34 +66,34 @@ fn answers<B: Blocks>(alloc: Global, blocks: &mut B) -> Result<Vec<u8>, NoMemory
 fn dense_and_sparse_blocks(rt: HostRuntime) -> Result<(), NoMemory> {
     let mut dense = DenseBlocks::new(rt.alloc(), 8, 16)?;
     let mut sparse = SparseBlocks::new(rt.alloc(), 8, 16)?;
-    assert_eq!(rt; sparse.spare(), 0);
+    assert!(rt; sparse.spare() == 0);
     sparse.reserve(4)?;
-    assert_eq!(rt; sparse.spare(), 4);
+    assert!(rt; sparse.spare() == 4);
     dense.reserve(4)?;
     let of_dense = answers(rt.alloc(), &mut dense)?;
     let of_sparse = answers(rt.alloc(), &mut sparse)?;
-    assert_eq!(rt; of_dense.as_slice(), ANSWERS.as_slice());
-    assert_eq!(rt; of_sparse.as_slice(), ANSWERS.as_slice());
-    assert_eq!(rt; sparse.spare(), 0);
-    assert_eq!(rt; sparse.next_touched(0), Some(0));
-    assert_eq!(rt; sparse.next_touched(1), Some(2));
-    assert_eq!(rt; sparse.next_touched(4), Some(7));
-    assert_eq!(rt; sparse.next_touched(8), None);
+    assert!(rt; of_dense.as_slice() == ANSWERS.as_slice());
+    assert!(rt; of_sparse.as_slice() == ANSWERS.as_slice());
+    assert!(rt; sparse.spare() == 0);
+    assert!(rt; sparse.next_touched(0) == Some(0));
+    assert!(rt; sparse.next_touched(1) == Some(2));
+    assert!(rt; sparse.next_touched(4) == Some(7));
+    assert!(rt; sparse.next_touched(8) == None);
     Ok(())
 }
 
 #[test]
 fn largest_disk(rt: HostRuntime) -> Result<(), NoMemory> {
     let mut disk = SparseBlocks::new(rt.alloc(), 4_294_967_296, 512)?;
-    assert_eq!(rt; disk.count(), 4_294_967_296);
+    assert!(rt; disk.count() == 4_294_967_296);
     disk.reserve(1)?;
     disk.write_block(4_294_967_295, &[0xa5; 512]);
     let mut block = [0u8; 512];
     disk.read_block(4_294_967_295, &mut block);
-    assert_eq!(rt; block.as_slice(), [0xa5u8; 512].as_slice());
+    assert!(rt; block.as_slice() == [0xa5u8; 512].as_slice());
     disk.read_block(4_294_967_294, &mut block);
-    assert_eq!(rt; block.as_slice(), [0u8; 512].as_slice());
-    assert_eq!(rt; disk.next_touched(0), Some(4_294_967_295));
-    assert_eq!(rt; disk.next_touched(4_294_967_296), None);
+    assert!(rt; block.as_slice() == [0u8; 512].as_slice());
+    assert!(rt; disk.next_touched(0) == Some(4_294_967_295));
+    assert!(rt; disk.next_touched(4_294_967_296) == None);
     Ok(())
 }

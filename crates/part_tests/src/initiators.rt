@@ -48,15 +48,15 @@ fn wants_its_commands_in_order(rt: HostRuntime) -> Result<(), Fail> {
     assert!(rt; scenario.commands.len() < 0xffff);
     assert!(rt; scenario.aborts.len() < 0xffff);
     let itself = Itself::new(rt.alloc(), &scenario, 7)?;
-    assert_eq!(rt; itself.reset(), Some(30000));
+    assert!(rt; itself.reset() == Some(30000));
     let mut view = BusView::new();
     let mut intent = Intent::new(rt.alloc(), &scenario, 7, 1)?;
-    assert_eq!(rt; intent.since(), Some(0));
+    assert!(rt; intent.since() == Some(0));
     assert!(rt; intent.callee().is_none());
     select(&mut view, &mut intent);
     assert!(rt; matches!(intent.aim(), Some(OwnItem::Command(1))));
-    assert_eq!(rt; intent.callee(), Some(0));
-    assert_eq!(rt; intent.since(), Some(0));
+    assert!(rt; intent.callee() == Some(0));
+    assert!(rt; intent.since() == Some(0));
     // The connection begins. Beside an untagged command no other may be open at its unit, so the abort comes next.
     tell(
         &mut view,
@@ -64,7 +64,7 @@ fn wants_its_commands_in_order(rt: HostRuntime) -> Result<(), Fail> {
         &drive(5390, 7, 0x10000),
         [].as_slice(),
     );
-    assert_eq!(rt; intent.since(), Some(20000));
+    assert!(rt; intent.since() == Some(20000));
     let id = ProcId {
         command: 1,
         sense: false,
@@ -72,7 +72,7 @@ fn wants_its_commands_in_order(rt: HostRuntime) -> Result<(), Fail> {
     let row = drive(5400, 0, 0x02a00);
     tell(&mut view, &mut intent, &row, [Event::End(id, 2)].as_slice());
     // It ended with CHECK CONDITION: its REQUEST SENSE is sent before the second command.
-    assert_eq!(rt; intent.since(), Some(0));
+    assert!(rt; intent.since() == Some(0));
     Ok(())
 }
 
@@ -89,16 +89,13 @@ fn says_its_opening(rt: HostRuntime) {
         offers: true,
     };
     let words = process_opening(&host, true, false, 2, Tag::Simple(3));
-    assert_eq!(rt;
-        words.as_slice(),
-        [0xc2, 0x20, 3, 1, 3, 1, 50, 8].as_slice()
-    );
+    assert!(rt; words.as_slice() == [0xc2, 0x20, 3, 1, 3, 1, 50, 8].as_slice());
     let mut speech = Speech::new();
     speech.say(words.as_slice());
-    assert_eq!(rt; speech.next_word(), 0xc2);
+    assert!(rt; speech.next_word() == 0xc2);
     assert!(rt; speech.attends());
     let sense = process_opening(&host, false, true, 2, Tag::Untagged);
-    assert_eq!(rt; sense.as_slice(), [0x82].as_slice());
+    assert!(rt; sense.as_slice() == [0x82].as_slice());
     speech.say(sense.as_slice());
     assert!(rt; !speech.attends());
 }

@@ -13,22 +13,18 @@ use std::sync::ledger::{Blank, Ledger};
 fn reads_all_up_to_the_limit(rt: HostRuntime) -> Result<(), NoMemory> {
     // Ten bytes in pieces of three: five calls, of which the last finds the end.
     for (limit, failing, want) in [
-        (10usize, 6u64, Ok(b"0123456789")),
-        (usize::MAX, 6, Ok(b"0123456789")),
-        (9, 6, Err(ReadEnd::TooLong)),
-        (10, 5, Err(ReadEnd::Fault)),
-        (10, 1, Err(ReadEnd::Fault)),
+        (10usize, 6u64, None),
+        (usize::MAX, 6, None),
+        (9, 6, Some(ReadEnd::TooLong)),
+        (10, 5, Some(ReadEnd::Fault)),
+        (10, 1, Some(ReadEnd::Fault)),
     ] {
         let mut source = MemSource::new(rt.alloc(), b"0123456789", 3, &[failing])?;
-        match (read_all(rt.alloc(), &mut source, limit), want) {
-            (Ok(read), Ok(bytes)) => assert_eq!(rt;
-                read.as_slice(),
-                bytes.as_slice(),
-                "limit {limit}"
-            ),
-            (Err(end), Err(wanted)) => assert_eq!(rt; end, wanted, "limit {limit}"),
-            (Ok(_), Err(_)) | (Err(_), Ok(_)) => panic!(rt; "limit {limit}, failing {failing}"),
-        }
+        let is_wanted = match read_all(rt.alloc(), &mut source, limit) {
+            Ok(read) => want.is_none() && read.as_slice() == b"0123456789".as_slice(),
+            Err(end) => want == Some(end),
+        };
+        assert!(rt; is_wanted, "limit {limit}, failing {failing}");
     }
     Ok(())
 }
@@ -37,28 +33,33 @@ fn reads_all_up_to_the_limit(rt: HostRuntime) -> Result<(), NoMemory> {
 fn reads_in_pieces(rt: HostRuntime) -> Result<(), NoMemory> {
     let mut source = MemSource::new(rt.alloc(), b"abcd", 3, &[2])?;
     let mut buffer = [0u8; 8];
-    assert_eq!(rt; source.read(&mut buffer), Ok(3));
-    assert_eq!(rt; source.read(&mut buffer), Err(Failed));
-    assert_eq!(rt; source.read(&mut buffer[4..]), Ok(1));
-    assert_eq!(rt; source.read(&mut buffer), Ok(0));
-    assert_eq!(rt; &buffer[..], b"abc\0d\0\0\0".as_slice());
+    assert!(rt; source.read(&mut buffer) == Ok(3));
+    assert!(rt; source.read(&mut buffer) == Err(Failed));
+    assert!(rt; source.read(&mut buffer[4..]) == Ok(1));
+    assert!(rt; source.read(&mut buffer) == Ok(0));
+    assert!(rt; &buffer[..] == b"abc\0d\0\0\0".as_slice());
     Ok(())
 }
 
 #[test]
 fn writes_in_pieces(rt: HostRuntime) -> Result<(), NoMemory> {
     let mut sink = MemSink::new(rt.alloc(), 6, 2, &[3])?;
-    assert_eq!(rt; sink.write(b"abc"), Ok(2));
-    assert_eq!(rt; sink.write(b"c"), Ok(1));
-    assert_eq!(rt;
-        write_all(&mut sink, b"def"),
-        Err(Failed),
+    assert!(rt; sink.write(b"abc") == Ok(2));
+    assert!(rt; sink.write(b"c") == Ok(1));
+    assert!(rt;
+        write_all(&mut sink, b"def") == Err(Failed),
         "the third call fails"
     );
-    assert_eq!(rt; write_all(&mut sink, b"def"), Ok(()));
-    assert_eq!(rt; sink.write(b""), Ok(0), "there is always room for nothing");
-    assert_eq!(rt; write_all(&mut sink, b"g"), Err(Failed), "there is no room");
-    assert_eq!(rt; sink.bytes(), b"abcdef".as_slice());
+    assert!(rt; write_all(&mut sink, b"def") == Ok(()));
+    assert!(rt;
+        sink.write(b"") == Ok(0),
+        "there is always room for nothing"
+    );
+    assert!(rt;
+        write_all(&mut sink, b"g") == Err(Failed),
+        "there is no room"
+    );
+    assert!(rt; sink.bytes() == b"abcdef".as_slice());
     Ok(())
 }
 
@@ -66,13 +67,13 @@ fn writes_in_pieces(rt: HostRuntime) -> Result<(), NoMemory> {
 fn passes_bytes_through_std(rt: HostRuntime) -> Result<(), AllocError> {
     let mut source = StdSource::new(&b"through"[..]);
     match read_all(rt.alloc(), &mut source, 7) {
-        Ok(read) => assert_eq!(rt; read.as_slice(), b"through".as_slice()),
-        Err(end) => panic!(rt; "{end:?}"),
+        Ok(read) => assert!(rt; read.as_slice() == b"through".as_slice()),
+        Err(_) => panic!(rt; "it is read"),
     }
     let mut held = Vec::new(rt.alloc());
     let mut sink = StdSink::new(&mut held);
-    assert_eq!(rt; write_all(&mut sink, b"through"), Ok(()));
-    assert_eq!(rt; held.as_slice(), b"through".as_slice());
+    assert!(rt; write_all(&mut sink, b"through") == Ok(()));
+    assert!(rt; held.as_slice() == b"through".as_slice());
     Ok(())
 }
 
@@ -80,7 +81,7 @@ fn passes_bytes_through_std(rt: HostRuntime) -> Result<(), AllocError> {
 fn copies_octets(rt: HostRuntime) -> Result<(), NoMemory> {
     let octets = Octets::new(Vec::from_slice(rt.alloc(), b"\x12\0\xff")?);
     let copied = octets.copy(rt.alloc())?;
-    assert_eq!(rt; copied.as_slice(), b"\x12\0\xff".as_slice());
+    assert!(rt; copied.as_slice() == b"\x12\0\xff".as_slice());
     Ok(())
 }
 

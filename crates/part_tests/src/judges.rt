@@ -15,17 +15,17 @@ fn judges_an_arbitration(rt: HostRuntime) {
         drive(4401, 6, 0),
     ];
     let late = Verdict::Broken { row: 4, rule: 7 };
-    assert_eq!(rt; judge_plain(&rows, 4401), late);
-    assert_eq!(rt; judge_plain(&rows[..3], 4401), late);
-    assert_eq!(rt; judge_plain(&rows[..3], 4400), Verdict::Lawful);
-    assert_eq!(rt; broken(&rows, 3), Some(7));
-    assert_eq!(rt; broken(&rows, 2), None);
-    assert_eq!(rt; broken_end(&rows[..3], 4401), Some(7));
-    assert_eq!(rt; broken_end(&rows[..3], 4400), None);
+    assert!(rt; judge_plain(&rows, 4401) == late);
+    assert!(rt; judge_plain(&rows[..3], 4401) == late);
+    assert!(rt; judge_plain(&rows[..3], 4400) == Verdict::Lawful);
+    assert!(rt; broken(&rows, 3) == Some(7));
+    assert!(rt; broken(&rows, 2) == None);
+    assert!(rt; broken_end(&rows[..3], 4401) == Some(7));
+    assert!(rt; broken_end(&rows[..3], 4400) == None);
     let mut judge = Judge::new();
-    assert_eq!(rt; judge.feed(&rows[0]), Verdict::Lawful);
-    assert_eq!(rt; judge.feed(&rows[1]), Verdict::Lawful);
-    assert_eq!(rt; judge.feed(&rows[2]), Verdict::Lawful);
-    assert_eq!(rt; judge.feed(&rows[3]), late);
-    assert_eq!(rt; judge.finish(4401), late);
+    assert!(rt; judge.feed(&rows[0]) == Verdict::Lawful);
+    assert!(rt; judge.feed(&rows[1]) == Verdict::Lawful);
+    assert!(rt; judge.feed(&rows[2]) == Verdict::Lawful);
+    assert!(rt; judge.feed(&rows[3]) == late);
+    assert!(rt; judge.finish(4401) == late);
 }

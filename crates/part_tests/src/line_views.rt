@@ -31,10 +31,10 @@ fn bytes_and_ids(rt: HostRuntime) {
         (0x0f, 0x10f),
         (0x07, 0x007),
     ] {
-        assert_eq!(rt; byte_lines(byte).bits(), bits);
-        assert_eq!(rt; parity(byte), bits >= 0x100);
+        assert!(rt; byte_lines(byte).bits() == bits);
+        assert!(rt; parity(byte) == (bits >= 0x100));
     }
-    assert_eq!(rt; Lines::ids(7, 0).bits(), 0x181);
+    assert!(rt; Lines::ids(7, 0).bits() == 0x181);
 }
 
 #[test]
@@ -48,16 +48,15 @@ fn view_of_an_arbitration(rt: HostRuntime) {
         dev: 0,
         kind: Kind::Fault(1),
     });
-    assert_eq!(rt; view.bus().bits(), 0x06bc0);
-    assert_eq!(rt; view.drives(0).bits(), 0x06a00);
-    assert_eq!(rt;
+    assert!(rt; view.bus().bits() == 0x06bc0);
+    assert!(rt; view.drives(0).bits() == 0x06a00);
+    assert!(rt;
         (
             view.since(9),
             view.since(14),
             view.data_since(),
             view.last_time()
-        ),
-        (5290, 5780, 5780, 5800)
+        ) == (5290, 5780, 5780, 5800)
     );
 }
 
@@ -77,9 +76,9 @@ fn times_of_transfers(rt: HostRuntime) {
             set_up,
             hold,
         };
-        assert_eq!(rt; transfer_times(factor), Some(times));
+        assert!(rt; transfer_times(factor) == Some(times));
     }
-    assert_eq!(rt; transfer_times(24), None);
+    assert!(rt; transfer_times(24) == None);
 }
 
 #[test]
@@ -99,7 +98,7 @@ fn same_agreements(rt: HostRuntime) {
             period: second,
             offset: second_offset,
         };
-        assert_eq!(rt; is_same_agreement(a, b), same);
+        assert!(rt; is_same_agreement(a, b) == same);
     }
 }
 
@@ -114,35 +113,33 @@ fn view_of_a_selection(rt: HostRuntime) {
         assert!(rt; false);
         return;
     };
-    assert_eq!(rt;
+    assert!(rt;
         (
             connection.initiator.get(),
             connection.target.get(),
             connection.began
-        ),
-        (7u8, 0u8, 5380u64)
+        ) == (7u8, 0u8, 5380u64)
     );
     let Some(receiver) = view.effect().receiver else {
         assert!(rt; false);
         return;
     };
-    assert_eq!(rt; receiver.get(), 0u8);
+    assert!(rt; receiver.get() == 0u8);
     let handshakes = view.handshakes();
-    assert_eq!(rt;
+    assert!(rt;
         (
             handshakes.requests(),
             handshakes.answers(),
             handshakes.waiting()
-        ),
-        (1u64, 1u64, 0u8)
+        ) == (1u64, 1u64, 0u8)
     );
-    assert_eq!(rt; view.since(14), 5780);
-    assert_eq!(rt;
+    assert!(rt; view.since(14) == 5780);
+    assert!(rt;
         view.bus()
             .without_ack()
             .without_req()
             .with_byte(0x07)
-            .bits(),
-        0x02a07
+            .bits()
+            == 0x02a07
     );
 }

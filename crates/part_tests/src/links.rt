@@ -58,7 +58,7 @@ fn waits(
     assert!(rt; step.drives.is_none());
     assert!(rt; !step.sampled);
     if wake.is_some() {
-        assert_eq!(rt; step.wake, wake);
+        assert!(rt; step.wake == wake);
     }
     Ok(step.next)
 }
@@ -66,7 +66,7 @@ fn waits(
 fn makes(rt: &impl Abort, link: Link, rows: &[Made], row: Made) -> Result<Link, Fail> {
     let step = turn(link, &view_of(rows), row.0);
     let lines = step.drives.ok_or("a row")?;
-    assert_eq!(rt; lines.bits(), row.2);
+    assert!(rt; lines.bits() == row.2);
     assert!(rt; step.wake.is_none());
     Ok(step.next)
 }
@@ -121,9 +121,9 @@ fn selects(rt: HostRuntime) -> Result<(), Fail> {
         let Link::Linked(linked) = link else {
             panic!(rt; "not linked");
         };
-        assert_eq!(rt; linked.is_target(), target);
-        assert_eq!(rt; linked.peer(), if target { 7 } else { 0 });
-        assert_eq!(rt; Link::Idle(linked.free()).dev(), if target { 0 } else { 7 });
+        assert!(rt; linked.is_target() == target);
+        assert!(rt; linked.peer() == if target { 7 } else { 0 });
+        assert!(rt; Link::Idle(linked.free()).dev() == if target { 0 } else { 7 });
     }
     Ok(())
 }
@@ -173,8 +173,8 @@ fn wants_and_wants_no_more(rt: HostRuntime) -> Result<(), Fail> {
     let waiting = Idle::new(6, 0).want(5, true, 40).recall(4);
     let link = Link::Waiting(waiting);
     let want = link.want();
-    assert_eq!(rt; want.since, Some(40));
-    assert_eq!(rt; want.callee, Some(4));
+    assert!(rt; want.since == Some(40));
+    assert!(rt; want.callee == Some(4));
     assert!(rt; want.reselects);
     let idle = Link::Idle(Idle::new(6, 0).want(5, true, 40).unwant());
     assert!(rt; idle.want().since.is_none());
@@ -196,7 +196,7 @@ fn samples_struck_ids(rt: HostRuntime) -> Result<(), Fail> {
     assert!(rt; step.drives.is_none());
     assert!(rt; step.wake.is_none());
     let link = step.next;
-    assert_eq!(rt; sample_time(&view, &link.myself()), 5350);
+    assert!(rt; sample_time(&view, &link.myself()) == 5350);
     Ok(())
 }
 

@@ -20,7 +20,7 @@ fn answers_a_request(rt: HostRuntime) {
     ] {
         let answer = Nego::answer(&agreement(own.0, own.1), &agreement(heard.0, heard.1));
         match (answer, want) {
-            (Some(a), Some((period, offset))) => assert_eq!(rt; a, agreement(period, offset)),
+            (Some(a), Some((period, offset))) => assert!(rt; a == agreement(period, offset)),
             (None, None) => {}
             (Some(_), None) | (None, Some(_)) => panic!(rt; "own {own:?}, heard {heard:?}"),
         }
@@ -30,27 +30,27 @@ fn answers_a_request(rt: HostRuntime) {
 #[test]
 fn offers_until_settled(rt: HostRuntime) {
     let mut nego = Nego::new(agreement(50, 8));
-    assert_eq!(rt; nego.agreed(), agreement(0, 0));
-    assert_eq!(rt; nego.offer(), Some(MsgOut::Sdtr(agreement(50, 8))));
-    assert_eq!(rt; nego.request(), Some(MsgIn::Sdtr(agreement(50, 8))));
+    assert!(rt; nego.agreed() == agreement(0, 0));
+    assert!(rt; nego.offer() == Some(MsgOut::Sdtr(agreement(50, 8))));
+    assert!(rt; nego.request() == Some(MsgIn::Sdtr(agreement(50, 8))));
     nego.settle(Some(agreement(80, 4)));
-    assert_eq!(rt; nego.agreed(), agreement(80, 4));
-    assert_eq!(rt; nego.offer(), None);
+    assert!(rt; nego.agreed() == agreement(80, 4));
+    assert!(rt; nego.offer() == None);
     nego.again();
-    assert_eq!(rt; nego.agreed(), agreement(0, 0));
-    assert_eq!(rt; nego.offer(), Some(MsgOut::Sdtr(agreement(50, 8))));
+    assert!(rt; nego.agreed() == agreement(0, 0));
+    assert!(rt; nego.offer() == Some(MsgOut::Sdtr(agreement(50, 8))));
     // It is rejected.
     nego.settle(None);
-    assert_eq!(rt; nego.agreed(), agreement(0, 0));
-    assert_eq!(rt; nego.offer(), None);
+    assert!(rt; nego.agreed() == agreement(0, 0));
+    assert!(rt; nego.offer() == None);
 }
 
 #[test]
 fn offers_no_more_once_cleared(rt: HostRuntime) {
     let mut nego = Nego::new(agreement(50, 8));
     nego.clear();
-    assert_eq!(rt; nego.offer(), None);
-    assert_eq!(rt; nego.request(), None);
-    assert_eq!(rt; nego.agreed(), agreement(0, 0));
-    assert_eq!(rt; Nego::new(agreement(0, 8)).offer(), None);
+    assert!(rt; nego.offer() == None);
+    assert!(rt; nego.request() == None);
+    assert!(rt; nego.agreed() == agreement(0, 0));
+    assert!(rt; Nego::new(agreement(0, 8)).offer() == None);
 }

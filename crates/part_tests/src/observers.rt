@@ -40,16 +40,16 @@ fn hears_messages(rt: HostRuntime) {
         observer.step(&drive(5900, 7, 0x08000 | atn | data));
         if byte == 0xc0 {
             let identify = MsgOut::Identify { disc: true, lun: 0 };
-            assert_eq!(rt; observer.hearing().out, Some(identify));
-            assert_eq!(rt; observer.hearing().offered, 1);
+            assert!(rt; observer.hearing().out == Some(identify));
+            assert!(rt; observer.hearing().offered == 1);
         }
         if byte == 0x08 {
             let offer = Agreement {
                 period: 50,
                 offset: 8,
             };
-            assert_eq!(rt; observer.hearing().out, Some(MsgOut::Sdtr(offer)));
-            assert_eq!(rt; observer.hearing().offered, 6);
+            assert!(rt; observer.hearing().out == Some(MsgOut::Sdtr(offer)));
+            assert!(rt; observer.hearing().offered == 6);
             assert!(rt; observer.offer().is_some());
         }
         observer.step(&drive(5910, 0, 0x02a00));
@@ -66,12 +66,12 @@ fn hears_messages(rt: HostRuntime) {
         observer.step(&drive(6410, 7, 0));
     }
     let agreed = observer.agreement();
-    assert_eq!(rt; (agreed.period, agreed.offset), (50u8, 8u8));
+    assert!(rt; (agreed.period, agreed.offset) == (50u8, 8u8));
     assert!(rt; observer.offer().is_none());
     observer.step(&drive(6420, 0, 0x03b00));
     observer.step(&drive(6500, 0, 0x07b00));
-    assert_eq!(rt; observer.hearing().into, Some(MsgIn::CommandComplete));
+    assert!(rt; observer.hearing().into == Some(MsgIn::CommandComplete));
     observer.step(&drive(6510, 0, 0x00000));
-    assert_eq!(rt; observer.agreement().offset, 0);
+    assert!(rt; observer.agreement().offset == 0);
     assert!(rt; !observer.begun());
 }

@@ -22,7 +22,7 @@ fn entry(command: u16, from: u8, tag: u8, class: Class, first: u32, writes: bool
 #[test]
 fn choices(rt: HostRuntime) -> Result<(), NoMemory> {
     let mut queue = Queue::new(rt.alloc(), 4)?;
-    assert_eq!(rt; queue.choose(Pick::First), None);
+    assert!(rt; queue.choose(Pick::First) == None);
     let read = entry(1, 7, 0, Class::Simple, 9, false);
     let write = entry(2, 7, 1, Class::Simple, 0, true);
     let again = entry(3, 7, 2, Class::Simple, 0, true);
@@ -31,24 +31,24 @@ fn choices(rt: HostRuntime) -> Result<(), NoMemory> {
     let two = queue.enter(write);
     let three = queue.enter(again);
     let four = queue.enter(other);
-    assert_eq!(rt; queue.enter(other), Err(Full));
+    assert!(rt; queue.enter(other) == Err(Full));
     // The second write of initiator 7 waits for the first; the write of initiator 6 does not.
-    assert_eq!(rt; queue.choose(Pick::First).ok_or(Full), one);
-    assert_eq!(rt; queue.choose(Pick::Last).ok_or(Full), four);
+    assert!(rt; queue.choose(Pick::First).ok_or(Full) == one);
+    assert!(rt; queue.choose(Pick::Last).ok_or(Full) == four);
     if let (Ok(two), Ok(three)) = (two, three) {
         assert!(rt; queue.may_run(two));
         assert!(rt; !queue.may_run(three));
     }
-    assert_eq!(rt; queue.find(7, Some(2)).ok_or(Full), three);
-    assert_eq!(rt; queue.find(6, Some(2)), None);
+    assert!(rt; queue.find(7, Some(2)).ok_or(Full) == three);
+    assert!(rt; queue.find(6, Some(2)) == None);
     queue.hold(7);
     assert!(rt; queue.holds(7));
     assert!(rt; queue.held());
-    assert_eq!(rt; queue.choose(Pick::First), None);
+    assert!(rt; queue.choose(Pick::First) == None);
     queue.release(7);
     assert!(rt; !queue.held());
-    assert_eq!(rt; queue.clear_of(Some(7)), 3);
-    assert_eq!(rt; queue.choose(Pick::Last).ok_or(Full), four);
+    assert!(rt; queue.clear_of(Some(7)) == 3);
+    assert!(rt; queue.choose(Pick::Last).ok_or(Full) == four);
     Ok(())
 }
 
@@ -57,10 +57,10 @@ fn one_command(rt: HostRuntime) -> Result<(), NoMemory> {
     let mut queue = Queue::new(rt.alloc(), 1)?;
     let head = entry(1, 7, 5, Class::Head, 0, false);
     if let Ok(key) = queue.enter(head) {
-        assert_eq!(rt; *queue.entry(key), head);
-        assert_eq!(rt; queue.choose(Pick::Last), Some(key));
-        assert_eq!(rt; queue.remove(key), head);
+        assert!(rt; *queue.entry(key) == head);
+        assert!(rt; queue.choose(Pick::Last) == Some(key));
+        assert!(rt; queue.remove(key) == head);
     }
-    assert_eq!(rt; queue.clear_of(None), 0);
+    assert!(rt; queue.clear_of(None) == 0);
     Ok(())
 }

@@ -1,8 +1,8 @@
 //! Tests of `scenario`: every reason by its bad lines, the limits, and texts printed as they were read.
 
+use bus_base::NoMemory;
 use scenario::{Bad, make, need, print, read};
-use std::alloc::Global;
-use std::test::Fail;
+use std::alloc::{AllocError, Global};
 
 // The first one to four lines of a text, and four lines with a larger unit.
 const FIRST: &str = "scsi 1\n";
@@ -431,40 +431,44 @@ end
 
 // How many of these lines stand first, a line that is repeated, how often before `end`, and what is
 // told: line and reason, or 0 and 0 where it is read.
-const MANY: [(&str, &str, u32, &str); 13] = [
-    ("1", "fault at 0 bit 0\n", 64, "0 0"),
-    ("1", "fault at 0 bit 0\n", 65, "66 8"),
-    ("2", "abort 7 0 0 at 0 all\n", 64, "0 0"),
-    ("2", "abort 7 0 0 at 0 all\n", 65, "67 8"),
-    ("2", "reset 7 at 0\n", 65, "67 8"),
+const MANY: [(u8, &str, usize, u32, u8); 13] = [
+    (b'1', "fault at 0 bit 0\n", 64, 0, 0),
+    (b'1', "fault at 0 bit 0\n", 65, 66, 8),
+    (b'2', "abort 7 0 0 at 0 all\n", 64, 0, 0),
+    (b'2', "abort 7 0 0 at 0 all\n", 65, 67, 8),
+    (b'2', "reset 7 at 0\n", 65, 67, 8),
     (
-        "4",
+        b'4',
         "cmd 7 0 0 at 0 untagged cdb 000000000000 none\n",
         4096,
-        "0 0",
+        0,
+        0,
     ),
     (
-        "4",
+        b'4',
         "cmd 7 0 0 at 0 untagged cdb 000000000000 none\n",
         4097,
-        "4101 8",
+        4101,
+        8,
     ),
     (
-        "5",
+        b'5',
         "cmd 7 0 0 at 0 untagged cdb 080000002000 none\n",
         16,
-        "0 0",
+        0,
+        0,
     ),
     (
-        "5",
+        b'5',
         "cmd 7 0 0 at 0 untagged cdb 080000002000 none\n",
         17,
-        "21 8",
+        21,
+        8,
     ),
-    ("1", "\n", 4_194_293, "0 0"),
-    ("1", "\n", 4_194_294, "0 9"),
-    ("1", "#\n", 2_097_147, "0 9"),
-    ("0", "\n", 4_194_305, "0 9"),
+    (b'1', "\n", 4_194_293, 0, 0),
+    (b'1', "\n", 4_194_294, 0, 9),
+    (b'1', "#\n", 2_097_147, 0, 9),
+    (b'0', "\n", 4_194_305, 0, 9),
 ];
 
 // Texts that are printed as they were read, with `@` between them.
@@ -499,89 +503,88 @@ end
 const NEEDS: &str =
     "scsi 1\ninitiator 7 latency 0 open 1 retries 2 sync 0 0 lag 0\ntarget 0 latency 0 retries 2 disc never pick first seek 0 sync 0 0\nunit 0 0 blocks 2 size 16 depth 1\ncmd 7 0 0 at 0 untagged cdb 080000000200 none\ncmd 7 0 0 at 0 untagged cdb 080000000300 none\ncmd 7 0 3 at 0 untagged cdb 12000000ff00 none\ncmd 7 0 0 at 0 untagged cdb 030000001200 none\ncmd 7 0 0 at 0 untagged cdb 25000000000000000000 none\ncmd 7 0 1 at 0 untagged cdb 25000000000000000000 none\ncmd 7 0 0 at 0 untagged cdb 120000000500 none\nend\n";
 
-fn front(lines: &str) -> &'static str {
+fn front(lines: u8) -> &'static str {
     match lines {
-        "0" => "",
-        "1" => FIRST,
-        "2" => INITIATOR,
-        "3" => TARGET,
-        "4" => UNIT,
+        b'0' => "",
+        b'1' => FIRST,
+        b'2' => INITIATOR,
+        b'3' => TARGET,
+        b'4' => UNIT,
         _ => LARGE,
     }
 }
 
 // The line and the reason told of a text: both 0 where it is read.
-fn told(alloc: Global, text: &[u8]) -> Result<String, Fail> {
-    let (line, reason) = match read(alloc, text) {
+fn told(alloc: Global, text: &[u8]) -> (u32, u8) {
+    match read(alloc, text) {
         Ok(_) => (0, 0),
         Err(Bad::At { line, reason }) => (line, reason),
         Err(Bad::NoMemory) => (0, 10),
-    };
-    let told = format!(in alloc; "{line} {reason}")?;
-    Ok(told)
+    }
+}
+
+// What is read of a text, printed again.
+fn printed(alloc: Global, text: &[u8]) -> Option<Vec<u8>> {
+    match read(alloc, text) {
+        Ok(scenario) => print(alloc, &scenario).ok(),
+        Err(_) => None,
+    }
 }
 
 #[test]
-fn tells_the_first_bad_line(rt: HostRuntime) -> Result<(), Fail> {
+fn tells_the_first_bad_line(rt: HostRuntime) -> Result<(), NoMemory> {
     for case in CASES.split('@') {
-        let (first, rest) = case.split_once('\n').ok_or("a case has a first line")?;
-        let (lines, want) = first.split_once(' ').ok_or("a first line has numbers")?;
-        let mut text = Vec::from_slice(rt.alloc(), front(lines).as_bytes())?;
-        text.extend_from_slice(rest.as_bytes())?;
-        assert_eq!(rt; told(rt.alloc(), &text)?.as_str(), want, "{case}");
+        let [lines, b' ', line, b' ', reason, b'\n', rest @ ..] = case.as_bytes() else {
+            panic!(rt; "{case}");
+        };
+        let mut text = Vec::from_slice(rt.alloc(), front(*lines).as_bytes())?;
+        text.extend_from_slice(rest)?;
+        let want = (
+            u32::from(line.wrapping_sub(b'0')),
+            reason.wrapping_sub(b'0'),
+        );
+        assert!(rt; told(rt.alloc(), &text) == want, "{case}");
     }
     Ok(())
 }
 
 #[test]
-fn keeps_the_limits(rt: HostRuntime) -> Result<(), Fail> {
-    for (lines, repeated, times, want) in MANY {
-        let mut text = Vec::from_slice(rt.alloc(), front(lines).as_bytes())?;
-        for _ in 0..times {
-            text.extend_from_slice(repeated.as_bytes())?;
-        }
-        text.extend_from_slice(b"end\n")?;
-        assert_eq!(rt; told(rt.alloc(), &text)?.as_str(), want, "{times}");
+fn keeps_the_limits(rt: HostRuntime) -> Result<(), AllocError> {
+    for (lines, repeated, times, line, reason) in MANY {
+        let repeated = repeated.repeat(rt.alloc(), times)?;
+        let text = [front(lines), repeated.as_str(), "end\n"].concat(rt.alloc())?;
+        let told = told(rt.alloc(), text.as_bytes());
+        assert!(rt; told == (line, reason), "{times}");
     }
     Ok(())
 }
 
 #[test]
-fn prints_what_is_read(rt: HostRuntime) -> Result<(), Fail> {
+fn prints_what_is_read(rt: HostRuntime) {
     for text in GOOD.split('@') {
-        let scenario = read(rt.alloc(), text.as_bytes())
-            .ok()
-            .ok_or("it is a text")?;
-        let bytes = print(rt.alloc(), &scenario)?;
-        assert_eq!(rt; bytes.as_slice(), text.as_bytes());
+        let printed = printed(rt.alloc(), text.as_bytes());
+        assert!(rt; printed.as_deref() == Some(text.as_bytes()));
     }
-    let skipping = b"# two\n\nscsi 1\n#\nend\n\n#\n";
-    let scenario = read(rt.alloc(), skipping).ok().ok_or("it is a text")?;
-    let bytes = print(rt.alloc(), &scenario)?;
-    assert_eq!(rt; bytes.as_slice(), b"scsi 1\nend\n".as_slice());
-    Ok(())
+    let printed = printed(rt.alloc(), b"# two\n\nscsi 1\n#\nend\n\n#\n");
+    assert!(rt; printed.as_deref() == Some(b"scsi 1\nend\n".as_slice()));
 }
 
 #[test]
-fn tells_needs(rt: HostRuntime) -> Result<(), Fail> {
-    let scenario = read(rt.alloc(), NEEDS.as_bytes())
-        .ok()
-        .ok_or("it is a text")?;
-    let mut needs = Vec::new(rt.alloc());
-    for command in &scenario.commands {
-        needs.push(need(&scenario, command))?;
-    }
-    assert_eq!(rt; needs.as_slice(), [32, 0, 36, 18, 8, 0, 5].as_slice());
-    Ok(())
-}
-
-#[test]
-fn makes_scenarios(rt: HostRuntime) -> Result<(), Fail> {
+fn makes_scenarios(rt: HostRuntime) -> Result<(), NoMemory> {
     let made = make(rt.alloc(), 7, 4096)?;
+    assert!(rt; made.commands.len() == 4096);
     let text = print(rt.alloc(), &made)?;
-    let scenario = read(rt.alloc(), &text).ok().ok_or("it is a text")?;
-    assert_eq!(rt; scenario.commands.len(), 4096);
-    let again = print(rt.alloc(), &scenario)?;
-    assert_eq!(rt; again.as_slice(), text.as_slice());
+    assert!(rt; printed(rt.alloc(), &text).as_deref() == Some(text.as_slice()));
     Ok(())
+}
+
+#[test]
+fn tells_needs(rt: HostRuntime) {
+    let Ok(scenario) = read(rt.alloc(), NEEDS.as_bytes()) else {
+        panic!(rt; "it is a text");
+    };
+    assert!(rt; scenario.commands.len() == 7);
+    for (command, want) in scenario.commands.iter().zip([32, 0, 36, 18, 8, 0, 5]) {
+        assert!(rt; need(&scenario, command) == want);
+    }
 }

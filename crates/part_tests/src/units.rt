@@ -23,12 +23,12 @@ fn commands_of_a_unit(rt: HostRuntime) -> Result<(), NoMemory> {
     let first = unit.accept(id(1), 7, None, Class::Simple, &TEST_UNIT_READY);
     let second = unit.accept(id(2), 6, None, Class::Simple, &TEST_UNIT_READY);
     let sense = unit.accept(id(3), 7, None, Class::Simple, &REQUEST_SENSE);
-    assert_eq!(rt; second, Accepted::Full);
-    assert_eq!(rt; sense, Accepted::AtOnce);
+    assert!(rt; second == Accepted::Full);
+    assert!(rt; sense == Accepted::AtOnce);
     let chosen = unit.choose(Pick::First);
     assert!(rt; chosen.is_some());
-    assert_eq!(rt; chosen.map(Accepted::Queued), Some(first));
+    assert!(rt; chosen.map(Accepted::Queued) == Some(first));
     assert!(rt; !unit.held());
-    assert_eq!(rt; unit.into_medium().into_blocks().spare(), 0);
+    assert!(rt; unit.into_medium().into_blocks().spare() == 0);
     Ok(())
 }
