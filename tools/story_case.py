@@ -21,16 +21,29 @@ use Rattle.bus_trace.specs.View.{union_below}
 use Rattle.bus_trace.specs.declared.Row.{Row}
 use Rattle.bus_trace.specs.declared.Kind.TheVariants.{Drives, Fault}
 use Rattle.msg_grammar.specs.Messages.{form_out, form_in}
+use Rattle.bus_story.specs.Story.{Story}
 use Rattle.bus_story.specs.TraceHistory.{story}
-use Rattle.bus_story.specs.Outcomes.{outcomes, ended_good, ended_check, ended_full, ended_unanswered, ended_lost, ended_reset, ended_aborted}
+use Rattle.bus_story.specs.Outcomes.{Outcome, outcomes, ended_good, ended_check, ended_full, ended_unanswered, ended_lost, ended_reset, ended_aborted}
 use Rattle.bus_story.specs.Right.{all_carried}
 use Rattle.bus_story.specs.Samples.{expected_strikes, row_strikes}
+"""
 
+DEFINITIONS = """
 abbrev drive : ℕ → ℕ → ℕ → Row
 drive time dev lines = record { time = time; dev = dev; kind = Drives (set_of lines) }
 
 abbrev strike : ℕ → ℕ → ℕ → Row
 strike time dev bit = record { time = time; dev = dev; kind = Fault bit }
+
+-- What the rows of a run tell: its history, how each command ended, and whether each process carried just its bytes. The story of the
+-- rows is computed once for all three.
+record Shows : Type 0 where
+  history : List Event
+  ends : List (Option Outcome)
+  carried : Bool
+
+abbrev shows : ScenarioValue → Story → List Event → Shows
+shows s b told = record { history = b.history; ends = outcomes s b; carried = all_carried s b told }
 """
 
 
@@ -49,7 +62,8 @@ def outcome(w):
 def main():
     lines = (HEAD + array_case.HEAD).splitlines()
     uses = [line for line in lines if line.startswith("use ")]
-    print("\n".join(HEAD.splitlines()[:2] + uses + [line for line in lines if line not in uses and not line.startswith("-- ")]))
+    rest = [line for line in lines if line not in uses and not line.startswith("-- ")]
+    print("\n".join(HEAD.splitlines()[:2] + uses) + "\n" + DEFINITIONS + "\n".join(rest))
     for scn in sys.argv[1:]:
         name = array_case.name_of(scn, "_run")
         out = scn[: -len("scn")] + "out"
@@ -57,13 +71,10 @@ def main():
         s = array_case.print_scenario(name, scn)
         array_case.print_rows(name, out)
         array_case.print_events(name, parts)
-        print("%s_told : (story %s (reverse %s_rows)).history ≡ reverse %s_events" % (name, name, name, name))
+        wanted = items("Some (%s)" % outcome(w) for w in parts["replies"])
+        rows = "(story %s (reverse %s_rows)) (reverse %s_events)" % (name, name, name)
+        print("%s_told : shows %s %s ≡ record { history = reverse %s_events; ends = %s; carried = true }" % (name, name, rows, name, wanted))
         print("%s\n%s_told = refl\n" % (UNFOLDING, name))
-        wanted = [outcome(w) for w in parts["replies"]]
-        print("%s_outcomes : outcomes %s (story %s (reverse %s_rows)) ≡ %s" % (name, name, name, name, items("Some (%s)" % w for w in wanted)))
-        print("%s\n%s_outcomes = refl\n" % (UNFOLDING, name))
-        print("%s_carried : all_carried %s (story %s (reverse %s_rows)) (reverse %s_events) ≡ true" % (name, name, name, name, name))
-        print("%s\n%s_carried = refl\n" % (UNFOLDING, name))
         if s["faults"]:
             print("%s_struck : expected_strikes %s (reverse %s_rows) ≡ row_strikes %s_rows" % (name, name, name, name))
             print("%s\n%s_struck = refl\n" % (UNFOLDING, name))

@@ -20,7 +20,7 @@ pub enum Cause {
 }
 
 /// What the target does after the messages of a MESSAGE IN phase.
-#[derive(Clone, Copy, Debug)]
+#[derive(Clone, Copy)]
 pub enum Next {
     /// COMMAND.
     Command,
@@ -33,7 +33,7 @@ pub enum Next {
 }
 
 /// The information transfer phases, by the lines MSG, C/D and I/O (6.1.5).
-#[derive(Clone, Copy, Debug)]
+#[derive(Clone, Copy)]
 pub enum Phase {
     /// DATA OUT.
     DataOut,
@@ -50,7 +50,7 @@ pub enum Phase {
 }
 
 /// What becomes of a command as it arrives.
-#[derive(Clone, Copy, Debug)]
+#[derive(Clone, Copy)]
 pub enum Arrival {
     /// The queue of its unit is full.
     Refused,
@@ -63,7 +63,7 @@ pub enum Arrival {
 }
 
 /// What a row of a connection tells its two ends.
-#[derive(Clone, Copy, Debug)]
+#[derive(Clone, Copy)]
 pub struct Hearing {
     /// What it changes.
     pub change: Change,
@@ -86,7 +86,7 @@ pub struct Hearing {
 }
 
 /// The messages of a MESSAGE IN phase: two at most.
-#[derive(Clone, Copy, Debug)]
+#[derive(Clone, Copy)]
 pub struct Messages {
     /// The first, if there is one.
     pub first: Option<MsgIn>,
@@ -95,7 +95,7 @@ pub struct Messages {
 }
 
 /// What the target has heard in a MESSAGE OUT phase.
-#[derive(Clone, Copy, Debug)]
+#[derive(Clone, Copy)]
 pub struct Said {
     /// The unit that IDENTIFY named.
     pub unit: Option<u8>,
@@ -108,7 +108,7 @@ pub struct Said {
 }
 
 /// What the target of a connection plans.
-#[derive(Clone, Copy, Debug)]
+#[derive(Clone, Copy)]
 pub struct Plan {
     /// Whether synchronous transfer may be negotiated in this connection.
     pub negotiates: bool,
@@ -125,7 +125,7 @@ pub struct Plan {
 }
 
 /// How a phase is left.
-#[derive(Clone, Copy, Debug)]
+#[derive(Clone, Copy)]
 pub struct Leaving {
     /// To another phase, or to BUS FREE.
     pub to: Option<Phase>,
@@ -140,7 +140,7 @@ pub struct Leaving {
 }
 
 /// What the target of a connection decides by, of the process that it serves.
-#[derive(Clone, Copy, Debug)]
+#[derive(Clone, Copy)]
 pub struct Task {
     /// Whether its data go to the target.
     pub writes: bool,
@@ -165,7 +165,7 @@ pub struct Task {
 }
 
 /// The queue of a unit as a command arrives.
-#[derive(Clone, Copy, Debug)]
+#[derive(Clone, Copy)]
 pub struct Room {
     /// Whether it holds as many processes as its depth.
     pub full: bool,

@@ -20,7 +20,7 @@ use std::marker::Model;
 /// What the rows of a trace so far tell all devices, whatever they are: the view of the bus, what the last row told the
 /// two ends of a connection, and of the connection that stands its agreement and whether a phase has begun in it. Each
 /// message is read once, and no memory is taken.
-#[derive(Debug, Drop)]
+#[derive(Drop)]
 pub struct Observer {
     view: BusView,
     agreed: Agreements,

@@ -206,26 +206,26 @@ room_under_3 = refl
 
 -- ---- the handshakes of a phase, on small records
 
-abbrev request : ℕ → Bool → Request
-request time struck = record { time = time; struck = struck }
+abbrev asked_at : ℕ → Bool → Request
+asked_at time struck = record { time = time; struck = struck }
 
 -- Three requests, the last of which is struck, and two answers: the first of these made room.
 answered_in_turn : pulses.answered 950 (pulses.answered 900 (pulses.strikes (pulses.asked 800 (pulses.asked 700 (pulses.asked 600 no_handshakes)))))
-    ≡ record { requests = 3; answers = 2; last_req = 800; last_ack = 950; struck = true; reach = 3; relieved = Some 900; waiting = request 800 true ∷ [] }
+    ≡ record { requests = 3; answers = 2; last_req = 800; last_ack = 950; struck = true; reach = 3; relieved = Some 900; waiting = asked_at 800 true ∷ [] }
 answered_in_turn = refl
 
 asked_again : pulses.asked 990 (pulses.answered 950 (pulses.strikes (pulses.asked 600 no_handshakes)))
-    ≡ record { requests = 2; answers = 1; last_req = 990; last_ack = 950; struck = false; reach = 1; relieved = None; waiting = request 990 false ∷ [] }
+    ≡ record { requests = 2; answers = 1; last_req = 990; last_ack = 950; struck = false; reach = 1; relieved = None; waiting = asked_at 990 false ∷ [] }
 asked_again = refl
 
 struck_before_any : pulses.strikes no_handshakes ≡ no_handshakes
 struck_before_any = refl
 
 -- No more than 255 are remembered.
-remembers_255 : length (pulses.opened 5 (replicate 254 (request 4 false))) ≡ 255
+remembers_255 : length (pulses.opened 5 (replicate 254 (asked_at 4 false))) ≡ 255
 remembers_255 = refl
 
-remembers_no_more : pulses.opened 5 (replicate 255 (request 4 false)) ≡ replicate 255 (request 4 false)
+remembers_no_more : pulses.opened 5 (replicate 255 (asked_at 4 false)) ≡ replicate 255 (asked_at 4 false)
 remembers_no_more = refl
 
 -- ---- a reselection

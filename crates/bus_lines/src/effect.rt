@@ -5,7 +5,7 @@ ghost use Rattle.bus_lines.specs.Effect.{no_effect, effect_of, IsOneConnection};
 use bus_trace::{Change, Connection, Lines, Row, ScsiId, is_fault, receiver_of};
 
 /// What a row did, on the bus and to the connection.
-#[derive(Clone, Copy, Debug)]
+#[derive(Clone, Copy)]
 pub struct RowEffect {
     /// What it changed.
     pub change: Change,

@@ -11,7 +11,7 @@ use bus_trace::{Change, Connection, Kind, Row, changes_phase, rises};
 use std::marker::Model;
 
 /// A rise of REQ that no rise of ACK has answered yet.
-#[derive(Clone, Copy, Debug, Default)]
+#[derive(Clone, Copy, Default)]
 pub struct Request {
     /// When REQ rose, in ns.
     pub time: Ns,
@@ -22,7 +22,7 @@ pub struct Request {
 /// How often REQ and ACK have risen in the present phase and when, and which requests are unanswered. It begins
 /// anew with each phase. Times are in ns, 0 where a line has not risen. A count stays at the last u64, and at
 /// most 255 requests are remembered as unanswered, since no REQ/ACK offset is higher (6.6.21).
-#[derive(Debug, Drop)]
+#[derive(Drop)]
 pub struct Handshakes {
     requests: u64,
     answers: u64,

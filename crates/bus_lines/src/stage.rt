@@ -7,7 +7,7 @@ use bus_base::Ns;
 use bus_trace::{Arbitration, Call, Calling, Connection};
 
 /// What goes on on the bus. RST goes before all else (6.2.2), and a connection before the rest; times are in ns.
-#[derive(Clone, Copy, Debug)]
+#[derive(Clone, Copy)]
 pub enum Stage {
     /// BUS FREE, since this time (6.1.1).
     OnFreeBus(Ns),

@@ -25,7 +25,7 @@ use std::marker::Model;
 /// What any device knows of the bus after the rows of a trace so far: the lines and since when they stand as they
 /// do, the stage of the bus, what the last row did, and the handshakes of the present phase. It is the same for all
 /// devices, whatever the rows are.
-#[derive(Debug, Drop)]
+#[derive(Drop)]
 pub struct BusView {
     lines: LineView,
     arbitration: Option<Arbitration>,

@@ -23,7 +23,7 @@ use bus_trace::{
 use msg_grammar::{Got, MsgIn, MsgOut};
 
 /// The messages of the connection that stands.
-#[derive(Debug, Drop)]
+#[derive(Drop)]
 pub struct Dialogue {
     /// What they say.
     pub heard: Heard,

@@ -8,7 +8,7 @@ use msg_grammar::{Got, MsgIn, MsgOut, decode_in, decode_out};
 use std::marker::Model;
 
 /// The bytes of a message that is half sent, at most four.
-#[derive(Debug, Drop)]
+#[derive(Drop)]
 pub struct Half {
     bytes: ArrayVec<u8, 5>,
 }

@@ -7,7 +7,7 @@ use bus_trace::{Change, Connection, changes_phase, rises, when};
 
 /// How often REQ and ACK have risen in the present phase, and when they last did, in ns. A count stays at the
 /// last u64.
-#[derive(Clone, Copy, Debug)]
+#[derive(Clone, Copy)]
 pub struct Pulses {
     /// How often REQ rose.
     pub req: u64,

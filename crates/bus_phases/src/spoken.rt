@@ -7,7 +7,7 @@ use bus_trace::Agreement;
 
 /// The bytes of COMMAND that have crossed since the command pointer was restored. The count stays at the last
 /// u64.
-#[derive(Clone, Copy, Debug)]
+#[derive(Clone, Copy)]
 pub struct CommandBytes {
     /// The first byte; 0 before it.
     pub first: u8,
@@ -16,7 +16,7 @@ pub struct CommandBytes {
 }
 
 /// What the messages of a connection so far say.
-#[derive(Clone, Copy, Debug)]
+#[derive(Clone, Copy)]
 pub struct Spoken {
     /// The agreement of its two devices.
     pub agreement: Agreement,
@@ -31,7 +31,7 @@ pub struct Spoken {
 }
 
 /// What the messages say, and what they say where the last one, which came in MESSAGE IN, is void.
-#[derive(Clone, Copy, Debug)]
+#[derive(Clone, Copy)]
 pub struct Heard {
     pub now: Spoken,
     pub void: Option<Spoken>,

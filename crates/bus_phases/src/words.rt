@@ -13,7 +13,7 @@ pub enum End {
 }
 
 /// What a message says, as far as the rules ask.
-#[derive(Clone, Copy, Debug)]
+#[derive(Clone, Copy)]
 pub enum Word {
     /// A synchronous data transfer request.
     Offer(Agreement),

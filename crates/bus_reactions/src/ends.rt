@@ -4,7 +4,7 @@ use bus_base::Ns;
 use bus_trace::{Lines, TransferTimes};
 
 /// How bytes cross in the phase.
-#[derive(Clone, Copy, Debug)]
+#[derive(Clone, Copy)]
 pub struct Pace {
     /// Whether by pulses, under the offset.
     pub pulsed: bool,
@@ -17,7 +17,7 @@ pub struct Pace {
 }
 
 /// What the target has to do in the phase.
-#[derive(Clone, Copy, Debug)]
+#[derive(Clone, Copy)]
 pub struct Offering {
     /// The byte after those that it has given.
     pub byte: u8,
@@ -30,7 +30,7 @@ pub struct Offering {
 }
 
 /// What the initiator has to do in the phase.
-#[derive(Clone, Copy, Debug)]
+#[derive(Clone, Copy)]
 pub struct Answering {
     /// The byte after those that it has given.
     pub byte: u8,
@@ -43,7 +43,7 @@ pub struct Answering {
 }
 
 /// What an end of a connection has to do in the phase.
-#[derive(Clone, Copy, Debug)]
+#[derive(Clone, Copy)]
 pub enum Hand {
     /// The initiator.
     Initiator(Answering),

@@ -11,7 +11,7 @@ use bus_lines::{BusView, Stage};
 use bus_trace::{LineTimes, Lines};
 
 /// What any device knows of the bus by its lines.
-#[derive(Clone, Copy, Debug)]
+#[derive(Clone, Copy)]
 pub struct Sight {
     /// What is on the bus.
     pub bus: Lines,

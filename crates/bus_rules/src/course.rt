@@ -21,7 +21,7 @@ use bus_trace::{
 };
 
 /// What stands on the bus after the rows of a trace so far.
-#[derive(Debug, Drop)]
+#[derive(Drop)]
 pub struct Course {
     /// When each device last raised BSY.
     pub bsy_raised: Raises,

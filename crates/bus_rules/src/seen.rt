@@ -5,7 +5,7 @@ use bus_trace::{Agreement, Arbitration, Call, Change, Connection, LineTimes, Scs
 
 /// What a row meets: all that the rules ask of the rows before it. Times are in ns, 0 where the trace
 /// has nothing of the kind.
-#[derive(Clone, Copy, Debug)]
+#[derive(Clone, Copy)]
 pub struct Seen {
     /// What the row changes.
     pub change: Change,

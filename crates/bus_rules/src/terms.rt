@@ -19,7 +19,7 @@ use bus_trace::{Call, Change, Connection, LineView, Row, ScsiId, drives_data};
 use std::marker::Model;
 
 /// The terms of the rules after the rows of a trace so far, whatever they are.
-#[derive(Debug, Drop)]
+#[derive(Drop)]
 pub struct Terms {
     view: LineView,
     course: Course,

@@ -5,7 +5,7 @@ ghost use Rattle.std.proofs.Props.{props};
 use bus_trace::{Connection, Row};
 
 /// The first row that the devices are due to make which are no ends of a connection.
-#[derive(Clone, Copy, Debug)]
+#[derive(Clone, Copy)]
 pub struct Away {
     /// The connection.
     pub connection: Connection,

@@ -4,7 +4,7 @@ ghost use Rattle.std.specs.Prelude.{◌≡◌};
 use bus_base::Event;
 
 /// The events that a row shows: none, one or two, the newest first.
-#[derive(Clone, Copy, Debug)]
+#[derive(Clone, Copy)]
 pub enum Shown {
     /// None.
     Nothing,

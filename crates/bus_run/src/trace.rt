@@ -9,7 +9,7 @@ use bus_trace::{Kind, Row};
 use std::alloc::Global;
 
 /// The rows of a run so far, and the events that they show, the oldest first.
-#[derive(Debug, Drop)]
+#[derive(Drop)]
 pub struct Trace {
     /// The rows.
     pub rows: Vec<Row>,

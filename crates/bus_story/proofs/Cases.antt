@@ -5,12 +5,13 @@ use Rattle.bus_trace.specs.View.{union_below}
 use Rattle.bus_trace.specs.declared.Row.{Row}
 use Rattle.bus_trace.specs.declared.Kind.TheVariants.{Drives, Fault}
 use Rattle.msg_grammar.specs.Messages.{form_out, form_in}
+use Rattle.bus_story.specs.Story.{Story}
 use Rattle.bus_story.specs.TraceHistory.{story}
-use Rattle.bus_story.specs.Outcomes.{outcomes, ended_good, ended_check, ended_full, ended_lost, ended_reset, ended_aborted}
+use Rattle.bus_story.specs.Outcomes.{Outcome, outcomes, ended_good, ended_check, ended_full, ended_lost, ended_reset, ended_aborted}
 use Rattle.bus_story.specs.Right.{all_carried}
 use Rattle.bus_story.specs.Samples.{expected_strikes, row_strikes}
-use Rattle.std.proofs.Common.{ℕ, ◌≡◌, true, false, List, [], ◌∷◌, reverse, refl}
-use Rattle.std.specs.Prelude.{Some, None}
+use Rattle.std.proofs.Common.{ℕ, ◌≡◌, Bool, true, false, List, [], ◌∷◌, reverse, refl}
+use Rattle.std.specs.Prelude.{Option, Some, None}
 use lib.Count.{ones}
 use Rattle.bus_base.specs.declared.ProcId.{ProcId}
 use Rattle.bus_base.specs.declared.AbortKind.TheVariants as aborts
@@ -28,6 +29,16 @@ drive time dev lines = record { time = time; dev = dev; kind = Drives (set_of li
 
 abbrev strike : ℕ → ℕ → ℕ → Row
 strike time dev bit = record { time = time; dev = dev; kind = Fault bit }
+
+-- What the rows of a run tell: its history, how each command ended, and whether each process carried just its bytes. The story of the
+-- rows is computed once for all three.
+record Shows : Type 0 where
+  history : List Event
+  ends : List (Option Outcome)
+  carried : Bool
+
+abbrev shows : ScenarioValue → Story → List Event → Shows
+shows s b told = record { history = b.history; ends = outcomes s b; carried = all_carried s b told }
 
 abbrev command : ℕ → ProcId
 command n = record { command = n; sense = false }
@@ -56,17 +67,9 @@ aborts_and_resets_run_rows = drive 2389 6 0x00240 ∷ drive 4889 6 0x00640 ∷ d
 abbrev aborts_and_resets_run_events : List Event
 aborts_and_resets_run_events = events.Reset 3 ∷ events.Accept (command 5) ∷ events.Accept (command 1) ∷ events.Refuse (command 3) ∷ events.End (command 3) 40 ∷ events.Aborted 2 0 5 aborts.All ∷ events.Run (command 5) ∷ events.End (command 5) 2 ∷ events.Accept (sense 5) ∷ events.Run (sense 5) ∷ events.Reset 7 ∷ events.Accept (command 4) ∷ events.Aborted 1 0 5 aborts.Device ∷ events.Reset 3 ∷ []
 
-aborts_and_resets_run_told : (story aborts_and_resets_run (reverse aborts_and_resets_run_rows)).history ≡ reverse aborts_and_resets_run_events
+aborts_and_resets_run_told : shows aborts_and_resets_run (story aborts_and_resets_run (reverse aborts_and_resets_run_rows)) (reverse aborts_and_resets_run_events) ≡ record { history = reverse aborts_and_resets_run_events; ends = Some (ended_reset) ∷ Some (ended_reset) ∷ Some (ended_full) ∷ Some (ended_aborted) ∷ Some (ended_check None) ∷ []; carried = true }
 unfolding need_of sent_of ones union_below line_of form_out form_in
 aborts_and_resets_run_told = refl
-
-aborts_and_resets_run_outcomes : outcomes aborts_and_resets_run (story aborts_and_resets_run (reverse aborts_and_resets_run_rows)) ≡ Some (ended_reset) ∷ Some (ended_reset) ∷ Some (ended_full) ∷ Some (ended_aborted) ∷ Some (ended_check None) ∷ []
-unfolding need_of sent_of ones union_below line_of form_out form_in
-aborts_and_resets_run_outcomes = refl
-
-aborts_and_resets_run_carried : all_carried aborts_and_resets_run (story aborts_and_resets_run (reverse aborts_and_resets_run_rows)) (reverse aborts_and_resets_run_events) ≡ true
-unfolding need_of sent_of ones union_below line_of form_out form_in
-aborts_and_resets_run_carried = refl
 
 -- ---- all_run
 
@@ -89,17 +92,9 @@ all_run_rows = drive 1200 6 0x00240 ∷ drive 3600 6 0x00640 ∷ drive 4800 6 0x
 abbrev all_run_events : List Event
 all_run_events = events.Accept (command 1) ∷ events.Run (command 1) ∷ events.End (command 1) 2 ∷ events.Aborted 6 0 0 aborts.All ∷ events.Accept (command 2) ∷ events.Run (command 2) ∷ events.End (command 2) 0 ∷ events.Accept (command 3) ∷ events.Run (command 3) ∷ events.End (command 3) 0 ∷ []
 
-all_run_told : (story all_run (reverse all_run_rows)).history ≡ reverse all_run_events
+all_run_told : shows all_run (story all_run (reverse all_run_rows)) (reverse all_run_events) ≡ record { history = reverse all_run_events; ends = Some (ended_check None) ∷ Some (ended_good ([])) ∷ Some (ended_good (112 ∷ 0 ∷ 0 ∷ 0 ∷ 0 ∷ 0 ∷ 0 ∷ 10 ∷ 0 ∷ 0 ∷ 0 ∷ 0 ∷ 0 ∷ 0 ∷ 0 ∷ 0 ∷ 0 ∷ 0 ∷ [])) ∷ []; carried = true }
 unfolding need_of sent_of ones union_below line_of form_out form_in
 all_run_told = refl
-
-all_run_outcomes : outcomes all_run (story all_run (reverse all_run_rows)) ≡ Some (ended_check None) ∷ Some (ended_good ([])) ∷ Some (ended_good (112 ∷ 0 ∷ 0 ∷ 0 ∷ 0 ∷ 0 ∷ 0 ∷ 10 ∷ 0 ∷ 0 ∷ 0 ∷ 0 ∷ 0 ∷ 0 ∷ 0 ∷ 0 ∷ 0 ∷ 0 ∷ [])) ∷ []
-unfolding need_of sent_of ones union_below line_of form_out form_in
-all_run_outcomes = refl
-
-all_run_carried : all_carried all_run (story all_run (reverse all_run_rows)) (reverse all_run_events) ≡ true
-unfolding need_of sent_of ones union_below line_of form_out form_in
-all_run_carried = refl
 
 -- ---- called_again_for_sense_run
 
@@ -122,17 +117,9 @@ called_again_for_sense_run_rows = drive 1200 7 0x00280 ∷ drive 3600 7 0x00680 
 abbrev called_again_for_sense_run_events : List Event
 called_again_for_sense_run_events = events.Accept (command 1) ∷ events.Run (command 1) ∷ events.End (command 1) 2 ∷ events.Accept (sense 1) ∷ events.Run (sense 1) ∷ events.End (sense 1) 0 ∷ []
 
-called_again_for_sense_run_told : (story called_again_for_sense_run (reverse called_again_for_sense_run_rows)).history ≡ reverse called_again_for_sense_run_events
+called_again_for_sense_run_told : shows called_again_for_sense_run (story called_again_for_sense_run (reverse called_again_for_sense_run_rows)) (reverse called_again_for_sense_run_events) ≡ record { history = reverse called_again_for_sense_run_events; ends = Some (ended_check (Some (record { key = 5; asc = 33; ascq = 0 }))) ∷ []; carried = true }
 unfolding need_of sent_of ones union_below line_of form_out form_in
 called_again_for_sense_run_told = refl
-
-called_again_for_sense_run_outcomes : outcomes called_again_for_sense_run (story called_again_for_sense_run (reverse called_again_for_sense_run_rows)) ≡ Some (ended_check (Some (record { key = 5; asc = 33; ascq = 0 }))) ∷ []
-unfolding need_of sent_of ones union_below line_of form_out form_in
-called_again_for_sense_run_outcomes = refl
-
-called_again_for_sense_run_carried : all_carried called_again_for_sense_run (story called_again_for_sense_run (reverse called_again_for_sense_run_rows)) (reverse called_again_for_sense_run_events) ≡ true
-unfolding need_of sent_of ones union_below line_of form_out form_in
-called_again_for_sense_run_carried = refl
 
 called_again_for_sense_run_struck : expected_strikes called_again_for_sense_run (reverse called_again_for_sense_run_rows) ≡ row_strikes called_again_for_sense_run_rows
 unfolding need_of sent_of ones union_below line_of form_out form_in
@@ -159,17 +146,9 @@ capacity_of_the_largest_run_rows = drive 1200 7 0x00280 ∷ drive 3600 7 0x00680
 abbrev capacity_of_the_largest_run_events : List Event
 capacity_of_the_largest_run_events = events.Accept (command 1) ∷ events.Run (command 1) ∷ events.End (command 1) 0 ∷ []
 
-capacity_of_the_largest_run_told : (story capacity_of_the_largest_run (reverse capacity_of_the_largest_run_rows)).history ≡ reverse capacity_of_the_largest_run_events
+capacity_of_the_largest_run_told : shows capacity_of_the_largest_run (story capacity_of_the_largest_run (reverse capacity_of_the_largest_run_rows)) (reverse capacity_of_the_largest_run_events) ≡ record { history = reverse capacity_of_the_largest_run_events; ends = Some (ended_good (255 ∷ 255 ∷ 255 ∷ 255 ∷ 0 ∷ 0 ∷ 2 ∷ 0 ∷ [])) ∷ []; carried = true }
 unfolding need_of sent_of ones union_below line_of form_out form_in
 capacity_of_the_largest_run_told = refl
-
-capacity_of_the_largest_run_outcomes : outcomes capacity_of_the_largest_run (story capacity_of_the_largest_run (reverse capacity_of_the_largest_run_rows)) ≡ Some (ended_good (255 ∷ 255 ∷ 255 ∷ 255 ∷ 0 ∷ 0 ∷ 2 ∷ 0 ∷ [])) ∷ []
-unfolding need_of sent_of ones union_below line_of form_out form_in
-capacity_of_the_largest_run_outcomes = refl
-
-capacity_of_the_largest_run_carried : all_carried capacity_of_the_largest_run (story capacity_of_the_largest_run (reverse capacity_of_the_largest_run_rows)) (reverse capacity_of_the_largest_run_events) ≡ true
-unfolding need_of sent_of ones union_below line_of form_out form_in
-capacity_of_the_largest_run_carried = refl
 
 -- ---- checks_run
 
@@ -192,17 +171,9 @@ checks_run_rows = drive 1200 7 0x00280 ∷ drive 1200 6 0x00240 ∷ drive 3600 7
 abbrev checks_run_events : List Event
 checks_run_events = events.Accept (command 1) ∷ events.Accept (command 2) ∷ events.Run (command 1) ∷ events.End (command 1) 2 ∷ events.Accept (sense 1) ∷ events.Run (sense 1) ∷ events.End (sense 1) 0 ∷ events.Run (command 2) ∷ events.End (command 2) 0 ∷ []
 
-checks_run_told : (story checks_run (reverse checks_run_rows)).history ≡ reverse checks_run_events
+checks_run_told : shows checks_run (story checks_run (reverse checks_run_rows)) (reverse checks_run_events) ≡ record { history = reverse checks_run_events; ends = Some (ended_check (Some (record { key = 5; asc = 33; ascq = 0 }))) ∷ Some (ended_good ([])) ∷ []; carried = true }
 unfolding need_of sent_of ones union_below line_of form_out form_in
 checks_run_told = refl
-
-checks_run_outcomes : outcomes checks_run (story checks_run (reverse checks_run_rows)) ≡ Some (ended_check (Some (record { key = 5; asc = 33; ascq = 0 }))) ∷ Some (ended_good ([])) ∷ []
-unfolding need_of sent_of ones union_below line_of form_out form_in
-checks_run_outcomes = refl
-
-checks_run_carried : all_carried checks_run (story checks_run (reverse checks_run_rows)) (reverse checks_run_events) ≡ true
-unfolding need_of sent_of ones union_below line_of form_out form_in
-checks_run_carried = refl
 
 -- ---- conflicts_run
 
@@ -225,17 +196,9 @@ conflicts_run_rows = drive 1200 7 0x00280 ∷ drive 1200 6 0x00240 ∷ drive 360
 abbrev conflicts_run_events : List Event
 conflicts_run_events = events.Accept (command 1) ∷ events.Accept (command 2) ∷ events.Accept (command 3) ∷ events.Accept (command 4) ∷ events.Run (command 1) ∷ events.End (command 1) 0 ∷ events.Run (command 4) ∷ events.End (command 4) 0 ∷ events.Run (command 2) ∷ events.End (command 2) 0 ∷ events.Run (command 3) ∷ events.End (command 3) 0 ∷ []
 
-conflicts_run_told : (story conflicts_run (reverse conflicts_run_rows)).history ≡ reverse conflicts_run_events
+conflicts_run_told : shows conflicts_run (story conflicts_run (reverse conflicts_run_rows)) (reverse conflicts_run_events) ≡ record { history = reverse conflicts_run_events; ends = Some (ended_good ([])) ∷ Some (ended_good ([])) ∷ Some (ended_good ([])) ∷ Some (ended_good ([])) ∷ []; carried = true }
 unfolding need_of sent_of ones union_below line_of form_out form_in
 conflicts_run_told = refl
-
-conflicts_run_outcomes : outcomes conflicts_run (story conflicts_run (reverse conflicts_run_rows)) ≡ Some (ended_good ([])) ∷ Some (ended_good ([])) ∷ Some (ended_good ([])) ∷ Some (ended_good ([])) ∷ []
-unfolding need_of sent_of ones union_below line_of form_out form_in
-conflicts_run_outcomes = refl
-
-conflicts_run_carried : all_carried conflicts_run (story conflicts_run (reverse conflicts_run_rows)) (reverse conflicts_run_events) ≡ true
-unfolding need_of sent_of ones union_below line_of form_out form_in
-conflicts_run_carried = refl
 
 -- ---- failures_run
 
@@ -258,17 +221,9 @@ failures_run_rows = drive 24181 3 0x00208 ∷ drive 26681 3 0x00608 ∷ drive 27
 abbrev failures_run_events : List Event
 failures_run_events = events.Fail (command 1) 71 ∷ events.End (command 1) 2 ∷ events.Reset 0 ∷ events.Fail (command 2) 71 ∷ events.End (command 2) 2 ∷ events.Accept (sense 2) ∷ events.Reset 1 ∷ events.Aborted 3 0 0 aborts.WholeQueue ∷ events.Aborted 3 1 4 (aborts.Tag 255) ∷ events.Accept (command 3) ∷ events.Run (command 3) ∷ events.End (command 3) 2 ∷ events.Accept (sense 3) ∷ events.Run (sense 3) ∷ events.End (sense 3) 0 ∷ []
 
-failures_run_told : (story failures_run (reverse failures_run_rows)).history ≡ reverse failures_run_events
+failures_run_told : shows failures_run (story failures_run (reverse failures_run_rows)) (reverse failures_run_events) ≡ record { history = reverse failures_run_events; ends = Some (ended_check None) ∷ Some (ended_check None) ∷ Some (ended_check (Some (record { key = 6; asc = 41; ascq = 0 }))) ∷ []; carried = true }
 unfolding need_of sent_of ones union_below line_of form_out form_in
 failures_run_told = refl
-
-failures_run_outcomes : outcomes failures_run (story failures_run (reverse failures_run_rows)) ≡ Some (ended_check None) ∷ Some (ended_check None) ∷ Some (ended_check (Some (record { key = 6; asc = 41; ascq = 0 }))) ∷ []
-unfolding need_of sent_of ones union_below line_of form_out form_in
-failures_run_outcomes = refl
-
-failures_run_carried : all_carried failures_run (story failures_run (reverse failures_run_rows)) (reverse failures_run_events) ≡ true
-unfolding need_of sent_of ones union_below line_of form_out form_in
-failures_run_carried = refl
 
 failures_run_struck : expected_strikes failures_run (reverse failures_run_rows) ≡ row_strikes failures_run_rows
 unfolding need_of sent_of ones union_below line_of form_out form_in
@@ -295,17 +250,9 @@ full_run_rows = drive 1200 7 0x00280 ∷ drive 1200 6 0x00240 ∷ drive 3600 7 0
 abbrev full_run_events : List Event
 full_run_events = events.Accept (command 1) ∷ events.Accept (command 2) ∷ events.Accept (command 3) ∷ events.Refuse (command 4) ∷ events.End (command 4) 40 ∷ events.Accept (command 7) ∷ events.Run (command 7) ∷ events.End (command 7) 0 ∷ events.Accept (command 5) ∷ events.Refuse (command 6) ∷ events.End (command 6) 40 ∷ events.Aborted 6 0 0 (aborts.Tag 2) ∷ events.Run (command 1) ∷ events.End (command 1) 0 ∷ events.Run (command 5) ∷ events.End (command 5) 0 ∷ events.Run (command 3) ∷ events.End (command 3) 0 ∷ events.Aborted 6 0 1 aborts.Device ∷ []
 
-full_run_told : (story full_run (reverse full_run_rows)).history ≡ reverse full_run_events
+full_run_told : shows full_run (story full_run (reverse full_run_rows)) (reverse full_run_events) ≡ record { history = reverse full_run_events; ends = Some (ended_good ([])) ∷ Some (ended_aborted) ∷ Some (ended_good ([])) ∷ Some (ended_full) ∷ Some (ended_good ([])) ∷ Some (ended_full) ∷ Some (ended_good (112 ∷ 0 ∷ 0 ∷ 0 ∷ [])) ∷ []; carried = true }
 unfolding need_of sent_of ones union_below line_of form_out form_in
 full_run_told = refl
-
-full_run_outcomes : outcomes full_run (story full_run (reverse full_run_rows)) ≡ Some (ended_good ([])) ∷ Some (ended_aborted) ∷ Some (ended_good ([])) ∷ Some (ended_full) ∷ Some (ended_good ([])) ∷ Some (ended_full) ∷ Some (ended_good (112 ∷ 0 ∷ 0 ∷ 0 ∷ [])) ∷ []
-unfolding need_of sent_of ones union_below line_of form_out form_in
-full_run_outcomes = refl
-
-full_run_carried : all_carried full_run (story full_run (reverse full_run_rows)) (reverse full_run_events) ≡ true
-unfolding need_of sent_of ones union_below line_of form_out form_in
-full_run_carried = refl
 
 -- ---- heads_run
 
@@ -328,17 +275,9 @@ heads_run_rows = drive 1200 7 0x00280 ∷ drive 3600 7 0x00680 ∷ drive 4800 7 
 abbrev heads_run_events : List Event
 heads_run_events = events.Accept (command 1) ∷ events.Accept (command 2) ∷ events.Accept (command 3) ∷ events.Accept (command 4) ∷ events.Accept (command 5) ∷ events.Accept (command 6) ∷ events.Run (command 1) ∷ events.End (command 1) 0 ∷ events.Run (command 6) ∷ events.End (command 6) 0 ∷ events.Run (command 5) ∷ events.End (command 5) 0 ∷ events.Run (command 2) ∷ events.End (command 2) 0 ∷ events.Run (command 3) ∷ events.End (command 3) 0 ∷ events.Run (command 4) ∷ events.End (command 4) 0 ∷ []
 
-heads_run_told : (story heads_run (reverse heads_run_rows)).history ≡ reverse heads_run_events
+heads_run_told : shows heads_run (story heads_run (reverse heads_run_rows)) (reverse heads_run_events) ≡ record { history = reverse heads_run_events; ends = Some (ended_good ([])) ∷ Some (ended_good ([])) ∷ Some (ended_good ([])) ∷ Some (ended_good ([])) ∷ Some (ended_good ([])) ∷ Some (ended_good ([])) ∷ []; carried = true }
 unfolding need_of sent_of ones union_below line_of form_out form_in
 heads_run_told = refl
-
-heads_run_outcomes : outcomes heads_run (story heads_run (reverse heads_run_rows)) ≡ Some (ended_good ([])) ∷ Some (ended_good ([])) ∷ Some (ended_good ([])) ∷ Some (ended_good ([])) ∷ Some (ended_good ([])) ∷ Some (ended_good ([])) ∷ []
-unfolding need_of sent_of ones union_below line_of form_out form_in
-heads_run_outcomes = refl
-
-heads_run_carried : all_carried heads_run (story heads_run (reverse heads_run_rows)) (reverse heads_run_events) ≡ true
-unfolding need_of sent_of ones union_below line_of form_out form_in
-heads_run_carried = refl
 
 -- ---- held_run
 
@@ -361,17 +300,9 @@ held_run_rows = drive 1200 6 0x00240 ∷ drive 3600 6 0x00640 ∷ drive 4800 6 0
 abbrev held_run_events : List Event
 held_run_events = events.Accept (command 1) ∷ events.Accept (command 2) ∷ events.Run (command 1) ∷ events.End (command 1) 2 ∷ events.Accept (command 3) ∷ events.Accept (sense 1) ∷ events.Run (sense 1) ∷ events.End (sense 1) 0 ∷ events.Run (command 3) ∷ events.End (command 3) 0 ∷ events.Run (command 2) ∷ events.End (command 2) 0 ∷ []
 
-held_run_told : (story held_run (reverse held_run_rows)).history ≡ reverse held_run_events
+held_run_told : shows held_run (story held_run (reverse held_run_rows)) (reverse held_run_events) ≡ record { history = reverse held_run_events; ends = Some (ended_check (Some (record { key = 5; asc = 33; ascq = 0 }))) ∷ Some (ended_good ([])) ∷ Some (ended_good ([])) ∷ []; carried = true }
 unfolding need_of sent_of ones union_below line_of form_out form_in
 held_run_told = refl
-
-held_run_outcomes : outcomes held_run (story held_run (reverse held_run_rows)) ≡ Some (ended_check (Some (record { key = 5; asc = 33; ascq = 0 }))) ∷ Some (ended_good ([])) ∷ Some (ended_good ([])) ∷ []
-unfolding need_of sent_of ones union_below line_of form_out form_in
-held_run_outcomes = refl
-
-held_run_carried : all_carried held_run (story held_run (reverse held_run_rows)) (reverse held_run_events) ≡ true
-unfolding need_of sent_of ones union_below line_of form_out form_in
-held_run_carried = refl
 
 -- ---- last_block_written_run
 
@@ -394,17 +325,9 @@ last_block_written_run_rows = drive 1200 7 0x00280 ∷ drive 3600 7 0x00680 ∷ 
 abbrev last_block_written_run_events : List Event
 last_block_written_run_events = events.Accept (command 1) ∷ events.Run (command 1) ∷ events.End (command 1) 0 ∷ []
 
-last_block_written_run_told : (story last_block_written_run (reverse last_block_written_run_rows)).history ≡ reverse last_block_written_run_events
+last_block_written_run_told : shows last_block_written_run (story last_block_written_run (reverse last_block_written_run_rows)) (reverse last_block_written_run_events) ≡ record { history = reverse last_block_written_run_events; ends = Some (ended_good ([])) ∷ []; carried = true }
 unfolding need_of sent_of ones union_below line_of form_out form_in
 last_block_written_run_told = refl
-
-last_block_written_run_outcomes : outcomes last_block_written_run (story last_block_written_run (reverse last_block_written_run_rows)) ≡ Some (ended_good ([])) ∷ []
-unfolding need_of sent_of ones union_below line_of form_out form_in
-last_block_written_run_outcomes = refl
-
-last_block_written_run_carried : all_carried last_block_written_run (story last_block_written_run (reverse last_block_written_run_rows)) (reverse last_block_written_run_events) ≡ true
-unfolding need_of sent_of ones union_below line_of form_out form_in
-last_block_written_run_carried = refl
 
 -- ---- mixed_tags_run
 
@@ -427,17 +350,9 @@ mixed_tags_run_rows = drive 1200 7 0x00280 ∷ drive 3600 7 0x00680 ∷ drive 48
 abbrev mixed_tags_run_events : List Event
 mixed_tags_run_events = events.Accept (command 1) ∷ events.Accept (command 2) ∷ events.Accept (command 3) ∷ events.Accept (command 4) ∷ events.Accept (command 5) ∷ events.Accept (command 6) ∷ events.Run (command 1) ∷ events.End (command 1) 0 ∷ events.Run (command 4) ∷ events.End (command 4) 0 ∷ events.Run (command 3) ∷ events.End (command 3) 0 ∷ events.Run (command 2) ∷ events.End (command 2) 0 ∷ events.Run (command 5) ∷ events.End (command 5) 0 ∷ events.Run (command 6) ∷ events.End (command 6) 0 ∷ []
 
-mixed_tags_run_told : (story mixed_tags_run (reverse mixed_tags_run_rows)).history ≡ reverse mixed_tags_run_events
+mixed_tags_run_told : shows mixed_tags_run (story mixed_tags_run (reverse mixed_tags_run_rows)) (reverse mixed_tags_run_events) ≡ record { history = reverse mixed_tags_run_events; ends = Some (ended_good ([])) ∷ Some (ended_good ([])) ∷ Some (ended_good ([])) ∷ Some (ended_good ([])) ∷ Some (ended_good ([])) ∷ Some (ended_good ([])) ∷ []; carried = true }
 unfolding need_of sent_of ones union_below line_of form_out form_in
 mixed_tags_run_told = refl
-
-mixed_tags_run_outcomes : outcomes mixed_tags_run (story mixed_tags_run (reverse mixed_tags_run_rows)) ≡ Some (ended_good ([])) ∷ Some (ended_good ([])) ∷ Some (ended_good ([])) ∷ Some (ended_good ([])) ∷ Some (ended_good ([])) ∷ Some (ended_good ([])) ∷ []
-unfolding need_of sent_of ones union_below line_of form_out form_in
-mixed_tags_run_outcomes = refl
-
-mixed_tags_run_carried : all_carried mixed_tags_run (story mixed_tags_run (reverse mixed_tags_run_rows)) (reverse mixed_tags_run_events) ≡ true
-unfolding need_of sent_of ones union_below line_of form_out form_in
-mixed_tags_run_carried = refl
 
 -- ---- negotiation_run
 
@@ -460,17 +375,9 @@ negotiation_run_rows = drive 1200 7 0x00280 ∷ drive 3600 7 0x00680 ∷ drive 4
 abbrev negotiation_run_events : List Event
 negotiation_run_events = events.Accept (command 1) ∷ events.Run (command 1) ∷ events.End (command 1) 0 ∷ []
 
-negotiation_run_told : (story negotiation_run (reverse negotiation_run_rows)).history ≡ reverse negotiation_run_events
+negotiation_run_told : shows negotiation_run (story negotiation_run (reverse negotiation_run_rows)) (reverse negotiation_run_events) ≡ record { history = reverse negotiation_run_events; ends = Some (ended_good (0 ∷ 1 ∷ 2 ∷ 3 ∷ 4 ∷ 5 ∷ 6 ∷ 7 ∷ 8 ∷ 9 ∷ 10 ∷ 11 ∷ 12 ∷ 13 ∷ 14 ∷ 15 ∷ [])) ∷ []; carried = true }
 unfolding need_of sent_of ones union_below line_of form_out form_in
 negotiation_run_told = refl
-
-negotiation_run_outcomes : outcomes negotiation_run (story negotiation_run (reverse negotiation_run_rows)) ≡ Some (ended_good (0 ∷ 1 ∷ 2 ∷ 3 ∷ 4 ∷ 5 ∷ 6 ∷ 7 ∷ 8 ∷ 9 ∷ 10 ∷ 11 ∷ 12 ∷ 13 ∷ 14 ∷ 15 ∷ [])) ∷ []
-unfolding need_of sent_of ones union_below line_of form_out form_in
-negotiation_run_outcomes = refl
-
-negotiation_run_carried : all_carried negotiation_run (story negotiation_run (reverse negotiation_run_rows)) (reverse negotiation_run_events) ≡ true
-unfolding need_of sent_of ones union_below line_of form_out form_in
-negotiation_run_carried = refl
 
 negotiation_run_struck : expected_strikes negotiation_run (reverse negotiation_run_rows) ≡ row_strikes negotiation_run_rows
 unfolding need_of sent_of ones union_below line_of form_out form_in
@@ -497,17 +404,9 @@ order_run_rows = drive 1200 7 0x00280 ∷ drive 3600 7 0x00680 ∷ drive 4800 7 
 abbrev order_run_events : List Event
 order_run_events = events.Accept (command 1) ∷ events.Accept (command 2) ∷ events.Accept (command 3) ∷ events.Accept (command 4) ∷ events.Run (command 1) ∷ events.End (command 1) 0 ∷ events.Run (command 2) ∷ events.End (command 2) 0 ∷ events.Run (command 3) ∷ events.End (command 3) 0 ∷ events.Run (command 4) ∷ events.End (command 4) 0 ∷ []
 
-order_run_told : (story order_run (reverse order_run_rows)).history ≡ reverse order_run_events
+order_run_told : shows order_run (story order_run (reverse order_run_rows)) (reverse order_run_events) ≡ record { history = reverse order_run_events; ends = Some (ended_good ([])) ∷ Some (ended_good ([])) ∷ Some (ended_good ([])) ∷ Some (ended_good (0 ∷ 0 ∷ 0 ∷ 0 ∷ 0 ∷ 0 ∷ 0 ∷ 0 ∷ 0 ∷ 0 ∷ 0 ∷ 0 ∷ 0 ∷ 0 ∷ 0 ∷ 0 ∷ [])) ∷ []; carried = true }
 unfolding need_of sent_of ones union_below line_of form_out form_in
 order_run_told = refl
-
-order_run_outcomes : outcomes order_run (story order_run (reverse order_run_rows)) ≡ Some (ended_good ([])) ∷ Some (ended_good ([])) ∷ Some (ended_good ([])) ∷ Some (ended_good (0 ∷ 0 ∷ 0 ∷ 0 ∷ 0 ∷ 0 ∷ 0 ∷ 0 ∷ 0 ∷ 0 ∷ 0 ∷ 0 ∷ 0 ∷ 0 ∷ 0 ∷ 0 ∷ [])) ∷ []
-unfolding need_of sent_of ones union_below line_of form_out form_in
-order_run_outcomes = refl
-
-order_run_carried : all_carried order_run (story order_run (reverse order_run_rows)) (reverse order_run_events) ≡ true
-unfolding need_of sent_of ones union_below line_of form_out form_in
-order_run_carried = refl
 
 -- ---- queue_run
 
@@ -530,17 +429,9 @@ queue_run_rows = drive 1200 7 0x00280 ∷ drive 1200 6 0x00240 ∷ drive 3600 7 
 abbrev queue_run_events : List Event
 queue_run_events = events.Accept (command 1) ∷ events.Accept (command 2) ∷ events.Aborted 7 0 0 aborts.WholeQueue ∷ events.Accept (command 3) ∷ events.Accept (command 4) ∷ events.Run (command 3) ∷ events.End (command 3) 0 ∷ events.Accept (command 5) ∷ events.Run (command 4) ∷ events.End (command 4) 0 ∷ events.Accept (command 6) ∷ events.Run (command 5) ∷ events.End (command 5) 2 ∷ events.Accept (sense 5) ∷ events.Run (sense 5) ∷ events.End (sense 5) 0 ∷ events.Run (command 6) ∷ events.End (command 6) 0 ∷ []
 
-queue_run_told : (story queue_run (reverse queue_run_rows)).history ≡ reverse queue_run_events
+queue_run_told : shows queue_run (story queue_run (reverse queue_run_rows)) (reverse queue_run_events) ≡ record { history = reverse queue_run_events; ends = Some (ended_aborted) ∷ Some (ended_aborted) ∷ Some (ended_good ([])) ∷ Some (ended_good (0 ∷ 0 ∷ 2 ∷ 2 ∷ 31 ∷ 0 ∷ 0 ∷ 18 ∷ 66 ∷ 85 ∷ 83 ∷ 77 ∷ 79 ∷ 68 ∷ 69 ∷ 76 ∷ 83 ∷ 73 ∷ 77 ∷ 85 ∷ 76 ∷ 65 ∷ 84 ∷ 69 ∷ 68 ∷ 32 ∷ 68 ∷ 73 ∷ 83 ∷ 75 ∷ 32 ∷ 32 ∷ 48 ∷ 48 ∷ 48 ∷ 49 ∷ [])) ∷ Some (ended_check (Some (record { key = 6; asc = 47; ascq = 0 }))) ∷ Some (ended_good ([])) ∷ []; carried = true }
 unfolding need_of sent_of ones union_below line_of form_out form_in
 queue_run_told = refl
-
-queue_run_outcomes : outcomes queue_run (story queue_run (reverse queue_run_rows)) ≡ Some (ended_aborted) ∷ Some (ended_aborted) ∷ Some (ended_good ([])) ∷ Some (ended_good (0 ∷ 0 ∷ 2 ∷ 2 ∷ 31 ∷ 0 ∷ 0 ∷ 18 ∷ 66 ∷ 85 ∷ 83 ∷ 77 ∷ 79 ∷ 68 ∷ 69 ∷ 76 ∷ 83 ∷ 73 ∷ 77 ∷ 85 ∷ 76 ∷ 65 ∷ 84 ∷ 69 ∷ 68 ∷ 32 ∷ 68 ∷ 73 ∷ 83 ∷ 75 ∷ 32 ∷ 32 ∷ 48 ∷ 48 ∷ 48 ∷ 49 ∷ [])) ∷ Some (ended_check (Some (record { key = 6; asc = 47; ascq = 0 }))) ∷ Some (ended_good ([])) ∷ []
-unfolding need_of sent_of ones union_below line_of form_out form_in
-queue_run_outcomes = refl
-
-queue_run_carried : all_carried queue_run (story queue_run (reverse queue_run_rows)) (reverse queue_run_events) ≡ true
-unfolding need_of sent_of ones union_below line_of form_out form_in
-queue_run_carried = refl
 
 -- ---- range_past_the_last_run
 
@@ -563,17 +454,9 @@ range_past_the_last_run_rows = drive 1200 7 0x00280 ∷ drive 3600 7 0x00680 ∷
 abbrev range_past_the_last_run_events : List Event
 range_past_the_last_run_events = events.Accept (command 1) ∷ events.Run (command 1) ∷ events.End (command 1) 2 ∷ events.Accept (sense 1) ∷ events.Run (sense 1) ∷ events.End (sense 1) 0 ∷ []
 
-range_past_the_last_run_told : (story range_past_the_last_run (reverse range_past_the_last_run_rows)).history ≡ reverse range_past_the_last_run_events
+range_past_the_last_run_told : shows range_past_the_last_run (story range_past_the_last_run (reverse range_past_the_last_run_rows)) (reverse range_past_the_last_run_events) ≡ record { history = reverse range_past_the_last_run_events; ends = Some (ended_check (Some (record { key = 5; asc = 33; ascq = 0 }))) ∷ []; carried = true }
 unfolding need_of sent_of ones union_below line_of form_out form_in
 range_past_the_last_run_told = refl
-
-range_past_the_last_run_outcomes : outcomes range_past_the_last_run (story range_past_the_last_run (reverse range_past_the_last_run_rows)) ≡ Some (ended_check (Some (record { key = 5; asc = 33; ascq = 0 }))) ∷ []
-unfolding need_of sent_of ones union_below line_of form_out form_in
-range_past_the_last_run_outcomes = refl
-
-range_past_the_last_run_carried : all_carried range_past_the_last_run (story range_past_the_last_run (reverse range_past_the_last_run_rows)) (reverse range_past_the_last_run_events) ≡ true
-unfolding need_of sent_of ones union_below line_of form_out form_in
-range_past_the_last_run_carried = refl
 
 -- ---- read_whole_after_a_part_run
 
@@ -596,17 +479,9 @@ read_whole_after_a_part_run_rows = drive 1200 7 0x00280 ∷ drive 3600 7 0x00680
 abbrev read_whole_after_a_part_run_events : List Event
 read_whole_after_a_part_run_events = events.Accept (command 1) ∷ events.Run (command 1) ∷ events.End (command 1) 0 ∷ []
 
-read_whole_after_a_part_run_told : (story read_whole_after_a_part_run (reverse read_whole_after_a_part_run_rows)).history ≡ reverse read_whole_after_a_part_run_events
+read_whole_after_a_part_run_told : shows read_whole_after_a_part_run (story read_whole_after_a_part_run (reverse read_whole_after_a_part_run_rows)) (reverse read_whole_after_a_part_run_events) ≡ record { history = reverse read_whole_after_a_part_run_events; ends = Some (ended_good ([])) ∷ []; carried = true }
 unfolding need_of sent_of ones union_below line_of form_out form_in
 read_whole_after_a_part_run_told = refl
-
-read_whole_after_a_part_run_outcomes : outcomes read_whole_after_a_part_run (story read_whole_after_a_part_run (reverse read_whole_after_a_part_run_rows)) ≡ Some (ended_good ([])) ∷ []
-unfolding need_of sent_of ones union_below line_of form_out form_in
-read_whole_after_a_part_run_outcomes = refl
-
-read_whole_after_a_part_run_carried : all_carried read_whole_after_a_part_run (story read_whole_after_a_part_run (reverse read_whole_after_a_part_run_rows)) (reverse read_whole_after_a_part_run_events) ≡ true
-unfolding need_of sent_of ones union_below line_of form_out form_in
-read_whole_after_a_part_run_carried = refl
 
 -- ---- refusals_run
 
@@ -629,17 +504,9 @@ refusals_run_rows = drive 1200 7 0x00280 ∷ drive 1200 4 0x00210 ∷ drive 1300
 abbrev refusals_run_events : List Event
 refusals_run_events = events.Accept (command 1) ∷ events.Refuse (command 2) ∷ events.End (command 2) 40 ∷ events.Refuse (command 4) ∷ events.End (command 4) 40 ∷ events.Refuse (command 3) ∷ events.End (command 3) 40 ∷ events.Run (command 1) ∷ events.End (command 1) 2 ∷ events.Accept (sense 1) ∷ events.Run (sense 1) ∷ events.End (sense 1) 0 ∷ events.Accept (command 5) ∷ events.Run (command 5) ∷ events.End (command 5) 2 ∷ events.Accept (sense 5) ∷ events.Run (sense 5) ∷ events.End (sense 5) 0 ∷ []
 
-refusals_run_told : (story refusals_run (reverse refusals_run_rows)).history ≡ reverse refusals_run_events
+refusals_run_told : shows refusals_run (story refusals_run (reverse refusals_run_rows)) (reverse refusals_run_events) ≡ record { history = reverse refusals_run_events; ends = Some (ended_check (Some (record { key = 5; asc = 36; ascq = 0 }))) ∷ Some (ended_full) ∷ Some (ended_full) ∷ Some (ended_full) ∷ Some (ended_check (Some (record { key = 5; asc = 36; ascq = 0 }))) ∷ []; carried = true }
 unfolding need_of sent_of ones union_below line_of form_out form_in
 refusals_run_told = refl
-
-refusals_run_outcomes : outcomes refusals_run (story refusals_run (reverse refusals_run_rows)) ≡ Some (ended_check (Some (record { key = 5; asc = 36; ascq = 0 }))) ∷ Some (ended_full) ∷ Some (ended_full) ∷ Some (ended_full) ∷ Some (ended_check (Some (record { key = 5; asc = 36; ascq = 0 }))) ∷ []
-unfolding need_of sent_of ones union_below line_of form_out form_in
-refusals_run_outcomes = refl
-
-refusals_run_carried : all_carried refusals_run (story refusals_run (reverse refusals_run_rows)) (reverse refusals_run_events) ≡ true
-unfolding need_of sent_of ones union_below line_of form_out form_in
-refusals_run_carried = refl
 
 -- ---- reset_run
 
@@ -662,17 +529,9 @@ reset_run_rows = drive 1000 7 0x20000 ∷ drive 26000 7 0x00000 ∷ drive 50000 
 abbrev reset_run_events : List Event
 reset_run_events = events.Reset 7 ∷ events.Accept (command 1) ∷ events.Run (command 1) ∷ events.End (command 1) 2 ∷ events.Accept (sense 1) ∷ events.Run (sense 1) ∷ events.End (sense 1) 0 ∷ events.Accept (command 2) ∷ events.Run (command 2) ∷ events.End (command 2) 0 ∷ events.Accept (command 3) ∷ events.Run (command 3) ∷ events.End (command 3) 0 ∷ []
 
-reset_run_told : (story reset_run (reverse reset_run_rows)).history ≡ reverse reset_run_events
+reset_run_told : shows reset_run (story reset_run (reverse reset_run_rows)) (reverse reset_run_events) ≡ record { history = reverse reset_run_events; ends = Some (ended_check (Some (record { key = 6; asc = 41; ascq = 0 }))) ∷ Some (ended_good ([])) ∷ Some (ended_good (0 ∷ 0 ∷ 0 ∷ 1 ∷ 0 ∷ 0 ∷ 0 ∷ 16 ∷ [])) ∷ []; carried = true }
 unfolding need_of sent_of ones union_below line_of form_out form_in
 reset_run_told = refl
-
-reset_run_outcomes : outcomes reset_run (story reset_run (reverse reset_run_rows)) ≡ Some (ended_check (Some (record { key = 6; asc = 41; ascq = 0 }))) ∷ Some (ended_good ([])) ∷ Some (ended_good (0 ∷ 0 ∷ 0 ∷ 1 ∷ 0 ∷ 0 ∷ 0 ∷ 16 ∷ [])) ∷ []
-unfolding need_of sent_of ones union_below line_of form_out form_in
-reset_run_outcomes = refl
-
-reset_run_carried : all_carried reset_run (story reset_run (reverse reset_run_rows)) (reverse reset_run_events) ≡ true
-unfolding need_of sent_of ones union_below line_of form_out form_in
-reset_run_carried = refl
 
 -- ---- resets_with_queues_run
 
@@ -695,17 +554,9 @@ resets_with_queues_run_rows = drive 1200 5 0x00220 ∷ drive 1200 4 0x00210 ∷ 
 abbrev resets_with_queues_run_events : List Event
 resets_with_queues_run_events = events.Accept (command 2) ∷ events.Refuse (command 3) ∷ events.End (command 3) 40 ∷ events.Refuse (command 1) ∷ events.End (command 1) 40 ∷ events.Reset 5 ∷ events.Aborted 7 1 6 aborts.Device ∷ events.Accept (command 4) ∷ events.Accept (command 5) ∷ events.Aborted 5 1 3 aborts.All ∷ events.Aborted 5 1 6 aborts.WholeQueue ∷ events.Run (command 5) ∷ events.End (command 5) 2 ∷ events.Accept (sense 5) ∷ events.Run (sense 5) ∷ events.End (sense 5) 0 ∷ []
 
-resets_with_queues_run_told : (story resets_with_queues_run (reverse resets_with_queues_run_rows)).history ≡ reverse resets_with_queues_run_events
+resets_with_queues_run_told : shows resets_with_queues_run (story resets_with_queues_run (reverse resets_with_queues_run_rows)) (reverse resets_with_queues_run_events) ≡ record { history = reverse resets_with_queues_run_events; ends = Some (ended_full) ∷ Some (ended_reset) ∷ Some (ended_full) ∷ Some (ended_aborted) ∷ Some (ended_check (Some (record { key = 6; asc = 41; ascq = 0 }))) ∷ []; carried = true }
 unfolding need_of sent_of ones union_below line_of form_out form_in
 resets_with_queues_run_told = refl
-
-resets_with_queues_run_outcomes : outcomes resets_with_queues_run (story resets_with_queues_run (reverse resets_with_queues_run_rows)) ≡ Some (ended_full) ∷ Some (ended_reset) ∷ Some (ended_full) ∷ Some (ended_aborted) ∷ Some (ended_check (Some (record { key = 6; asc = 41; ascq = 0 }))) ∷ []
-unfolding need_of sent_of ones union_below line_of form_out form_in
-resets_with_queues_run_outcomes = refl
-
-resets_with_queues_run_carried : all_carried resets_with_queues_run (story resets_with_queues_run (reverse resets_with_queues_run_rows)) (reverse resets_with_queues_run_events) ≡ true
-unfolding need_of sent_of ones union_below line_of form_out form_in
-resets_with_queues_run_carried = refl
 
 resets_with_queues_run_struck : expected_strikes resets_with_queues_run (reverse resets_with_queues_run_rows) ≡ row_strikes resets_with_queues_run_rows
 unfolding need_of sent_of ones union_below line_of form_out form_in
@@ -732,17 +583,9 @@ sense_cut_run_rows = drive 1200 7 0x00280 ∷ drive 3600 7 0x00680 ∷ drive 480
 abbrev sense_cut_run_events : List Event
 sense_cut_run_events = events.Accept (command 1) ∷ events.Run (command 1) ∷ events.End (command 1) 2 ∷ events.Accept (sense 1) ∷ events.Run (sense 1) ∷ events.Reset 7 ∷ []
 
-sense_cut_run_told : (story sense_cut_run (reverse sense_cut_run_rows)).history ≡ reverse sense_cut_run_events
+sense_cut_run_told : shows sense_cut_run (story sense_cut_run (reverse sense_cut_run_rows)) (reverse sense_cut_run_events) ≡ record { history = reverse sense_cut_run_events; ends = Some (ended_check None) ∷ []; carried = true }
 unfolding need_of sent_of ones union_below line_of form_out form_in
 sense_cut_run_told = refl
-
-sense_cut_run_outcomes : outcomes sense_cut_run (story sense_cut_run (reverse sense_cut_run_rows)) ≡ Some (ended_check None) ∷ []
-unfolding need_of sent_of ones union_below line_of form_out form_in
-sense_cut_run_outcomes = refl
-
-sense_cut_run_carried : all_carried sense_cut_run (story sense_cut_run (reverse sense_cut_run_rows)) (reverse sense_cut_run_events) ≡ true
-unfolding need_of sent_of ones union_below line_of form_out form_in
-sense_cut_run_carried = refl
 
 -- ---- senses_run
 
@@ -765,17 +608,9 @@ senses_run_rows = drive 1200 7 0x00280 ∷ drive 3600 7 0x00680 ∷ drive 4800 7
 abbrev senses_run_events : List Event
 senses_run_events = events.Accept (command 1) ∷ events.Run (command 1) ∷ events.End (command 1) 2 ∷ events.Accept (sense 1) ∷ events.Run (sense 1) ∷ events.End (sense 1) 0 ∷ events.Accept (command 2) ∷ events.Run (command 2) ∷ events.End (command 2) 0 ∷ events.Accept (command 3) ∷ events.Run (command 3) ∷ events.End (command 3) 0 ∷ events.Accept (command 4) ∷ events.Run (command 4) ∷ events.End (command 4) 0 ∷ events.Accept (command 5) ∷ events.Run (command 5) ∷ events.End (command 5) 2 ∷ events.Accept (sense 5) ∷ events.Run (sense 5) ∷ events.End (sense 5) 0 ∷ events.Accept (command 6) ∷ events.Run (command 6) ∷ events.End (command 6) 2 ∷ events.Accept (sense 6) ∷ events.Run (sense 6) ∷ events.End (sense 6) 0 ∷ []
 
-senses_run_told : (story senses_run (reverse senses_run_rows)).history ≡ reverse senses_run_events
+senses_run_told : shows senses_run (story senses_run (reverse senses_run_rows)) (reverse senses_run_events) ≡ record { history = reverse senses_run_events; ends = Some (ended_check (Some (record { key = 5; asc = 33; ascq = 0 }))) ∷ Some (ended_good (112 ∷ 0 ∷ 0 ∷ 0 ∷ 0 ∷ 0 ∷ 0 ∷ 10 ∷ 0 ∷ 0 ∷ 0 ∷ 0 ∷ 0 ∷ 0 ∷ 0 ∷ 0 ∷ 0 ∷ 0 ∷ [])) ∷ Some (ended_good ([])) ∷ Some (ended_good (0 ∷ 0 ∷ 0 ∷ 0 ∷ 0 ∷ 0 ∷ 0 ∷ 0 ∷ 0 ∷ 0 ∷ 0 ∷ 0 ∷ 0 ∷ 0 ∷ 0 ∷ 0 ∷ 160 ∷ 161 ∷ 162 ∷ 163 ∷ 164 ∷ 165 ∷ 166 ∷ 167 ∷ 168 ∷ 169 ∷ 170 ∷ 171 ∷ 172 ∷ 173 ∷ 174 ∷ 175 ∷ 176 ∷ 177 ∷ 178 ∷ 179 ∷ 180 ∷ 181 ∷ 182 ∷ 183 ∷ 184 ∷ 185 ∷ 186 ∷ 187 ∷ 188 ∷ 189 ∷ 190 ∷ 191 ∷ [])) ∷ Some (ended_check (Some (record { key = 5; asc = 32; ascq = 0 }))) ∷ Some (ended_check (Some (record { key = 5; asc = 33; ascq = 0 }))) ∷ []; carried = true }
 unfolding need_of sent_of ones union_below line_of form_out form_in
 senses_run_told = refl
-
-senses_run_outcomes : outcomes senses_run (story senses_run (reverse senses_run_rows)) ≡ Some (ended_check (Some (record { key = 5; asc = 33; ascq = 0 }))) ∷ Some (ended_good (112 ∷ 0 ∷ 0 ∷ 0 ∷ 0 ∷ 0 ∷ 0 ∷ 10 ∷ 0 ∷ 0 ∷ 0 ∷ 0 ∷ 0 ∷ 0 ∷ 0 ∷ 0 ∷ 0 ∷ 0 ∷ [])) ∷ Some (ended_good ([])) ∷ Some (ended_good (0 ∷ 0 ∷ 0 ∷ 0 ∷ 0 ∷ 0 ∷ 0 ∷ 0 ∷ 0 ∷ 0 ∷ 0 ∷ 0 ∷ 0 ∷ 0 ∷ 0 ∷ 0 ∷ 160 ∷ 161 ∷ 162 ∷ 163 ∷ 164 ∷ 165 ∷ 166 ∷ 167 ∷ 168 ∷ 169 ∷ 170 ∷ 171 ∷ 172 ∷ 173 ∷ 174 ∷ 175 ∷ 176 ∷ 177 ∷ 178 ∷ 179 ∷ 180 ∷ 181 ∷ 182 ∷ 183 ∷ 184 ∷ 185 ∷ 186 ∷ 187 ∷ 188 ∷ 189 ∷ 190 ∷ 191 ∷ [])) ∷ Some (ended_check (Some (record { key = 5; asc = 32; ascq = 0 }))) ∷ Some (ended_check (Some (record { key = 5; asc = 33; ascq = 0 }))) ∷ []
-unfolding need_of sent_of ones union_below line_of form_out form_in
-senses_run_outcomes = refl
-
-senses_run_carried : all_carried senses_run (story senses_run (reverse senses_run_rows)) (reverse senses_run_events) ≡ true
-unfolding need_of sent_of ones union_below line_of form_out form_in
-senses_run_carried = refl
 
 -- ---- struck_command_run
 
@@ -798,17 +633,9 @@ struck_command_run_rows = drive 60532 6 0x00240 ∷ drive 62993 6 0x00640 ∷ dr
 abbrev struck_command_run_events : List Event
 struck_command_run_events = events.Fail (command 1) 71 ∷ events.End (command 1) 2 ∷ events.Accept (sense 1) ∷ events.Run (sense 1) ∷ events.End (sense 1) 0 ∷ events.Accept (command 2) ∷ events.Reset 5 ∷ []
 
-struck_command_run_told : (story struck_command_run (reverse struck_command_run_rows)).history ≡ reverse struck_command_run_events
+struck_command_run_told : shows struck_command_run (story struck_command_run (reverse struck_command_run_rows)) (reverse struck_command_run_events) ≡ record { history = reverse struck_command_run_events; ends = Some (ended_check (Some (record { key = 11; asc = 71; ascq = 0 }))) ∷ Some (ended_reset) ∷ []; carried = true }
 unfolding need_of sent_of ones union_below line_of form_out form_in
 struck_command_run_told = refl
-
-struck_command_run_outcomes : outcomes struck_command_run (story struck_command_run (reverse struck_command_run_rows)) ≡ Some (ended_check (Some (record { key = 11; asc = 71; ascq = 0 }))) ∷ Some (ended_reset) ∷ []
-unfolding need_of sent_of ones union_below line_of form_out form_in
-struck_command_run_outcomes = refl
-
-struck_command_run_carried : all_carried struck_command_run (story struck_command_run (reverse struck_command_run_rows)) (reverse struck_command_run_events) ≡ true
-unfolding need_of sent_of ones union_below line_of form_out form_in
-struck_command_run_carried = refl
 
 struck_command_run_struck : expected_strikes struck_command_run (reverse struck_command_run_rows) ≡ row_strikes struck_command_run_rows
 unfolding need_of sent_of ones union_below line_of form_out form_in
@@ -835,17 +662,9 @@ struck_complete_run_rows = drive 1200 7 0x00280 ∷ drive 3600 7 0x00680 ∷ dri
 abbrev struck_complete_run_events : List Event
 struck_complete_run_events = events.Accept (command 1) ∷ events.Run (command 1) ∷ events.End (command 1) 0 ∷ []
 
-struck_complete_run_told : (story struck_complete_run (reverse struck_complete_run_rows)).history ≡ reverse struck_complete_run_events
+struck_complete_run_told : shows struck_complete_run (story struck_complete_run (reverse struck_complete_run_rows)) (reverse struck_complete_run_events) ≡ record { history = reverse struck_complete_run_events; ends = Some (ended_good (0 ∷ 1 ∷ 2 ∷ 3 ∷ 4 ∷ 5 ∷ 6 ∷ 7 ∷ 8 ∷ 9 ∷ 10 ∷ 11 ∷ 12 ∷ 13 ∷ 14 ∷ 15 ∷ [])) ∷ []; carried = true }
 unfolding need_of sent_of ones union_below line_of form_out form_in
 struck_complete_run_told = refl
-
-struck_complete_run_outcomes : outcomes struck_complete_run (story struck_complete_run (reverse struck_complete_run_rows)) ≡ Some (ended_good (0 ∷ 1 ∷ 2 ∷ 3 ∷ 4 ∷ 5 ∷ 6 ∷ 7 ∷ 8 ∷ 9 ∷ 10 ∷ 11 ∷ 12 ∷ 13 ∷ 14 ∷ 15 ∷ [])) ∷ []
-unfolding need_of sent_of ones union_below line_of form_out form_in
-struck_complete_run_outcomes = refl
-
-struck_complete_run_carried : all_carried struck_complete_run (story struck_complete_run (reverse struck_complete_run_rows)) (reverse struck_complete_run_events) ≡ true
-unfolding need_of sent_of ones union_below line_of form_out form_in
-struck_complete_run_carried = refl
 
 struck_complete_run_struck : expected_strikes struck_complete_run (reverse struck_complete_run_rows) ≡ row_strikes struck_complete_run_rows
 unfolding need_of sent_of ones union_below line_of form_out form_in
@@ -872,17 +691,9 @@ struck_data_run_rows = drive 1200 7 0x00280 ∷ drive 3600 7 0x00680 ∷ drive 4
 abbrev struck_data_run_events : List Event
 struck_data_run_events = events.Accept (command 1) ∷ events.Run (command 1) ∷ events.End (command 1) 0 ∷ []
 
-struck_data_run_told : (story struck_data_run (reverse struck_data_run_rows)).history ≡ reverse struck_data_run_events
+struck_data_run_told : shows struck_data_run (story struck_data_run (reverse struck_data_run_rows)) (reverse struck_data_run_events) ≡ record { history = reverse struck_data_run_events; ends = Some (ended_good (0 ∷ 1 ∷ 2 ∷ 3 ∷ 4 ∷ 5 ∷ 6 ∷ 7 ∷ 8 ∷ 9 ∷ 10 ∷ 11 ∷ 12 ∷ 13 ∷ 14 ∷ 15 ∷ [])) ∷ []; carried = true }
 unfolding need_of sent_of ones union_below line_of form_out form_in
 struck_data_run_told = refl
-
-struck_data_run_outcomes : outcomes struck_data_run (story struck_data_run (reverse struck_data_run_rows)) ≡ Some (ended_good (0 ∷ 1 ∷ 2 ∷ 3 ∷ 4 ∷ 5 ∷ 6 ∷ 7 ∷ 8 ∷ 9 ∷ 10 ∷ 11 ∷ 12 ∷ 13 ∷ 14 ∷ 15 ∷ [])) ∷ []
-unfolding need_of sent_of ones union_below line_of form_out form_in
-struck_data_run_outcomes = refl
-
-struck_data_run_carried : all_carried struck_data_run (story struck_data_run (reverse struck_data_run_rows)) (reverse struck_data_run_events) ≡ true
-unfolding need_of sent_of ones union_below line_of form_out form_in
-struck_data_run_carried = refl
 
 struck_data_run_struck : expected_strikes struck_data_run (reverse struck_data_run_rows) ≡ row_strikes struck_data_run_rows
 unfolding need_of sent_of ones union_below line_of form_out form_in
@@ -909,17 +720,9 @@ struck_disconnect_run_rows = drive 1200 7 0x00280 ∷ drive 3600 7 0x00680 ∷ d
 abbrev struck_disconnect_run_events : List Event
 struck_disconnect_run_events = events.Accept (command 1) ∷ events.Lost (command 1) ∷ []
 
-struck_disconnect_run_told : (story struck_disconnect_run (reverse struck_disconnect_run_rows)).history ≡ reverse struck_disconnect_run_events
+struck_disconnect_run_told : shows struck_disconnect_run (story struck_disconnect_run (reverse struck_disconnect_run_rows)) (reverse struck_disconnect_run_events) ≡ record { history = reverse struck_disconnect_run_events; ends = Some (ended_lost) ∷ []; carried = true }
 unfolding need_of sent_of ones union_below line_of form_out form_in
 struck_disconnect_run_told = refl
-
-struck_disconnect_run_outcomes : outcomes struck_disconnect_run (story struck_disconnect_run (reverse struck_disconnect_run_rows)) ≡ Some (ended_lost) ∷ []
-unfolding need_of sent_of ones union_below line_of form_out form_in
-struck_disconnect_run_outcomes = refl
-
-struck_disconnect_run_carried : all_carried struck_disconnect_run (story struck_disconnect_run (reverse struck_disconnect_run_rows)) (reverse struck_disconnect_run_events) ≡ true
-unfolding need_of sent_of ones union_below line_of form_out form_in
-struck_disconnect_run_carried = refl
 
 struck_disconnect_run_struck : expected_strikes struck_disconnect_run (reverse struck_disconnect_run_rows) ≡ row_strikes struck_disconnect_run_rows
 unfolding need_of sent_of ones union_below line_of form_out form_in
@@ -946,17 +749,9 @@ struck_save_run_rows = drive 1200 7 0x00280 ∷ drive 3600 7 0x00680 ∷ drive 4
 abbrev struck_save_run_events : List Event
 struck_save_run_events = events.Accept (command 1) ∷ events.Run (command 1) ∷ events.End (command 1) 0 ∷ []
 
-struck_save_run_told : (story struck_save_run (reverse struck_save_run_rows)).history ≡ reverse struck_save_run_events
+struck_save_run_told : shows struck_save_run (story struck_save_run (reverse struck_save_run_rows)) (reverse struck_save_run_events) ≡ record { history = reverse struck_save_run_events; ends = Some (ended_good ([])) ∷ []; carried = true }
 unfolding need_of sent_of ones union_below line_of form_out form_in
 struck_save_run_told = refl
-
-struck_save_run_outcomes : outcomes struck_save_run (story struck_save_run (reverse struck_save_run_rows)) ≡ Some (ended_good ([])) ∷ []
-unfolding need_of sent_of ones union_below line_of form_out form_in
-struck_save_run_outcomes = refl
-
-struck_save_run_carried : all_carried struck_save_run (story struck_save_run (reverse struck_save_run_rows)) (reverse struck_save_run_events) ≡ true
-unfolding need_of sent_of ones union_below line_of form_out form_in
-struck_save_run_carried = refl
 
 struck_save_run_struck : expected_strikes struck_save_run (reverse struck_save_run_rows) ≡ row_strikes struck_save_run_rows
 unfolding need_of sent_of ones union_below line_of form_out form_in
@@ -983,17 +778,9 @@ two_aborts_run_rows = drive 89108 3 0x00208 ∷ drive 91508 3 0x00608 ∷ drive 
 abbrev two_aborts_run_events : List Event
 two_aborts_run_events = events.Accept (command 1) ∷ events.Run (command 1) ∷ events.End (command 1) 2 ∷ events.Aborted 3 1 2 (aborts.Tag 2) ∷ events.Aborted 3 4 7 aborts.Device ∷ events.Accept (sense 1) ∷ events.Run (sense 1) ∷ events.End (sense 1) 0 ∷ []
 
-two_aborts_run_told : (story two_aborts_run (reverse two_aborts_run_rows)).history ≡ reverse two_aborts_run_events
+two_aborts_run_told : shows two_aborts_run (story two_aborts_run (reverse two_aborts_run_rows)) (reverse two_aborts_run_events) ≡ record { history = reverse two_aborts_run_events; ends = Some (ended_check (Some (record { key = 5; asc = 33; ascq = 0 }))) ∷ []; carried = true }
 unfolding need_of sent_of ones union_below line_of form_out form_in
 two_aborts_run_told = refl
-
-two_aborts_run_outcomes : outcomes two_aborts_run (story two_aborts_run (reverse two_aborts_run_rows)) ≡ Some (ended_check (Some (record { key = 5; asc = 33; ascq = 0 }))) ∷ []
-unfolding need_of sent_of ones union_below line_of form_out form_in
-two_aborts_run_outcomes = refl
-
-two_aborts_run_carried : all_carried two_aborts_run (story two_aborts_run (reverse two_aborts_run_rows)) (reverse two_aborts_run_events) ≡ true
-unfolding need_of sent_of ones union_below line_of form_out form_in
-two_aborts_run_carried = refl
 
 two_aborts_run_struck : expected_strikes two_aborts_run (reverse two_aborts_run_rows) ≡ row_strikes two_aborts_run_rows
 unfolding need_of sent_of ones union_below line_of form_out form_in
@@ -1020,17 +807,9 @@ unanswered_by_struck_ids_run_rows = drive 1200 7 0x00280 ∷ drive 3600 7 0x0068
 abbrev unanswered_by_struck_ids_run_events : List Event
 unanswered_by_struck_ids_run_events = events.Accept (command 1) ∷ events.Run (command 1) ∷ events.End (command 1) 0 ∷ []
 
-unanswered_by_struck_ids_run_told : (story unanswered_by_struck_ids_run (reverse unanswered_by_struck_ids_run_rows)).history ≡ reverse unanswered_by_struck_ids_run_events
+unanswered_by_struck_ids_run_told : shows unanswered_by_struck_ids_run (story unanswered_by_struck_ids_run (reverse unanswered_by_struck_ids_run_rows)) (reverse unanswered_by_struck_ids_run_events) ≡ record { history = reverse unanswered_by_struck_ids_run_events; ends = Some (ended_good (0 ∷ 1 ∷ 2 ∷ 3 ∷ 4 ∷ 5 ∷ 6 ∷ 7 ∷ 8 ∷ 9 ∷ 10 ∷ 11 ∷ 12 ∷ 13 ∷ 14 ∷ 15 ∷ [])) ∷ []; carried = true }
 unfolding need_of sent_of ones union_below line_of form_out form_in
 unanswered_by_struck_ids_run_told = refl
-
-unanswered_by_struck_ids_run_outcomes : outcomes unanswered_by_struck_ids_run (story unanswered_by_struck_ids_run (reverse unanswered_by_struck_ids_run_rows)) ≡ Some (ended_good (0 ∷ 1 ∷ 2 ∷ 3 ∷ 4 ∷ 5 ∷ 6 ∷ 7 ∷ 8 ∷ 9 ∷ 10 ∷ 11 ∷ 12 ∷ 13 ∷ 14 ∷ 15 ∷ [])) ∷ []
-unfolding need_of sent_of ones union_below line_of form_out form_in
-unanswered_by_struck_ids_run_outcomes = refl
-
-unanswered_by_struck_ids_run_carried : all_carried unanswered_by_struck_ids_run (story unanswered_by_struck_ids_run (reverse unanswered_by_struck_ids_run_rows)) (reverse unanswered_by_struck_ids_run_events) ≡ true
-unfolding need_of sent_of ones union_below line_of form_out form_in
-unanswered_by_struck_ids_run_carried = refl
 
 unanswered_by_struck_ids_run_struck : expected_strikes unanswered_by_struck_ids_run (reverse unanswered_by_struck_ids_run_rows) ≡ row_strikes unanswered_by_struck_ids_run_rows
 unfolding need_of sent_of ones union_below line_of form_out form_in
@@ -1057,14 +836,6 @@ write_in_bursts_run_rows = drive 1200 7 0x00280 ∷ drive 3600 7 0x00680 ∷ dri
 abbrev write_in_bursts_run_events : List Event
 write_in_bursts_run_events = events.Accept (command 1) ∷ events.Run (command 1) ∷ events.End (command 1) 0 ∷ []
 
-write_in_bursts_run_told : (story write_in_bursts_run (reverse write_in_bursts_run_rows)).history ≡ reverse write_in_bursts_run_events
+write_in_bursts_run_told : shows write_in_bursts_run (story write_in_bursts_run (reverse write_in_bursts_run_rows)) (reverse write_in_bursts_run_events) ≡ record { history = reverse write_in_bursts_run_events; ends = Some (ended_good ([])) ∷ []; carried = true }
 unfolding need_of sent_of ones union_below line_of form_out form_in
 write_in_bursts_run_told = refl
-
-write_in_bursts_run_outcomes : outcomes write_in_bursts_run (story write_in_bursts_run (reverse write_in_bursts_run_rows)) ≡ Some (ended_good ([])) ∷ []
-unfolding need_of sent_of ones union_below line_of form_out form_in
-write_in_bursts_run_outcomes = refl
-
-write_in_bursts_run_carried : all_carried write_in_bursts_run (story write_in_bursts_run (reverse write_in_bursts_run_rows)) (reverse write_in_bursts_run_events) ≡ true
-unfolding need_of sent_of ones union_below line_of form_out form_in
-write_in_bursts_run_carried = refl

@@ -115,9 +115,9 @@ fn follows(rt: &impl Abort, host: &mut Host, rows: &[Row], ends: usize) {
             ended = ended.saturating_add(1);
         }
     }
-    assert_eq!(rt; ended, ends);
+    assert!(rt; ended == ends);
     assert!(rt; host.due(&observer_of(rows), None).is_none());
-    assert_eq!(rt; host.process().command, 0);
+    assert!(rt; host.process().command == 0);
     assert!(rt; host.aborts_done());
 }
 
@@ -140,7 +140,7 @@ fn reads(rt: &impl Abort, alloc: Global, whole: Whole, blocks: &[[u8; 16]]) {
     let mut number = 1u16;
     for block in blocks {
         let outcome = host.take_outcome(alloc, number);
-        assert!(rt; is_good(&outcome, block.as_slice()), "{outcome:?}");
+        assert!(rt; is_good(&outcome, block.as_slice()), "command {number}");
         number = number.saturating_add(1);
     }
 }

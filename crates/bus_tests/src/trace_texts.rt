@@ -21,13 +21,13 @@ fn prints_rows(rt: HostRuntime) -> Result<(), Fail> {
         dev: 7,
         kind: Kind::Drives(Lines::from_bits_retain(0x1_0781)),
     };
-    assert_eq!(rt; print_row(&driven).as_str(), "4800 7 10781\n");
+    assert!(rt; print_row(&driven).as_str() == "4800 7 10781\n");
     let fault = Row {
         time: 7055,
         dev: 0,
         kind: Kind::Fault(8),
     };
-    assert_eq!(rt; print_row(&fault).as_str(), "7055 0 f8\n");
+    assert!(rt; print_row(&fault).as_str() == "7055 0 f8\n");
     Ok(())
 }
 
@@ -77,7 +77,7 @@ fn told(alloc: Global, text: &[u8]) -> Result<(usize, u64), u32> {
 #[test]
 fn reads_traces(rt: HostRuntime) {
     for (text, want) in TEXTS {
-        assert_eq!(rt; told(rt.alloc(), text.as_bytes()), want, "{text}");
+        assert!(rt; told(rt.alloc(), text.as_bytes()) == want, "{text}");
     }
 }
 
@@ -102,10 +102,10 @@ fn takes_pieces(rt: HostRuntime) {
             Told::RowRead(row) => Some((row.time, row.dev)),
             Told::Quiet | Told::Bad(_) => None,
         };
-        assert_eq!(rt; len, want_len, "{piece}");
-        assert_eq!(rt; row, want, "{piece}");
+        assert!(rt; len == want_len, "{piece}");
+        assert!(rt; row == want, "{piece}");
     }
-    assert_eq!(rt; reader.finish(), Err(5));
+    assert!(rt; reader.finish() == Err(5));
 }
 
 const SCENARIO: &str = "scsi 1
@@ -184,21 +184,19 @@ fn prints_reports(rt: HostRuntime) -> Result<(), NoMemory> {
     // Calls are numbered from 1, and each but the last takes `most` bytes.
     for most in [1usize, 3, 64] {
         let mut sink = MemSink::new(rt.alloc(), 4096, most, &[])?;
-        assert_eq!(rt; report(&scenario, &run, &mut sink), Ok(()));
-        assert_eq!(rt;
-            sink.bytes(),
-            REPORT.as_bytes(),
+        assert!(rt; report(&scenario, &run, &mut sink) == Ok(()));
+        assert!(rt;
+            sink.bytes() == REPORT.as_bytes(),
             "at most {most} bytes a call"
         );
         for call in 1..=REPORT.len().div_ceil(most) {
             let mut sink = MemSink::new(rt.alloc(), 4096, most, &[call as u64])?;
-            assert_eq!(rt;
-                report(&scenario, &run, &mut sink),
-                Err(Failed),
+            assert!(rt;
+                report(&scenario, &run, &mut sink) == Err(Failed),
                 "call {call}"
             );
             let taken = sink.bytes();
-            assert_eq!(rt; taken.len(), (call - 1) * most, "call {call}");
+            assert!(rt; taken.len() == (call - 1) * most, "call {call}");
             assert!(rt; REPORT.as_bytes().starts_with(taken), "call {call}");
         }
     }
@@ -212,9 +210,9 @@ const SHORT_REPORT: &str =
 fn prints_short_reports(rt: HostRuntime) -> Result<(), NoMemory> {
     let run = sample_run(rt.alloc())?;
     let mut sink = MemSink::new(rt.alloc(), 4096, 3, &[])?;
-    assert_eq!(rt; short_report(&run, &mut sink), Ok(()));
-    assert_eq!(rt; sink.bytes(), SHORT_REPORT.as_bytes());
+    assert!(rt; short_report(&run, &mut sink) == Ok(()));
+    assert!(rt; sink.bytes() == SHORT_REPORT.as_bytes());
     let mut sink = MemSink::new(rt.alloc(), 4096, 3, &[2])?;
-    assert_eq!(rt; short_report(&run, &mut sink), Err(Failed));
+    assert!(rt; short_report(&run, &mut sink) == Err(Failed));
     Ok(())
 }

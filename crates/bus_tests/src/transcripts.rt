@@ -100,6 +100,6 @@ fn fails_with_the_sink(rt: HostRuntime) -> Result<(), NoMemory> {
 #[test]
 fn sees_no_row(rt: HostRuntime) -> Result<(), NoMemory> {
     let transcript = Transcriber::new(rt.alloc()).finish()?;
-    assert_eq!(rt; transcript.items.len(), 0);
+    assert!(rt; transcript.items.len() == 0);
     Ok(())
 }

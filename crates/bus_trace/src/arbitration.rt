@@ -8,7 +8,7 @@ use crate::rows::Row;
 use bus_base::Ns;
 
 /// An arbitration that stands.
-#[derive(Clone, Copy, Debug)]
+#[derive(Clone, Copy)]
 pub struct Arbitration {
     /// Since when the bus had been free before it, in ns.
     pub free: Ns,

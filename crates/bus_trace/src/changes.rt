@@ -5,7 +5,7 @@ ghost use Rattle.bus_trace.specs.Changes.{rises, falls, is_within, raises_none, 
 use crate::line_set::Lines;
 
 /// What a row changes, on the bus and at its device.
-#[derive(Clone, Copy, Debug)]
+#[derive(Clone, Copy)]
 pub struct Change {
     /// What is on the bus before the row.
     pub before: Lines,

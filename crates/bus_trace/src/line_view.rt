@@ -15,7 +15,7 @@ use std::marker::Model;
 
 /// What each device drives and what is on the bus after the rows of a trace so far, and since when each
 /// line has stood as it does.
-#[derive(Debug, Drop)]
+#[derive(Drop)]
 pub struct LineView {
     driven: [Lines; 8],
     present: Lines,

@@ -14,7 +14,7 @@ use std::collections::VecDeque;
 use std::marker::Model;
 
 /// The items so far, and what a connection has carried of its process.
-#[derive(Debug, Drop)]
+#[derive(Drop)]
 pub(crate) struct Account {
     process: Process,
     /// The active data pointer.

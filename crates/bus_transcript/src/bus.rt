@@ -19,7 +19,7 @@ use std::marker::Model;
 
 /// What a row does: what it changes, the connection after it, whether a byte crosses, and the message that it makes
 /// whole.
-#[derive(Debug, Drop)]
+#[derive(Drop)]
 pub(crate) struct Reading {
     pub(crate) change: Change,
     pub(crate) next: Option<Connection>,
@@ -43,7 +43,7 @@ impl Model for Reading {
 }
 
 /// The bus after some rows, and the messages on it, but for what they agree on.
-#[derive(Debug, Drop)]
+#[derive(Drop)]
 pub(crate) struct Bus {
     driven: [Lines; 8],
     lines: Lines,

@@ -3,7 +3,7 @@ use bus_base::{AbortKind, Dev, Ns, Octets};
 use msg_grammar::{MsgIn, MsgOut};
 
 /// The name of a process: its nexus, and how many of that nexus have begun.
-#[derive(Clone, Copy, Debug)]
+#[derive(Clone, Copy)]
 pub struct Name {
     /// Its initiator.
     pub initiator: Dev,
@@ -19,7 +19,7 @@ pub struct Name {
 }
 
 /// What some rows of a trace show together. Times are in ns.
-#[derive(Debug, Drop)]
+#[derive(Drop)]
 pub enum Item {
     /// A connection has begun, by selection or again by reselection (ANSI X3.131-1994, 6.1.3 and 6.1.4).
     Connect { at: Ns, name: Name, again: bool },
@@ -53,7 +53,7 @@ pub enum Item {
 }
 
 /// What the rows of a trace show, in order.
-#[derive(Debug, Drop)]
+#[derive(Drop)]
 pub struct Transcript {
     pub items: Vec<Item>,
 }

@@ -20,7 +20,7 @@ use std::collections::VecDeque;
 use std::marker::Model;
 
 /// The connection that stands.
-#[derive(Debug, Drop)]
+#[derive(Drop)]
 pub(crate) struct Opened {
     connection: Connection,
     /// The parts that are settled.

@@ -3,7 +3,7 @@ use bus_base::Octets;
 use msg_grammar::{MsgIn, MsgOut};
 
 /// A message to the initiator.
-#[derive(Clone, Copy, Debug)]
+#[derive(Clone, Copy)]
 pub enum Incoming {
     /// It came whole.
     Whole(MsgIn),
@@ -12,7 +12,7 @@ pub enum Incoming {
 }
 
 /// A part of what a connection carries, before its process is known.
-#[derive(Debug, Drop)]
+#[derive(Drop)]
 pub enum Part {
     /// A message to the target.
     Out(MsgOut),

@@ -9,7 +9,7 @@ use msg_grammar::{MsgIn, MsgOut};
 use std::collections::VecDeque;
 
 /// What it means that the target goes to BUS FREE.
-#[derive(Clone, Copy, Debug)]
+#[derive(Clone, Copy)]
 pub enum Departure {
     /// The process is lost.
     Loss,
@@ -20,7 +20,7 @@ pub enum Departure {
 }
 
 /// What the messages of a connection so far say of it.
-#[derive(Clone, Copy, Debug)]
+#[derive(Clone, Copy)]
 pub struct Summary {
     /// The unit that was named.
     pub unit: Option<u8>,

@@ -10,7 +10,7 @@ use bus_trace::Lines;
 use std::marker::Model;
 
 /// What a device knows of itself, and what it wants of the bus.
-#[derive(Debug, Drop)]
+#[derive(Drop)]
 pub struct Device {
     me: Myself,
     want: Want,

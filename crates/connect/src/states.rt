@@ -13,44 +13,44 @@ use bus_trace::{Lines, ScsiId};
 
 /// It wants nothing, and has no part in a call or a connection. It drives nothing, but what it has still to release
 /// where RST cut its connection.
-#[derive(Debug, Drop)]
+#[derive(Drop)]
 pub struct Idle {
     pub(crate) device: Device,
 }
 
 /// It wants the bus, and drives nothing.
-#[derive(Debug, Drop)]
+#[derive(Drop)]
 pub struct Waiting {
     pub(crate) device: Device,
 }
 
 /// It drives BSY and its ID since its entry into the arbitration (6.1.2).
-#[derive(Debug, Drop)]
+#[derive(Drop)]
 pub struct Contending {
     pub(crate) device: Device,
 }
 
 /// It has won, and drives SEL too, since then (6.1.2).
-#[derive(Debug, Drop)]
+#[derive(Drop)]
 pub struct Won {
     pub(crate) device: Device,
 }
 
 /// It calls another device: it drives SEL with both IDs, or SEL without them once it has withdrawn, and of BSY, ATN
 /// and I/O what its last row says, since then (6.1.3, 6.1.4).
-#[derive(Debug, Drop)]
+#[derive(Drop)]
 pub struct Calling {
     pub(crate) device: Device,
 }
 
 /// It has answered, and drives BSY since then (6.1.3, 6.1.4).
-#[derive(Debug, Drop)]
+#[derive(Drop)]
 pub struct Answering {
     pub(crate) device: Device,
 }
 
 /// It is an end of the connection that stands, and drives what the rows say (6.1.5).
-#[derive(Debug, Drop)]
+#[derive(Drop)]
 pub struct Linked {
     pub(crate) device: Device,
     pub(crate) peer: ScsiId,
@@ -58,7 +58,7 @@ pub struct Linked {
 }
 
 /// Where a device stands on its way to a connection.
-#[derive(Debug, Drop)]
+#[derive(Drop)]
 pub enum Link {
     /// It wants nothing.
     Idle(Idle),
@@ -77,7 +77,7 @@ pub enum Link {
 }
 
 /// What a step of a device does.
-#[derive(Debug, Drop)]
+#[derive(Drop)]
 pub struct Step<N> {
     /// The state afterwards.
     pub next: N,

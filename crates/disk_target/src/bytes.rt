@@ -22,7 +22,7 @@ use target_course::{Course, DataBytes, Serving, phase_of};
 use target_units::Ready;
 
 /// What a target decides by in a connection of its own, with the bytes that its process gives.
-#[derive(Clone, Copy, Debug)]
+#[derive(Clone, Copy)]
 pub struct Decision {
     /// What it decides by.
     pub serving: Serving,

@@ -31,7 +31,7 @@ use target_units::Units;
 
 /// What a target decides by in a connection of its own with an initiator, as long as neither its units nor what it has
 /// heard of the process change.
-#[derive(Clone, Copy, Debug)]
+#[derive(Clone, Copy)]
 pub struct Known {
     /// The unit of the process, once it is named; 0 before.
     pub unit: u8,

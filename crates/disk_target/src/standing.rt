@@ -3,7 +3,7 @@ use bus_base::{Class, Dev, ProcId};
 use disk_unit::Reply;
 
 /// What the process of a connection is to its target.
-#[derive(Clone, Copy, Debug)]
+#[derive(Clone, Copy)]
 pub enum Standing {
     /// It has not arrived at its unit, or was lost there, or has ended.
     Nowhere,
@@ -14,7 +14,7 @@ pub enum Standing {
 }
 
 /// A process, as its target knows it.
-#[derive(Clone, Copy, Debug)]
+#[derive(Clone, Copy)]
 pub struct Served<'a> {
     /// Its logical unit.
     pub unit: u8,

@@ -47,7 +47,7 @@ use target_course::{
 /// What a target has of a connection of its own before a row: as which process it is known there, its unit and its
 /// initiator, whether an abort was heard, how the phase that stands is left, where the next byte of its data stands,
 /// how its command would end, and what the target shows with the row.
-#[derive(Clone, Copy, Debug)]
+#[derive(Clone, Copy)]
 pub struct Turn {
     /// The process, as it is named in events.
     pub process: Option<ProcId>,
@@ -70,7 +70,7 @@ pub struct Turn {
 }
 
 /// The byte of DATA OUT that comes next in a connection of its own.
-#[derive(Clone, Copy, Debug)]
+#[derive(Clone, Copy)]
 pub struct Sent {
     /// The process that sends it, as it is named in events.
     pub process: Option<ProcId>,
@@ -242,7 +242,7 @@ fn see_served(
 }
 
 /// An abort at a unit of a target.
-#[derive(Clone, Copy, Debug)]
+#[derive(Clone, Copy)]
 pub struct Abort {
     /// The unit.
     pub unit: u8,

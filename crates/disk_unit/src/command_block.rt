@@ -2,7 +2,7 @@
 ghost use Rattle.std.specs.Prelude.{◌≡◌, ◌≤◌, take, length, []};
 
 /// A command descriptor block of at most ten bytes (ANSI X3.131-1994, 7.2).
-#[derive(Clone, Copy, Debug)]
+#[derive(Clone, Copy)]
 pub struct CommandBlock {
     bytes: [u8; 10],
     len: usize,

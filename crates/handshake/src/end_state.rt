@@ -15,7 +15,7 @@ use bus_trace::{
 };
 
 /// What an end of a connection keeps from step to step in a phase.
-#[derive(Clone, Copy, Debug)]
+#[derive(Clone, Copy)]
 pub struct EndState {
     /// How bytes cross.
     pub pace: Pace,

@@ -15,7 +15,7 @@ pub struct Crossed {
 }
 
 /// What a step of one end tells, and how it goes on.
-#[derive(Clone, Copy, Debug)]
+#[derive(Clone, Copy)]
 pub struct Hand<N> {
     /// The end after the step.
     pub next: N,

@@ -16,7 +16,7 @@ use std::marker::Model;
 
 /// The initiator in a phase in which it sends bytes (6.1.5): MESSAGE OUT, COMMAND or DATA OUT. After a DATA OUT phase
 /// by pulses it also owes the release of the last byte.
-#[derive(Clone, Copy, Debug)]
+#[derive(Clone, Copy)]
 pub struct HostSend {
     state: EndState,
 }
@@ -76,7 +76,7 @@ impl HostSend {
 }
 
 /// The initiator in a phase in which it takes bytes (6.1.5): DATA IN, STATUS or MESSAGE IN.
-#[derive(Clone, Copy, Debug)]
+#[derive(Clone, Copy)]
 pub struct HostTake {
     state: EndState,
 }

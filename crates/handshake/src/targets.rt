@@ -15,7 +15,7 @@ use bus_trace::Agreement;
 use std::marker::Model;
 
 /// The target in a phase in which it sends bytes (6.1.5): DATA IN, STATUS or MESSAGE IN.
-#[derive(Clone, Copy, Debug)]
+#[derive(Clone, Copy)]
 pub struct TargetSend {
     state: EndState,
 }
@@ -75,7 +75,7 @@ impl TargetSend {
 }
 
 /// The target in a phase in which it takes bytes (6.1.5): MESSAGE OUT, COMMAND or DATA OUT.
-#[derive(Clone, Copy, Debug)]
+#[derive(Clone, Copy)]
 pub struct TargetTake {
     state: EndState,
 }

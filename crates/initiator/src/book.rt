@@ -27,7 +27,7 @@ use std::marker::Model;
 
 /// The book of an initiator. It walks over no command before the first that is not past, and over none that nothing has
 /// come to yet.
-#[derive(Debug, Drop)]
+#[derive(Drop)]
 pub struct Book {
     commands: Commands,
     aborts: Vec<MyAbort>,

@@ -7,7 +7,7 @@ use std::alloc::Global;
 use std::marker::Model;
 
 /// The commands that ended with CHECK CONDITION, by their numbers, each once.
-#[derive(Debug, Drop)]
+#[derive(Drop)]
 pub struct Checks {
     slots: Vec<u16>,
     count: usize,

@@ -20,7 +20,7 @@ use std::alloc::Global;
 use std::marker::Model;
 
 /// An initiator's own commands, in the order of their numbers.
-#[derive(Debug, Drop)]
+#[derive(Drop)]
 pub struct Commands {
     mines: Vec<Mine>,
     // By the number of a command its place among them; of a command of others any place.

@@ -40,7 +40,7 @@ use scenario::{FaultDef, HostDef};
 use scsi_device::{OwnTimes, flip, is_pulsed, lines_seen, pace, sampled};
 
 /// What an initiator knows itself.
-#[derive(Clone, Copy, Debug)]
+#[derive(Clone, Copy)]
 pub struct Knowledge<'a> {
     /// When it made its rows.
     pub own: &'a OwnTimes,

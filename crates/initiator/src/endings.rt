@@ -23,7 +23,7 @@ use std::alloc::Global;
 use std::marker::Model;
 
 /// What first ended a command.
-#[derive(Clone, Copy, Debug)]
+#[derive(Clone, Copy)]
 pub enum Ending {
     /// COMMAND COMPLETE after this status.
     Status(u8),
@@ -38,7 +38,7 @@ pub enum Ending {
 }
 
 /// How far a command and its automatic REQUEST SENSE have ended.
-#[derive(Clone, Copy, Debug)]
+#[derive(Clone, Copy)]
 pub struct CommandEnd {
     /// How the command ended, if it has.
     pub ending: Option<Ending>,
@@ -47,7 +47,7 @@ pub struct CommandEnd {
 }
 
 /// How each command of an initiator's own ended.
-#[derive(Debug, Drop)]
+#[derive(Drop)]
 pub struct Endings {
     // By the number of the command, from 1.
     ends: Vec<CommandEnd>,

@@ -11,7 +11,7 @@ use io_pointers::{Area, Pointers};
 use msg_grammar::MsgIn;
 
 /// What is held of a process.
-#[derive(Clone, Copy, Debug)]
+#[derive(Clone, Copy)]
 pub struct Held {
     /// Its pointers; a place past the last one of 32 bits is held as that one.
     pub pointers: Pointers,
@@ -20,7 +20,7 @@ pub struct Held {
 }
 
 /// What is held of a command, and of the automatic REQUEST SENSE after it.
-#[derive(Clone, Copy, Debug)]
+#[derive(Clone, Copy)]
 pub struct HeldPair {
     /// Of the command.
     pub command: Held,

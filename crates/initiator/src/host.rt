@@ -61,7 +61,7 @@ use std::alloc::Global;
 use std::marker::Model;
 
 /// An initiator of a scenario.
-#[derive(Debug, Drop)]
+#[derive(Drop)]
 pub struct Host {
     def: HostDef,
     itself: Itself,

@@ -29,7 +29,7 @@ use std::alloc::Global;
 use std::marker::Model;
 
 /// What an initiator wants of the bus, and since when.
-#[derive(Debug, Drop)]
+#[derive(Drop)]
 pub struct Intent {
     dev: Dev,
     retries: u8,

@@ -4,7 +4,7 @@ use bus_base::{AbortKind, Dev, Ns};
 use scenario::Tag;
 
 /// A command of its own: how it is sent, and how far it has come.
-#[derive(Clone, Copy, Debug)]
+#[derive(Clone, Copy)]
 pub struct Mine {
     /// Its number among all commands, from 1.
     pub number: u16,
@@ -33,7 +33,7 @@ pub struct Mine {
 }
 
 /// An abort line of its own.
-#[derive(Clone, Copy, Debug)]
+#[derive(Clone, Copy)]
 pub struct MyAbort {
     /// Its number among all abort lines, from 1.
     pub number: u16,
@@ -53,7 +53,7 @@ pub struct MyAbort {
 
 /// What an initiator sends: a command or the automatic REQUEST SENSE after it, by the number of the command among all,
 /// or an abort, by that of its line; both from 1.
-#[derive(Clone, Copy, Debug)]
+#[derive(Clone, Copy)]
 pub enum OwnItem {
     /// A command.
     Command(u16),

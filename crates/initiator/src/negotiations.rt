@@ -16,7 +16,7 @@ use std::marker::Model;
 /// With which targets this initiator has had the connection in which the two may negotiate: the first one for a
 /// process that the initiator began, since the last reset of either. In a scenario of version 1 nobody negotiates after
 /// a reset.
-#[derive(Debug, Drop)]
+#[derive(Drop)]
 pub struct Negotiations {
     dev: Dev,
     version: u8,

@@ -11,7 +11,7 @@ use bus_base::Octets;
 use cdb_codec::{GOOD, QUEUE_FULL, Sense};
 
 /// The outcome of a command.
-#[derive(Debug, Drop)]
+#[derive(Drop)]
 pub enum Outcome {
     /// GOOD, with the bytes that came to the initiator.
     Good(Octets),

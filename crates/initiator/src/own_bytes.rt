@@ -11,7 +11,7 @@ use std::alloc::Global;
 use std::marker::Model;
 
 /// The bytes that an initiator sends of a command: its command descriptor block, and its data.
-#[derive(Debug, Drop)]
+#[derive(Drop)]
 pub struct CommandBytes {
     cdb: Vec<u8>,
     sent: Vec<u8>,
@@ -115,7 +115,7 @@ fn sense_bytes(alloc: Global) -> Result<CommandBytes, NoMemory>
 }
 
 /// The bytes that an initiator sends of its own processes.
-#[derive(Debug, Drop)]
+#[derive(Drop)]
 pub struct OwnBytes {
     none: CommandBytes,
     sense: CommandBytes,

@@ -14,7 +14,7 @@ use msg_grammar::{MsgIn, MsgOut};
 use scenario::Tag;
 
 /// The last message of a connection, as far as it tells how the connection ends.
-#[derive(Clone, Copy, Debug)]
+#[derive(Clone, Copy)]
 pub enum LastMessage {
     /// Any other, or none yet.
     Plain,
@@ -27,7 +27,7 @@ pub enum LastMessage {
 }
 
 /// What was held of a process before a message.
-#[derive(Clone, Copy, Debug)]
+#[derive(Clone, Copy)]
 pub struct Undo {
     /// The process.
     pub id: ProcId,
@@ -36,7 +36,7 @@ pub struct Undo {
 }
 
 /// What an initiator knows of its own connection.
-#[derive(Clone, Copy, Debug)]
+#[derive(Clone, Copy)]
 pub struct OwnLink {
     /// The target.
     pub target: Dev,

@@ -26,7 +26,7 @@ use std::marker::Model;
 use std::mem::replace;
 
 // What came, from the first byte on, as far as there is room.
-#[derive(Debug, Drop)]
+#[derive(Drop)]
 struct Buffer {
     bytes: Vec<u8>,
     count: usize,
@@ -83,7 +83,7 @@ impl Buffer {
 }
 
 // Of a command that for its own data, and that for those of its automatic REQUEST SENSE.
-#[derive(Debug, Drop)]
+#[derive(Drop)]
 struct BufferPair {
     command: Buffer,
     sense: Buffer,
@@ -178,7 +178,7 @@ fn brings_data(hearing: &Hearing, after: &Option<Connection>) -> bool
 }
 
 /// The bytes of data that came to an initiator of its own processes.
-#[derive(Debug, Drop)]
+#[derive(Drop)]
 pub struct Received {
     // By the number of the command, from 1.
     pairs: Vec<BufferPair>,

@@ -23,7 +23,7 @@ use std::marker::Model;
 
 /// What the initiator says in MESSAGE OUT, the place of its next byte, and what the target has last asked for by a
 /// synchronous data transfer request.
-#[derive(Debug, Drop)]
+#[derive(Drop)]
 pub struct Speech {
     words: ArrayVec<u8, 8>,
     place: usize,

@@ -34,7 +34,7 @@ use std::alloc::Global;
 use std::marker::Model;
 
 /// What an initiator holds of its own connection, and of the pointers and the status of its own processes.
-#[derive(Debug, Drop)]
+#[derive(Drop)]
 pub struct Transfers {
     dev: Dev,
     // By the number of the command.

@@ -13,7 +13,7 @@ use std::alloc::Global;
 use std::marker::Model;
 
 /// What an initiator wants of the bus.
-#[derive(Debug, Drop)]
+#[derive(Drop)]
 pub struct Wish {
     book: Book,
     aim: Option<OwnItem>,

@@ -15,7 +15,7 @@ pub enum Bad {
 }
 
 /// What is wrong with one line.
-#[derive(Debug, Drop)]
+#[derive(Drop)]
 pub(crate) enum Refusal {
     /// Memory ran out.
     Memory,

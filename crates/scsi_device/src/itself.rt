@@ -17,7 +17,7 @@ use std::alloc::Global;
 use std::marker::Model;
 
 /// What a device knows of its own rows: when it made them, and when it drives RST next.
-#[derive(Debug, Drop)]
+#[derive(Drop)]
 pub struct Itself {
     dev: Dev,
     own: OwnTimes,

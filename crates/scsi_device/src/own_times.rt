@@ -7,7 +7,7 @@ use bus_trace::{Change, Kind, falls, rises};
 use std::marker::Model;
 
 /// When a device made its last row of lines, when it last raised ACK and RST, and when it last released RST, in ns.
-#[derive(Debug, Drop)]
+#[derive(Drop)]
 pub struct OwnTimes {
     row: Ns,
     ack: Ns,

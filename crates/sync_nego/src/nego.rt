@@ -13,7 +13,7 @@ const ASYNCHRONOUS: Agreement = Agreement {
 };
 
 /// What an end keeps of its agreement with another.
-#[derive(Debug, Drop)]
+#[derive(Drop)]
 pub struct Nego {
     own: Agreement,
     agreed: Agreement,

@@ -46,7 +46,7 @@ use scenario::{Tag, TargetDef};
 use std::marker::Model;
 
 /// What names a process at its target, beside its initiator.
-#[derive(Clone, Copy, Debug)]
+#[derive(Clone, Copy)]
 pub struct Name {
     /// The logical unit.
     pub unit: u8,
@@ -57,7 +57,7 @@ pub struct Name {
 }
 
 /// What the unit and the counts of a target tell of the process of its connection.
-#[derive(Clone, Copy, Debug)]
+#[derive(Clone, Copy)]
 pub struct ProcessState {
     /// Whether its initiator stands in the hold of the unit.
     pub in_hold: bool,
@@ -77,7 +77,7 @@ pub struct ProcessState {
 
 /// What the target of a connection has heard in it: what it plans, how the opening named the process, and the command
 /// block. It takes no memory.
-#[derive(Debug, Drop)]
+#[derive(Drop)]
 pub struct Course {
     id: ProcId,
     plan: Plan,

@@ -13,7 +13,7 @@ use bus_trace::Connection;
 use cdb_codec::{INITIATOR_DETECTED_ERROR, PARITY_ERROR};
 
 /// What a row shows: nothing, one event, or two in this order.
-#[derive(Clone, Copy, Debug)]
+#[derive(Clone, Copy)]
 pub struct Shown {
     /// The first.
     pub event: Option<Event>,

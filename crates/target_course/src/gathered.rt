@@ -28,7 +28,7 @@ use std::alloc::Global;
 use std::marker::Model;
 
 // What came to a unit of one process, from the first byte on, as far as there is room.
-#[derive(Debug, Drop)]
+#[derive(Drop)]
 struct Gathering {
     owner: Option<ProcId>,
     bytes: Vec<u8>,
@@ -47,7 +47,7 @@ impl Model for Gathering {
 }
 
 /// The bytes that came to a target of the data of writes: of each unit those of the process that last sent it some.
-#[derive(Debug, Drop)]
+#[derive(Drop)]
 pub struct Gathered {
     dev: Dev,
     // By the number of the unit.

@@ -4,7 +4,7 @@ use scsi_device::Itself;
 use target_units::Ready;
 
 /// What a target knows itself.
-#[derive(Clone, Copy, Debug)]
+#[derive(Clone, Copy)]
 pub struct Knowledge<'a> {
     /// When it made its own rows, and when it drives RST next.
     pub itself: &'a Itself,

@@ -20,7 +20,7 @@ use std::marker::Model;
 /// With which initiators this target has had the connection in which the two may negotiate: the first one for a
 /// process in which it was selected, since the last reset of either. Of the connection that stands it learns as its
 /// opening is left: an abort is no process. In a scenario of version 1 nobody negotiates after a reset.
-#[derive(Debug, Drop)]
+#[derive(Drop)]
 pub struct Negotiated {
     dev: Dev,
     version: u8,

@@ -23,7 +23,7 @@ use std::alloc::Global;
 use std::marker::Model;
 
 /// How far a process has come. A count stays at the last u64.
-#[derive(Clone, Copy, Debug)]
+#[derive(Clone, Copy)]
 pub struct Counts {
     /// The data runs that it has made.
     pub runs: u64,
@@ -32,7 +32,7 @@ pub struct Counts {
 }
 
 /// How far a command has come, and its automatic REQUEST SENSE.
-#[derive(Clone, Copy, Debug)]
+#[derive(Clone, Copy)]
 pub struct CountsPair {
     /// The command.
     pub command: Counts,
@@ -41,7 +41,7 @@ pub struct CountsPair {
 }
 
 /// How far the processes of a target have come.
-#[derive(Debug, Drop)]
+#[derive(Drop)]
 pub struct Progress {
     dev: Dev,
     // By the number of the command, from 1.

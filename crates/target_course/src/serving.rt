@@ -5,7 +5,7 @@ use scenario::TargetDef;
 
 /// What the target of a connection decides by: its line of the scenario, what was said, and the process that it
 /// serves.
-#[derive(Clone, Copy, Debug)]
+#[derive(Clone, Copy)]
 pub struct Serving {
     /// Its line of the scenario.
     pub def: TargetDef,
@@ -18,7 +18,7 @@ pub struct Serving {
 }
 
 /// The bytes that the target has from its unit for DATA IN, which the process gives.
-#[derive(Clone, Copy, Debug)]
+#[derive(Clone, Copy)]
 pub struct DataBytes {
     /// The one after those that it has given in this phase.
     pub next: u8,

@@ -2,7 +2,7 @@
 use bus_base::{Dev, Ns};
 
 /// A unit whose current process is ready for a reselection.
-#[derive(Clone, Copy, Debug)]
+#[derive(Clone, Copy)]
 pub struct Ready {
     /// From when on, in ns.
     pub time: Ns,

@@ -16,7 +16,7 @@ use bus_rules::{RuleNo, Terms, end_row, lowest_at_end};
 pub use bus_trace::{Kind, Lines, Row};
 
 /// A judge of the rows of a trace so far.
-#[derive(Debug, Drop)]
+#[derive(Drop)]
 pub struct Judge {
     terms: Terms,
     count: usize,

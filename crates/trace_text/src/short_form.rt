@@ -11,7 +11,7 @@ use run_record::Run;
 use text_pages::{Page, flush, is_failed, new_page, put, put_number};
 
 /// How a command ended, without what came with it.
-#[derive(Clone, Copy, Debug)]
+#[derive(Clone, Copy)]
 pub(crate) enum Ending {
     Good,
     Check,

@@ -30,7 +30,7 @@ pub(crate) enum State {
 }
 
 /// What a byte of a trace text told.
-#[derive(Clone, Copy, Debug)]
+#[derive(Clone, Copy)]
 pub enum Told {
     /// Nothing yet.
     Quiet,

@@ -14,7 +14,7 @@ use bus_trace::{Kind, Row};
 use std::alloc::{AllocError, Global};
 
 /// What a trace text says.
-#[derive(Debug, Drop)]
+#[derive(Drop)]
 pub struct Trace {
     /// The rows, the oldest first.
     pub rows: Vec<Row>,

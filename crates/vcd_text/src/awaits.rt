@@ -2,7 +2,7 @@
 use bus_trace::Lines;
 
 /// What the next token of a dump has to be.
-#[derive(Clone, Copy, Debug)]
+#[derive(Clone, Copy)]
 pub(crate) enum Awaits {
     /// The keyword of a declaration.
     Declaration,

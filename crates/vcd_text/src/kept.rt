@@ -10,7 +10,7 @@ use crate::word::Word;
 use std::alloc::AllocError;
 
 /// What a token goes on with that is longer than any that matters by all of its bytes.
-#[derive(Clone, Copy, Debug)]
+#[derive(Clone, Copy)]
 pub(crate) enum Tail {
     /// Bytes that do not matter.
     Any,

@@ -11,7 +11,7 @@ use bus_trace::Row;
 use std::alloc::{AllocError, Global};
 
 /// What a dump says.
-#[derive(Debug, Drop)]
+#[derive(Drop)]
 pub struct VcdRows {
     /// The rows, the oldest first.
     pub rows: Vec<Row>,

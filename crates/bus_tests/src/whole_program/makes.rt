@@ -67,8 +67,8 @@ fn ends_with_each_status_of_made_scenarios(rt: HostRuntime) -> Result<(), NoMemo
         let mut out = MemSink::new(rt.alloc(), ROOM, ROOM, &[bad_write])?;
         let mut input = MemSource::new(rt.alloc(), input.as_bytes(), 64, &[bad_read])?;
         let ended = ended(rt.alloc(), words, &mut input, &mut out)?;
-        assert_eq!(rt; ended, status, "{words:?}");
-        assert_eq!(rt; out.bytes(), text.as_bytes(), "{words:?}");
+        assert!(rt; ended == status, "{words:?}");
+        assert!(rt; out.bytes() == text.as_bytes(), "{words:?}");
     }
     Ok(())
 }

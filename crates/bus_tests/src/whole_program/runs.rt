@@ -10,8 +10,8 @@ fn runs_small_scenarios(rt: HostRuntime) -> Result<(), NoMemory> {
         let mut out = MemSink::new(rt.alloc(), ROOM, ROOM, &[NEVER])?;
         let mut input = MemSource::new(rt.alloc(), scenario.as_bytes(), ROOM, &[NEVER])?;
         let ended = ended(rt.alloc(), &["run"], &mut input, &mut out)?;
-        assert_eq!(rt; ended, Status::Done, "seed {seed}");
-        assert_eq!(rt; out.bytes(), report.as_bytes(), "seed {seed}");
+        assert!(rt; ended == Status::Done, "seed {seed}");
+        assert!(rt; out.bytes() == report.as_bytes(), "seed {seed}");
     }
     Ok(())
 }
