@@ -1,5 +1,6 @@
 #!/usr/bin/env python3
-"""Finds citations of clauses that docs/standard.md does not have: in comments of code, definitions and proofs, and in pages.
+"""Finds citations of clauses that docs/standard.md does not have, and those that give a message another clause than it: in comments of
+code, definitions and proofs, and in pages.
 
     tools/citations.py
 
@@ -12,6 +13,8 @@ import sys
 ROOT = pathlib.Path(__file__).resolve().parent.parent
 # A number of two parts or more, from clause 5 on, that is no decimal, version, time or name of a process without a tag.
 CLAUSE = re.compile(r"(?<![\w.,])([5-9](?:\.\d{1,2}){1,3})(?![\w.]*\d)(?!\.-)(?!\s*(?:ns|s|MiB|times|GiB|KiB|MB)\b)")
+# A name in capitals with its clauses, as in ABORT TAG (6.6.2) or IDENTIFY (6.1.4, 6.6.7); what holds from one to another is of several names.
+NAMED = re.compile(r"\b([A-Z]{2,}(?: [A-Z]{2,})*) \(([5-9]\.[\d., ]*\d)\)")
 COMMENTS = {".antt": "--", ".rt": "//"}
 
 
@@ -35,14 +38,19 @@ def files():
 
 def main():
     table = (ROOT / "docs" / "standard.md").read_text()
-    known = set(re.findall(r"^\| ([\d.]+) \|", table, re.MULTILINE))
-    wrong = [
-        "%s:%d: %s is not in docs/standard.md" % (path.relative_to(ROOT), number, clause)
-        for path in files()
-        for number, line in cited(path)
-        for clause in CLAUSE.findall(line)
-        if clause not in known
-    ]
+    rows = re.findall(r"^\| ([\d.]+) \| (.*?) \|", table, re.MULTILINE)
+    known = {clause for clause, _ in rows}
+    titled = {title: clause for clause, title in rows if title.isupper()}
+    wrong = []
+    for path in files():
+        for number, line in cited(path):
+            place = "%s:%d" % (path.relative_to(ROOT), number)
+            wrong += ["%s: %s is not in docs/standard.md" % (place, clause) for clause in CLAUSE.findall(line) if clause not in known]
+            wrong += [
+                "%s: %s is %s in docs/standard.md, not %s" % (place, name, titled[name], clauses)
+                for name, clauses in NAMED.findall(line)
+                if name in titled and titled[name] not in clauses.split(", ")
+            ]
     print("\n".join(wrong) if wrong else "every citation is in docs/standard.md")
     sys.exit(1 if wrong else 0)
 

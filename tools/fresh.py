@@ -18,6 +18,12 @@ RUNS = DUES + [
     str(ROOT / "tools" / "cases" / (name + ".scn"))
     for name in ("called_again_for_sense", "failures", "negotiation", "read_whole_after_a_part", "two_aborts")
 ]
+# Those that are computed again with each edit of the definitions of bus_due; the others stand where nothing is edited.
+NEAR = [
+    str(ROOT / "tools" / "due_cases" / (name + ".scn"))
+    for name in ("late_entry", "one_read", "pulses_out", "ready_units", "resets_dropped", "tag_aborted", "unanswered")
+]
+FAR = [path for path in RUNS if path not in NEAR]
 READS = [
     str(ROOT / "tools" / "due_cases" / (name + ".scn"))
     for name in (
@@ -34,11 +40,14 @@ SMALL = sorted(str(path) for path in (ROOT / "tools" / "run_cases").glob("*.scn"
 LAWS = sorted(str(path) for path in (ROOT / "tools" / "law_cases").glob("*.scn"))
 # Of each generated file its maker's words, and the file that the maker reads from standard input, where there is one.
 MADE = {
-    "crates/bus_rules/proofs/Cases.antt": (["tools/rule_cases.py"], "tools/rule_cases.txt"),
+    "crates/bus_cases/proofs/RuleCases.antt": (["tools/rule_cases.py"], "tools/rule_cases.txt"),
     "crates/disk_array/proofs/Stories.antt": (["tools/array_case.py"] + CASES, None),
     "crates/bus_story/proofs/Cases.antt": (["tools/story_case.py"] + CASES, None),
     "crates/bus_due/proofs/Cases.antt": (["tools/due_case.py"] + RUNS, None),
-    "crates/bus_due/proofs/SeamCases.antt": (["tools/seam_case.py", "Cases"] + RUNS, None),
+    "crates/bus_due/proofs/RunCases.antt": (["tools/shown_case.py"] + NEAR, None),
+    "crates/bus_due/proofs/SeamCases.antt": (["tools/seam_case.py", "Cases"] + NEAR, None),
+    "crates/bus_cases/proofs/RunCases.antt": (["tools/shown_case.py"] + FAR, None),
+    "crates/bus_cases/proofs/SeamCases.antt": (["tools/seam_case.py", "Cases"] + FAR, None),
     "crates/bus_laws/proofs/HeardCases.antt": (["tools/heard_case.py", "Cases"] + RUNS, None),
     "crates/bus_books/proofs/Cases.antt": (["tools/books_case.py"] + RUNS, None),
     "crates/bus_books/proofs/StoryCases.antt": (["tools/books_case.py", "--whole"] + STORIES, None),

@@ -1,7 +1,7 @@
 #!/usr/bin/env python3
 """Turns traces with the verdicts that are wanted into lemmas that the kernel computes.
 
-    tools/rule_cases.py < CASES > crates/bus_rules/proofs/Cases.antt
+    tools/rule_cases.py < CASES > crates/bus_cases/proofs/RuleCases.antt
 
 A line of CASES is `NAME: ROW; ROW; .. | END | VERDICT`, with rows as a trace text has them and a verdict as
 `judge` prints it. Lines that are empty or begin with `#` are skipped.

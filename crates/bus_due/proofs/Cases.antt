@@ -1,14 +1,10 @@
--- Whole runs, computed from their scenarios by what is due: the rows and the histories are those of the reports, which
--- an independent simulator printed. Written by tools/due_case.py.
-use Rattle.bus_trace.specs.LineSet.{set_of, line_of}
-use Rattle.bus_trace.specs.View.{union_below}
+-- Whole runs: their scenarios, and the rows and histories of their reports, which an independent simulator printed.
+-- Written by tools/due_case.py.
+use Rattle.bus_trace.specs.LineSet.{set_of}
 use Rattle.bus_trace.specs.declared.Row.{Row}
 use Rattle.bus_trace.specs.declared.Kind.TheVariants.{Drives, Fault}
-use Rattle.msg_grammar.specs.Messages.{form_out, form_in}
-use Rattle.bus_due.specs.Next.{least}
-use Rattle.bus_due.specs.Run.{Run, run_from, run_by_due, history_of}
-use Rattle.std.proofs.Common.{ℕ, ◌≡◌, Bool, true, false, List, [], ◌∷◌, reverse, refl}
-use lib.Count.{ones}
+use Rattle.bus_due.specs.Run.{Run, history_of}
+use Rattle.std.proofs.Common.{ℕ, Bool, true, false, List, [], ◌∷◌, reverse}
 use Rattle.bus_base.specs.declared.ProcId.{ProcId}
 use Rattle.bus_base.specs.declared.AbortKind.TheVariants as aborts
 use Rattle.bus_base.specs.declared.Event.{Event}
@@ -18,7 +14,6 @@ use Rattle.scenario.specs.declared.value.Policy.TheVariants as policies
 use Rattle.scenario.specs.declared.value.Tag.TheVariants as tags
 use Rattle.scenario.specs.declared.value.Payload.TheVariants as payloads
 use Rattle.scenario.specs.Value.{ScenarioValue}
-use Rattle.scenario.specs.Needs.{need_of, sent_of}
 
 abbrev drive : ℕ → ℕ → ℕ → Row
 drive time dev lines = record { time = time; dev = dev; kind = Drives (set_of lines) }
@@ -27,12 +22,12 @@ abbrev strike : ℕ → ℕ → ℕ → Row
 strike time dev bit = record { time = time; dev = dev; kind = Fault bit }
 
 -- What a report shows of a run: its rows, its history, and that it is over.
-record Shows : Type 0 where
-  rows : List Row
-  history : List Event
-  ended : Bool
+pub record Shows : Type 0 where
+  pub rows : List Row
+  pub history : List Event
+  pub ended : Bool
 
-abbrev shows : Run → Shows
+abbrev pub shows : Run → Shows
 shows r = record { rows = r.rows; history = history_of r; ended = r.ended }
 
 abbrev command : ℕ → ProcId
@@ -62,9 +57,8 @@ absent_unit_due_rows = drive 1235 7 0x00280 ∷ drive 3670 7 0x00680 ∷ drive 4
 abbrev absent_unit_due_events : List Event
 absent_unit_due_events = events.Accept (command 1) ∷ events.Run (command 1) ∷ events.End (command 1) 0 ∷ events.Accept (command 2) ∷ events.Run (command 2) ∷ events.End (command 2) 0 ∷ []
 
-absent_unit_due_run : shows (run_by_due absent_unit_due 139) ≡ record { rows = reverse absent_unit_due_rows; history = reverse absent_unit_due_events; ended = true }
-unfolding need_of sent_of ones union_below line_of form_out form_in least run_from
-absent_unit_due_run = refl
+abbrev pub absent_unit_due_shown : Shows
+absent_unit_due_shown = record { rows = reverse absent_unit_due_rows; history = reverse absent_unit_due_events; ended = true }
 
 -- ---- burst_without_tags_due
 
@@ -87,9 +81,8 @@ burst_without_tags_due_rows = drive 1200 7 0x00280 ∷ drive 3600 7 0x00680 ∷ 
 abbrev burst_without_tags_due_events : List Event
 burst_without_tags_due_events = events.Accept (command 1) ∷ events.Run (command 1) ∷ events.End (command 1) 0 ∷ []
 
-burst_without_tags_due_run : shows (run_by_due burst_without_tags_due 290) ≡ record { rows = reverse burst_without_tags_due_rows; history = reverse burst_without_tags_due_events; ended = true }
-unfolding need_of sent_of ones union_below line_of form_out form_in least run_from
-burst_without_tags_due_run = refl
+abbrev pub burst_without_tags_due_shown : Shows
+burst_without_tags_due_shown = record { rows = reverse burst_without_tags_due_rows; history = reverse burst_without_tags_due_events; ended = true }
 
 -- ---- command_given_up_due
 
@@ -112,9 +105,8 @@ command_given_up_due_rows = drive 1201 5 0x00220 ∷ drive 3602 5 0x00620 ∷ dr
 abbrev command_given_up_due_events : List Event
 command_given_up_due_events = events.Fail (command 1) 71 ∷ events.End (command 1) 2 ∷ events.Accept (sense 1) ∷ events.Run (sense 1) ∷ events.End (sense 1) 0 ∷ []
 
-command_given_up_due_run : shows (run_by_due command_given_up_due 170) ≡ record { rows = reverse command_given_up_due_rows; history = reverse command_given_up_due_events; ended = true }
-unfolding need_of sent_of ones union_below line_of form_out form_in least run_from
-command_given_up_due_run = refl
+abbrev pub command_given_up_due_shown : Shows
+command_given_up_due_shown = record { rows = reverse command_given_up_due_rows; history = reverse command_given_up_due_events; ended = true }
 
 -- ---- command_struck_twice_due
 
@@ -137,9 +129,8 @@ command_struck_twice_due_rows = drive 1200 6 0x00240 ∷ drive 3600 6 0x00640 �
 abbrev command_struck_twice_due_events : List Event
 command_struck_twice_due_events = events.Accept (command 1) ∷ events.Run (command 1) ∷ events.End (command 1) 0 ∷ []
 
-command_struck_twice_due_run : shows (run_by_due command_struck_twice_due 200) ≡ record { rows = reverse command_struck_twice_due_rows; history = reverse command_struck_twice_due_events; ended = true }
-unfolding need_of sent_of ones union_below line_of form_out form_in least run_from
-command_struck_twice_due_run = refl
+abbrev pub command_struck_twice_due_shown : Shows
+command_struck_twice_due_shown = record { rows = reverse command_struck_twice_due_rows; history = reverse command_struck_twice_due_events; ended = true }
 
 -- ---- complete_struck_due
 
@@ -162,9 +153,8 @@ complete_struck_due_rows = drive 1200 2 0x00204 ∷ drive 3600 2 0x00604 ∷ dri
 abbrev complete_struck_due_events : List Event
 complete_struck_due_events = events.Accept (command 1) ∷ events.Run (command 1) ∷ events.End (command 1) 0 ∷ []
 
-complete_struck_due_run : shows (run_by_due complete_struck_due 98) ≡ record { rows = reverse complete_struck_due_rows; history = reverse complete_struck_due_events; ended = true }
-unfolding need_of sent_of ones union_below line_of form_out form_in least run_from
-complete_struck_due_run = refl
+abbrev pub complete_struck_due_shown : Shows
+complete_struck_due_shown = record { rows = reverse complete_struck_due_rows; history = reverse complete_struck_due_events; ended = true }
 
 -- ---- counted_due
 
@@ -187,9 +177,8 @@ counted_due_rows = drive 1200 7 0x00280 ∷ drive 3600 7 0x00680 ∷ drive 4800 
 abbrev counted_due_events : List Event
 counted_due_events = events.Fail (command 1) 71 ∷ events.End (command 1) 2 ∷ events.Accept (sense 1) ∷ events.Run (sense 1) ∷ events.End (sense 1) 0 ∷ events.Accept (command 2) ∷ events.Run (command 2) ∷ events.End (command 2) 0 ∷ []
 
-counted_due_run : shows (run_by_due counted_due 248) ≡ record { rows = reverse counted_due_rows; history = reverse counted_due_events; ended = true }
-unfolding need_of sent_of ones union_below line_of form_out form_in least run_from
-counted_due_run = refl
+abbrev pub counted_due_shown : Shows
+counted_due_shown = record { rows = reverse counted_due_rows; history = reverse counted_due_events; ended = true }
 
 -- ---- data_in_given_up_due
 
@@ -212,9 +201,8 @@ data_in_given_up_due_rows = drive 1203 7 0x00280 ∷ drive 3606 7 0x00680 ∷ dr
 abbrev data_in_given_up_due_events : List Event
 data_in_given_up_due_events = events.Accept (command 1) ∷ events.Fail (command 1) 72 ∷ events.End (command 1) 2 ∷ events.Accept (sense 1) ∷ events.Run (sense 1) ∷ events.End (sense 1) 0 ∷ []
 
-data_in_given_up_due_run : shows (run_by_due data_in_given_up_due 201) ≡ record { rows = reverse data_in_given_up_due_rows; history = reverse data_in_given_up_due_events; ended = true }
-unfolding need_of sent_of ones union_below line_of form_out form_in least run_from
-data_in_given_up_due_run = refl
+abbrev pub data_in_given_up_due_shown : Shows
+data_in_given_up_due_shown = record { rows = reverse data_in_given_up_due_rows; history = reverse data_in_given_up_due_events; ended = true }
 
 -- ---- data_out_given_up_due
 
@@ -237,9 +225,8 @@ data_out_given_up_due_rows = drive 1200 0 0x00201 ∷ drive 3600 0 0x00601 ∷ d
 abbrev data_out_given_up_due_events : List Event
 data_out_given_up_due_events = events.Accept (command 1) ∷ events.Fail (command 1) 71 ∷ events.End (command 1) 2 ∷ events.Reset 7 ∷ []
 
-data_out_given_up_due_run : shows (run_by_due data_out_given_up_due 205) ≡ record { rows = reverse data_out_given_up_due_rows; history = reverse data_out_given_up_due_events; ended = true }
-unfolding need_of sent_of ones union_below line_of form_out form_in least run_from
-data_out_given_up_due_run = refl
+abbrev pub data_out_given_up_due_shown : Shows
+data_out_given_up_due_shown = record { rows = reverse data_out_given_up_due_rows; history = reverse data_out_given_up_due_events; ended = true }
 
 -- ---- delayed_ack_due
 
@@ -262,9 +249,8 @@ delayed_ack_due_rows = drive 1200 7 0x00280 ∷ drive 3600 7 0x00680 ∷ drive 4
 abbrev delayed_ack_due_events : List Event
 delayed_ack_due_events = events.Accept (command 1) ∷ events.Run (command 1) ∷ events.End (command 1) 0 ∷ []
 
-delayed_ack_due_run : shows (run_by_due delayed_ack_due 139) ≡ record { rows = reverse delayed_ack_due_rows; history = reverse delayed_ack_due_events; ended = true }
-unfolding need_of sent_of ones union_below line_of form_out form_in least run_from
-delayed_ack_due_run = refl
+abbrev pub delayed_ack_due_shown : Shows
+delayed_ack_due_shown = record { rows = reverse delayed_ack_due_rows; history = reverse delayed_ack_due_events; ended = true }
 
 -- ---- device_reset_by_message_due
 
@@ -287,9 +273,8 @@ device_reset_by_message_due_rows = drive 1200 7 0x00280 ∷ drive 3600 7 0x00680
 abbrev device_reset_by_message_due_events : List Event
 device_reset_by_message_due_events = events.Accept (command 1) ∷ events.Aborted 7 0 1 aborts.Device ∷ events.Accept (command 2) ∷ events.Run (command 2) ∷ events.End (command 2) 0 ∷ []
 
-device_reset_by_message_due_run : shows (run_by_due device_reset_by_message_due 260) ≡ record { rows = reverse device_reset_by_message_due_rows; history = reverse device_reset_by_message_due_events; ended = true }
-unfolding need_of sent_of ones union_below line_of form_out form_in least run_from
-device_reset_by_message_due_run = refl
+abbrev pub device_reset_by_message_due_shown : Shows
+device_reset_by_message_due_shown = record { rows = reverse device_reset_by_message_due_rows; history = reverse device_reset_by_message_due_events; ended = true }
 
 -- ---- equal_bytes_due
 
@@ -312,9 +297,8 @@ equal_bytes_due_rows = drive 1290 7 0x00280 ∷ drive 3780 7 0x00680 ∷ drive 5
 abbrev equal_bytes_due_events : List Event
 equal_bytes_due_events = events.Accept (command 1) ∷ events.Run (command 1) ∷ events.End (command 1) 0 ∷ events.Accept (command 2) ∷ events.Run (command 2) ∷ events.End (command 2) 0 ∷ []
 
-equal_bytes_due_run : shows (run_by_due equal_bytes_due 360) ≡ record { rows = reverse equal_bytes_due_rows; history = reverse equal_bytes_due_events; ended = true }
-unfolding need_of sent_of ones union_below line_of form_out form_in least run_from
-equal_bytes_due_run = refl
+abbrev pub equal_bytes_due_shown : Shows
+equal_bytes_due_shown = record { rows = reverse equal_bytes_due_rows; history = reverse equal_bytes_due_events; ended = true }
 
 -- ---- fast_pulses_out_due
 
@@ -337,9 +321,8 @@ fast_pulses_out_due_rows = drive 1206 7 0x00280 ∷ drive 3612 7 0x00680 ∷ dri
 abbrev fast_pulses_out_due_events : List Event
 fast_pulses_out_due_events = events.Accept (command 1) ∷ events.Run (command 1) ∷ events.End (command 1) 0 ∷ []
 
-fast_pulses_out_due_run : shows (run_by_due fast_pulses_out_due 182) ≡ record { rows = reverse fast_pulses_out_due_rows; history = reverse fast_pulses_out_due_events; ended = true }
-unfolding need_of sent_of ones union_below line_of form_out form_in least run_from
-fast_pulses_out_due_run = refl
+abbrev pub fast_pulses_out_due_shown : Shows
+fast_pulses_out_due_shown = record { rows = reverse fast_pulses_out_due_rows; history = reverse fast_pulses_out_due_events; ended = true }
 
 -- ---- field_in_a_command_due
 
@@ -362,9 +345,8 @@ field_in_a_command_due_rows = drive 1299 0 0x00201 ∷ drive 3798 0 0x00601 ∷ 
 abbrev field_in_a_command_due_events : List Event
 field_in_a_command_due_events = events.Accept (command 1) ∷ events.Run (command 1) ∷ events.End (command 1) 2 ∷ events.Accept (sense 1) ∷ events.Run (sense 1) ∷ events.End (sense 1) 0 ∷ []
 
-field_in_a_command_due_run : shows (run_by_due field_in_a_command_due 239) ≡ record { rows = reverse field_in_a_command_due_rows; history = reverse field_in_a_command_due_events; ended = true }
-unfolding need_of sent_of ones union_below line_of form_out form_in least run_from
-field_in_a_command_due_run = refl
+abbrev pub field_in_a_command_due_shown : Shows
+field_in_a_command_due_shown = record { rows = reverse field_in_a_command_due_rows; history = reverse field_in_a_command_due_events; ended = true }
 
 -- ---- full_queue_due
 
@@ -387,9 +369,8 @@ full_queue_due_rows = drive 1200 7 0x00280 ∷ drive 3600 7 0x00680 ∷ drive 48
 abbrev full_queue_due_events : List Event
 full_queue_due_events = events.Accept (command 1) ∷ events.Refuse (command 2) ∷ events.End (command 2) 40 ∷ events.Run (command 1) ∷ events.End (command 1) 0 ∷ []
 
-full_queue_due_run : shows (run_by_due full_queue_due 157) ≡ record { rows = reverse full_queue_due_rows; history = reverse full_queue_due_events; ended = true }
-unfolding need_of sent_of ones union_below line_of form_out form_in least run_from
-full_queue_due_run = refl
+abbrev pub full_queue_due_shown : Shows
+full_queue_due_shown = record { rows = reverse full_queue_due_rows; history = reverse full_queue_due_events; ended = true }
 
 -- ---- given_up_due
 
@@ -412,9 +393,8 @@ given_up_due_rows = drive 1233 7 0x00280 ∷ drive 3666 7 0x00680 ∷ drive 4899
 abbrev given_up_due_events : List Event
 given_up_due_events = events.Accept (command 1) ∷ events.Fail (command 1) 71 ∷ events.End (command 1) 2 ∷ events.Accept (sense 1) ∷ events.Run (sense 1) ∷ events.End (sense 1) 0 ∷ events.Accept (command 2) ∷ events.Fail (command 2) 72 ∷ events.End (command 2) 2 ∷ events.Accept (sense 2) ∷ events.Run (sense 2) ∷ events.End (sense 2) 0 ∷ events.Accept (command 3) ∷ events.Run (command 3) ∷ events.Lost (command 3) ∷ []
 
-given_up_due_run : shows (run_by_due given_up_due 527) ≡ record { rows = reverse given_up_due_rows; history = reverse given_up_due_events; ended = true }
-unfolding need_of sent_of ones union_below line_of form_out form_in least run_from
-given_up_due_run = refl
+abbrev pub given_up_due_shown : Shows
+given_up_due_shown = record { rows = reverse given_up_due_rows; history = reverse given_up_due_events; ended = true }
 
 -- ---- held_reselection_due
 
@@ -437,9 +417,8 @@ held_reselection_due_rows = drive 1200 6 0x00240 ∷ drive 3600 6 0x00640 ∷ dr
 abbrev held_reselection_due_events : List Event
 held_reselection_due_events = events.Accept (command 1) ∷ events.Fail (command 2) 71 ∷ events.End (command 2) 2 ∷ events.Accept (sense 2) ∷ events.Run (sense 2) ∷ events.End (sense 2) 0 ∷ events.Run (command 1) ∷ events.End (command 1) 2 ∷ events.Accept (sense 1) ∷ events.Run (sense 1) ∷ events.End (sense 1) 0 ∷ []
 
-held_reselection_due_run : shows (run_by_due held_reselection_due 389) ≡ record { rows = reverse held_reselection_due_rows; history = reverse held_reselection_due_events; ended = true }
-unfolding need_of sent_of ones union_below line_of form_out form_in least run_from
-held_reselection_due_run = refl
+abbrev pub held_reselection_due_shown : Shows
+held_reselection_due_shown = record { rows = reverse held_reselection_due_rows; history = reverse held_reselection_due_events; ended = true }
 
 -- ---- hold_of_a_unit_due
 
@@ -462,9 +441,8 @@ hold_of_a_unit_due_rows = drive 1200 6 0x00240 ∷ drive 1200 5 0x00220 ∷ driv
 abbrev hold_of_a_unit_due_events : List Event
 hold_of_a_unit_due_events = events.Accept (command 1) ∷ events.Run (command 1) ∷ events.End (command 1) 2 ∷ events.Accept (sense 1) ∷ events.Run (sense 1) ∷ events.End (sense 1) 0 ∷ events.Accept (command 2) ∷ events.Run (command 2) ∷ events.End (command 2) 0 ∷ []
 
-hold_of_a_unit_due_run : shows (run_by_due hold_of_a_unit_due 281) ≡ record { rows = reverse hold_of_a_unit_due_rows; history = reverse hold_of_a_unit_due_events; ended = true }
-unfolding need_of sent_of ones union_below line_of form_out form_in least run_from
-hold_of_a_unit_due_run = refl
+abbrev pub hold_of_a_unit_due_shown : Shows
+hold_of_a_unit_due_shown = record { rows = reverse hold_of_a_unit_due_rows; history = reverse hold_of_a_unit_due_events; ended = true }
 
 -- ---- late_entry_due
 
@@ -487,9 +465,8 @@ late_entry_due_rows = drive 1200 7 0x00280 ∷ drive 3000 6 0x00240 ∷ drive 36
 abbrev late_entry_due_events : List Event
 late_entry_due_events = events.Accept (command 1) ∷ events.Run (command 1) ∷ events.End (command 1) 0 ∷ events.Accept (command 2) ∷ events.Run (command 2) ∷ events.End (command 2) 0 ∷ events.Accept (command 3) ∷ events.Run (command 3) ∷ events.End (command 3) 0 ∷ []
 
-late_entry_due_run : shows (run_by_due late_entry_due 170) ≡ record { rows = reverse late_entry_due_rows; history = reverse late_entry_due_events; ended = true }
-unfolding need_of sent_of ones union_below line_of form_out form_in least run_from
-late_entry_due_run = refl
+abbrev pub late_entry_due_shown : Shows
+late_entry_due_shown = record { rows = reverse late_entry_due_rows; history = reverse late_entry_due_events; ended = true }
 
 -- ---- lost_due
 
@@ -512,9 +489,8 @@ lost_due_rows = drive 1200 7 0x00280 ∷ drive 3600 7 0x00680 ∷ drive 4800 7 0
 abbrev lost_due_events : List Event
 lost_due_events = events.Accept (command 1) ∷ events.Lost (command 1) ∷ []
 
-lost_due_run : shows (run_by_due lost_due 131) ≡ record { rows = reverse lost_due_rows; history = reverse lost_due_events; ended = true }
-unfolding need_of sent_of ones union_below line_of form_out form_in least run_from
-lost_due_run = refl
+abbrev pub lost_due_shown : Shows
+lost_due_shown = record { rows = reverse lost_due_rows; history = reverse lost_due_events; ended = true }
 
 -- ---- many_pulses_due
 
@@ -537,9 +513,8 @@ many_pulses_due_rows = drive 1220 4 0x00210 ∷ drive 3640 4 0x00610 ∷ drive 4
 abbrev many_pulses_due_events : List Event
 many_pulses_due_events = events.Accept (command 1) ∷ events.Run (command 1) ∷ events.End (command 1) 2 ∷ events.Aborted 4 7 5 aborts.All ∷ events.Accept (sense 1) ∷ events.Run (sense 1) ∷ events.End (sense 1) 0 ∷ events.Aborted 4 7 5 (aborts.Tag 2) ∷ events.Accept (command 2) ∷ events.Run (command 2) ∷ events.End (command 2) 2 ∷ events.Accept (sense 2) ∷ events.Run (sense 2) ∷ events.End (sense 2) 0 ∷ events.Aborted 4 7 5 aborts.Device ∷ []
 
-many_pulses_due_run : shows (run_by_due many_pulses_due 514) ≡ record { rows = reverse many_pulses_due_rows; history = reverse many_pulses_due_events; ended = true }
-unfolding need_of sent_of ones union_below line_of form_out form_in least run_from
-many_pulses_due_run = refl
+abbrev pub many_pulses_due_shown : Shows
+many_pulses_due_shown = record { rows = reverse many_pulses_due_rows; history = reverse many_pulses_due_events; ended = true }
 
 -- ---- offset_255_due
 
@@ -562,9 +537,8 @@ offset_255_due_rows = drive 1200 5 0x00220 ∷ drive 1250 7 0x00280 ∷ drive 37
 abbrev offset_255_due_events : List Event
 offset_255_due_events = events.Accept (command 1) ∷ events.Run (command 1) ∷ events.End (command 1) 0 ∷ events.Accept (command 2) ∷ events.Run (command 2) ∷ events.End (command 2) 0 ∷ []
 
-offset_255_due_run : shows (run_by_due offset_255_due 229) ≡ record { rows = reverse offset_255_due_rows; history = reverse offset_255_due_events; ended = true }
-unfolding need_of sent_of ones union_below line_of form_out form_in least run_from
-offset_255_due_run = refl
+abbrev pub offset_255_due_shown : Shows
+offset_255_due_shown = record { rows = reverse offset_255_due_rows; history = reverse offset_255_due_events; ended = true }
 
 -- ---- one_pulse_at_a_time_due
 
@@ -587,9 +561,8 @@ one_pulse_at_a_time_due_rows = drive 1291 6 0x00240 ∷ drive 3782 6 0x00640 ∷
 abbrev one_pulse_at_a_time_due_events : List Event
 one_pulse_at_a_time_due_events = events.Accept (command 1) ∷ events.Run (command 1) ∷ events.End (command 1) 0 ∷ []
 
-one_pulse_at_a_time_due_run : shows (run_by_due one_pulse_at_a_time_due 203) ≡ record { rows = reverse one_pulse_at_a_time_due_rows; history = reverse one_pulse_at_a_time_due_events; ended = true }
-unfolding need_of sent_of ones union_below line_of form_out form_in least run_from
-one_pulse_at_a_time_due_run = refl
+abbrev pub one_pulse_at_a_time_due_shown : Shows
+one_pulse_at_a_time_due_shown = record { rows = reverse one_pulse_at_a_time_due_rows; history = reverse one_pulse_at_a_time_due_events; ended = true }
 
 -- ---- one_read_due
 
@@ -612,9 +585,8 @@ one_read_due_rows = drive 1200 7 0x00280 ∷ drive 3600 7 0x00680 ∷ drive 4800
 abbrev one_read_due_events : List Event
 one_read_due_events = events.Accept (command 1) ∷ events.Run (command 1) ∷ events.End (command 1) 0 ∷ []
 
-one_read_due_run : shows (run_by_due one_read_due 121) ≡ record { rows = reverse one_read_due_rows; history = reverse one_read_due_events; ended = true }
-unfolding need_of sent_of ones union_below line_of form_out form_in least run_from
-one_read_due_run = refl
+abbrev pub one_read_due_shown : Shows
+one_read_due_shown = record { rows = reverse one_read_due_rows; history = reverse one_read_due_events; ended = true }
 
 -- ---- opening_given_up_due
 
@@ -637,9 +609,8 @@ opening_given_up_due_rows = drive 1245 6 0x00240 ∷ drive 3690 6 0x00640 ∷ dr
 abbrev opening_given_up_due_events : List Event
 opening_given_up_due_events = events.Lost (command 1) ∷ []
 
-opening_given_up_due_run : shows (run_by_due opening_given_up_due 120) ≡ record { rows = reverse opening_given_up_due_rows; history = reverse opening_given_up_due_events; ended = true }
-unfolding need_of sent_of ones union_below line_of form_out form_in least run_from
-opening_given_up_due_run = refl
+abbrev pub opening_given_up_due_shown : Shows
+opening_given_up_due_shown = record { rows = reverse opening_given_up_due_rows; history = reverse opening_given_up_due_events; ended = true }
 
 -- ---- ordered_process_due
 
@@ -662,9 +633,8 @@ ordered_process_due_rows = drive 1205 3 0x00208 ∷ drive 3610 3 0x00608 ∷ dri
 abbrev ordered_process_due_events : List Event
 ordered_process_due_events = events.Accept (command 1) ∷ events.Run (command 1) ∷ events.End (command 1) 0 ∷ events.Accept (command 2) ∷ events.Accept (command 3) ∷ events.Run (command 2) ∷ events.End (command 2) 0 ∷ events.Run (command 3) ∷ events.End (command 3) 0 ∷ []
 
-ordered_process_due_run : shows (run_by_due ordered_process_due 256) ≡ record { rows = reverse ordered_process_due_rows; history = reverse ordered_process_due_events; ended = true }
-unfolding need_of sent_of ones union_below line_of form_out form_in least run_from
-ordered_process_due_run = refl
+abbrev pub ordered_process_due_shown : Shows
+ordered_process_due_shown = record { rows = reverse ordered_process_due_rows; history = reverse ordered_process_due_events; ended = true }
 
 -- ---- overlapping_resets_due
 
@@ -687,9 +657,8 @@ overlapping_resets_due_rows = drive 1222 7 0x00280 ∷ drive 3644 7 0x00680 ∷ 
 abbrev overlapping_resets_due_events : List Event
 overlapping_resets_due_events = events.Reset 7 ∷ events.Reset 3 ∷ events.Reset 1 ∷ events.Accept (command 2) ∷ events.Run (command 2) ∷ events.End (command 2) 0 ∷ []
 
-overlapping_resets_due_run : shows (run_by_due overlapping_resets_due 83) ≡ record { rows = reverse overlapping_resets_due_rows; history = reverse overlapping_resets_due_events; ended = true }
-unfolding need_of sent_of ones union_below line_of form_out form_in least run_from
-overlapping_resets_due_run = refl
+abbrev pub overlapping_resets_due_shown : Shows
+overlapping_resets_due_shown = record { rows = reverse overlapping_resets_due_rows; history = reverse overlapping_resets_due_events; ended = true }
 
 -- ---- own_processes_aborted_due
 
@@ -712,9 +681,8 @@ own_processes_aborted_due_rows = drive 1200 7 0x00280 ∷ drive 1220 5 0x00220 �
 abbrev own_processes_aborted_due_events : List Event
 own_processes_aborted_due_events = events.Accept (command 1) ∷ events.Accept (command 2) ∷ events.Aborted 7 2 6 aborts.All ∷ events.Run (command 2) ∷ events.End (command 2) 0 ∷ []
 
-own_processes_aborted_due_run : shows (run_by_due own_processes_aborted_due 144) ≡ record { rows = reverse own_processes_aborted_due_rows; history = reverse own_processes_aborted_due_events; ended = true }
-unfolding need_of sent_of ones union_below line_of form_out form_in least run_from
-own_processes_aborted_due_run = refl
+abbrev pub own_processes_aborted_due_shown : Shows
+own_processes_aborted_due_shown = record { rows = reverse own_processes_aborted_due_rows; history = reverse own_processes_aborted_due_events; ended = true }
 
 -- ---- pulsed_read_struck_due
 
@@ -737,9 +705,8 @@ pulsed_read_struck_due_rows = drive 1212 7 0x00280 ∷ drive 3624 7 0x00680 ∷ 
 abbrev pulsed_read_struck_due_events : List Event
 pulsed_read_struck_due_events = events.Accept (command 1) ∷ events.Run (command 1) ∷ events.End (command 1) 0 ∷ []
 
-pulsed_read_struck_due_run : shows (run_by_due pulsed_read_struck_due 268) ≡ record { rows = reverse pulsed_read_struck_due_rows; history = reverse pulsed_read_struck_due_events; ended = true }
-unfolding need_of sent_of ones union_below line_of form_out form_in least run_from
-pulsed_read_struck_due_run = refl
+abbrev pub pulsed_read_struck_due_shown : Shows
+pulsed_read_struck_due_shown = record { rows = reverse pulsed_read_struck_due_rows; history = reverse pulsed_read_struck_due_events; ended = true }
 
 -- ---- pulsed_write_struck_due
 
@@ -762,9 +729,8 @@ pulsed_write_struck_due_rows = drive 1228 3 0x00208 ∷ drive 3656 3 0x00608 ∷
 abbrev pulsed_write_struck_due_events : List Event
 pulsed_write_struck_due_events = events.Accept (command 1) ∷ events.Run (command 1) ∷ events.End (command 1) 0 ∷ []
 
-pulsed_write_struck_due_run : shows (run_by_due pulsed_write_struck_due 270) ≡ record { rows = reverse pulsed_write_struck_due_rows; history = reverse pulsed_write_struck_due_events; ended = true }
-unfolding need_of sent_of ones union_below line_of form_out form_in least run_from
-pulsed_write_struck_due_run = refl
+abbrev pub pulsed_write_struck_due_shown : Shows
+pulsed_write_struck_due_shown = record { rows = reverse pulsed_write_struck_due_rows; history = reverse pulsed_write_struck_due_events; ended = true }
 
 -- ---- pulses_out_due
 
@@ -787,9 +753,8 @@ pulses_out_due_rows = drive 1290 7 0x00280 ∷ drive 3780 7 0x00680 ∷ drive 50
 abbrev pulses_out_due_events : List Event
 pulses_out_due_events = events.Accept (command 1) ∷ events.Run (command 1) ∷ events.End (command 1) 0 ∷ []
 
-pulses_out_due_run : shows (run_by_due pulses_out_due 176) ≡ record { rows = reverse pulses_out_due_rows; history = reverse pulses_out_due_events; ended = true }
-unfolding need_of sent_of ones union_below line_of form_out form_in least run_from
-pulses_out_due_run = refl
+abbrev pub pulses_out_due_shown : Shows
+pulses_out_due_shown = record { rows = reverse pulses_out_due_rows; history = reverse pulses_out_due_events; ended = true }
 
 -- ---- queue_cleared_due
 
@@ -812,9 +777,8 @@ queue_cleared_due_rows = drive 1292 6 0x00240 ∷ drive 3784 6 0x00640 ∷ drive
 abbrev queue_cleared_due_events : List Event
 queue_cleared_due_events = events.Accept (command 1) ∷ events.Aborted 7 0 0 aborts.WholeQueue ∷ events.Accept (command 2) ∷ events.Run (command 2) ∷ events.End (command 2) 2 ∷ events.Accept (sense 2) ∷ events.Run (sense 2) ∷ events.End (sense 2) 0 ∷ []
 
-queue_cleared_due_run : shows (run_by_due queue_cleared_due 270) ≡ record { rows = reverse queue_cleared_due_rows; history = reverse queue_cleared_due_events; ended = true }
-unfolding need_of sent_of ones union_below line_of form_out form_in least run_from
-queue_cleared_due_run = refl
+abbrev pub queue_cleared_due_shown : Shows
+queue_cleared_due_shown = record { rows = reverse queue_cleared_due_rows; history = reverse queue_cleared_due_events; ended = true }
 
 -- ---- queue_orders_due
 
@@ -837,9 +801,8 @@ queue_orders_due_rows = drive 1200 7 0x00280 ∷ drive 3600 7 0x00680 ∷ drive 
 abbrev queue_orders_due_events : List Event
 queue_orders_due_events = events.Accept (command 1) ∷ events.Accept (command 2) ∷ events.Accept (command 3) ∷ events.Run (command 1) ∷ events.End (command 1) 0 ∷ events.Run (command 3) ∷ events.End (command 3) 0 ∷ events.Run (command 2) ∷ events.End (command 2) 0 ∷ []
 
-queue_orders_due_run : shows (run_by_due queue_orders_due 274) ≡ record { rows = reverse queue_orders_due_rows; history = reverse queue_orders_due_events; ended = true }
-unfolding need_of sent_of ones union_below line_of form_out form_in least run_from
-queue_orders_due_run = refl
+abbrev pub queue_orders_due_shown : Shows
+queue_orders_due_shown = record { rows = reverse queue_orders_due_rows; history = reverse queue_orders_due_events; ended = true }
 
 -- ---- ready_units_due
 
@@ -862,9 +825,8 @@ ready_units_due_rows = drive 1210 7 0x00280 ∷ drive 3620 7 0x00680 ∷ drive 4
 abbrev ready_units_due_events : List Event
 ready_units_due_events = events.Accept (command 1) ∷ events.Accept (command 2) ∷ events.Accept (command 3) ∷ events.Run (command 1) ∷ events.End (command 1) 0 ∷ events.Run (command 2) ∷ events.End (command 2) 0 ∷ events.Run (command 3) ∷ events.End (command 3) 0 ∷ []
 
-ready_units_due_run : shows (run_by_due ready_units_due 282) ≡ record { rows = reverse ready_units_due_rows; history = reverse ready_units_due_events; ended = true }
-unfolding need_of sent_of ones union_below line_of form_out form_in least run_from
-ready_units_due_run = refl
+abbrev pub ready_units_due_shown : Shows
+ready_units_due_shown = record { rows = reverse ready_units_due_rows; history = reverse ready_units_due_events; ended = true }
 
 -- ---- request_of_a_target_struck_due
 
@@ -887,9 +849,8 @@ request_of_a_target_struck_due_rows = drive 1200 5 0x00220 ∷ drive 3600 5 0x00
 abbrev request_of_a_target_struck_due_events : List Event
 request_of_a_target_struck_due_events = events.Accept (command 1) ∷ events.Run (command 1) ∷ events.End (command 1) 0 ∷ []
 
-request_of_a_target_struck_due_run : shows (run_by_due request_of_a_target_struck_due 180) ≡ record { rows = reverse request_of_a_target_struck_due_rows; history = reverse request_of_a_target_struck_due_events; ended = true }
-unfolding need_of sent_of ones union_below line_of form_out form_in least run_from
-request_of_a_target_struck_due_run = refl
+abbrev pub request_of_a_target_struck_due_shown : Shows
+request_of_a_target_struck_due_shown = record { rows = reverse request_of_a_target_struck_due_rows; history = reverse request_of_a_target_struck_due_events; ended = true }
 
 -- ---- requests_of_a_target_due
 
@@ -912,9 +873,8 @@ requests_of_a_target_due_rows = drive 1209 1 0x00202 ∷ drive 3618 1 0x00602 �
 abbrev requests_of_a_target_due_events : List Event
 requests_of_a_target_due_events = events.Accept (command 1) ∷ events.Run (command 1) ∷ events.End (command 1) 0 ∷ []
 
-requests_of_a_target_due_run : shows (run_by_due requests_of_a_target_due 179) ≡ record { rows = reverse requests_of_a_target_due_rows; history = reverse requests_of_a_target_due_events; ended = true }
-unfolding need_of sent_of ones union_below line_of form_out form_in least run_from
-requests_of_a_target_due_run = refl
+abbrev pub requests_of_a_target_due_shown : Shows
+requests_of_a_target_due_shown = record { rows = reverse requests_of_a_target_due_rows; history = reverse requests_of_a_target_due_events; ended = true }
 
 -- ---- reselected_id_struck_due
 
@@ -937,9 +897,8 @@ reselected_id_struck_due_rows = drive 1230 1 0x00202 ∷ drive 3660 1 0x00602 �
 abbrev reselected_id_struck_due_events : List Event
 reselected_id_struck_due_events = events.Accept (command 1) ∷ events.Run (command 1) ∷ events.End (command 1) 0 ∷ []
 
-reselected_id_struck_due_run : shows (run_by_due reselected_id_struck_due 81) ≡ record { rows = reverse reselected_id_struck_due_rows; history = reverse reselected_id_struck_due_events; ended = true }
-unfolding need_of sent_of ones union_below line_of form_out form_in least run_from
-reselected_id_struck_due_run = refl
+abbrev pub reselected_id_struck_due_shown : Shows
+reselected_id_struck_due_shown = record { rows = reverse reselected_id_struck_due_rows; history = reverse reselected_id_struck_due_events; ended = true }
 
 -- ---- reset_in_a_data_phase_due
 
@@ -962,9 +921,8 @@ reset_in_a_data_phase_due_rows = drive 1226 2 0x00204 ∷ drive 3652 2 0x00604 �
 abbrev reset_in_a_data_phase_due_events : List Event
 reset_in_a_data_phase_due_events = events.Accept (command 1) ∷ events.Reset 2 ∷ events.Accept (command 2) ∷ events.Run (command 2) ∷ events.End (command 2) 0 ∷ []
 
-reset_in_a_data_phase_due_run : shows (run_by_due reset_in_a_data_phase_due 250) ≡ record { rows = reverse reset_in_a_data_phase_due_rows; history = reverse reset_in_a_data_phase_due_events; ended = true }
-unfolding need_of sent_of ones union_below line_of form_out form_in least run_from
-reset_in_a_data_phase_due_run = refl
+abbrev pub reset_in_a_data_phase_due_shown : Shows
+reset_in_a_data_phase_due_shown = record { rows = reverse reset_in_a_data_phase_due_rows; history = reverse reset_in_a_data_phase_due_events; ended = true }
 
 -- ---- reset_in_a_reselection_due
 
@@ -987,9 +945,8 @@ reset_in_a_reselection_due_rows = drive 1204 7 0x00280 ∷ drive 3608 7 0x00680 
 abbrev reset_in_a_reselection_due_events : List Event
 reset_in_a_reselection_due_events = events.Accept (command 1) ∷ events.Reset 7 ∷ []
 
-reset_in_a_reselection_due_run : shows (run_by_due reset_in_a_reselection_due 58) ≡ record { rows = reverse reset_in_a_reselection_due_rows; history = reverse reset_in_a_reselection_due_events; ended = true }
-unfolding need_of sent_of ones union_below line_of form_out form_in least run_from
-reset_in_a_reselection_due_run = refl
+abbrev pub reset_in_a_reselection_due_shown : Shows
+reset_in_a_reselection_due_shown = record { rows = reverse reset_in_a_reselection_due_rows; history = reverse reset_in_a_reselection_due_events; ended = true }
 
 -- ---- reset_in_a_selection_due
 
@@ -1012,9 +969,8 @@ reset_in_a_selection_due_rows = drive 1212 5 0x00220 ∷ drive 3624 5 0x00620 �
 abbrev reset_in_a_selection_due_events : List Event
 reset_in_a_selection_due_events = events.Reset 4 ∷ events.Accept (command 1) ∷ events.Run (command 1) ∷ events.End (command 1) 2 ∷ events.Accept (sense 1) ∷ events.Run (sense 1) ∷ events.End (sense 1) 0 ∷ events.Accept (command 2) ∷ events.Run (command 2) ∷ events.End (command 2) 0 ∷ []
 
-reset_in_a_selection_due_run : shows (run_by_due reset_in_a_selection_due 245) ≡ record { rows = reverse reset_in_a_selection_due_rows; history = reverse reset_in_a_selection_due_events; ended = true }
-unfolding need_of sent_of ones union_below line_of form_out form_in least run_from
-reset_in_a_selection_due_run = refl
+abbrev pub reset_in_a_selection_due_shown : Shows
+reset_in_a_selection_due_shown = record { rows = reverse reset_in_a_selection_due_rows; history = reverse reset_in_a_selection_due_events; ended = true }
 
 -- ---- resets_dropped_due
 
@@ -1037,9 +993,8 @@ resets_dropped_due_rows = drive 1240 7 0x00280 ∷ drive 3680 7 0x00680 ∷ driv
 abbrev resets_dropped_due_events : List Event
 resets_dropped_due_events = events.Reset 1 ∷ events.Reset 7 ∷ []
 
-resets_dropped_due_run : shows (run_by_due resets_dropped_due 40) ≡ record { rows = reverse resets_dropped_due_rows; history = reverse resets_dropped_due_events; ended = true }
-unfolding need_of sent_of ones union_below line_of form_out form_in least run_from
-resets_dropped_due_run = refl
+abbrev pub resets_dropped_due_shown : Shows
+resets_dropped_due_shown = record { rows = reverse resets_dropped_due_rows; history = reverse resets_dropped_due_events; ended = true }
 
 -- ---- selected_id_struck_due
 
@@ -1062,9 +1017,8 @@ selected_id_struck_due_rows = drive 1218 7 0x00280 ∷ drive 3636 7 0x00680 ∷ 
 abbrev selected_id_struck_due_events : List Event
 selected_id_struck_due_events = events.Accept (command 1) ∷ events.Run (command 1) ∷ events.End (command 1) 0 ∷ []
 
-selected_id_struck_due_run : shows (run_by_due selected_id_struck_due 63) ≡ record { rows = reverse selected_id_struck_due_rows; history = reverse selected_id_struck_due_events; ended = true }
-unfolding need_of sent_of ones union_below line_of form_out form_in least run_from
-selected_id_struck_due_run = refl
+abbrev pub selected_id_struck_due_shown : Shows
+selected_id_struck_due_shown = record { rows = reverse selected_id_struck_due_rows; history = reverse selected_id_struck_due_events; ended = true }
 
 -- ---- status_given_up_due
 
@@ -1087,9 +1041,8 @@ status_given_up_due_rows = drive 1210 6 0x00240 ∷ drive 3620 6 0x00640 ∷ dri
 abbrev status_given_up_due_events : List Event
 status_given_up_due_events = events.Accept (command 1) ∷ events.Run (command 1) ∷ events.Lost (command 1) ∷ []
 
-status_given_up_due_run : shows (run_by_due status_given_up_due 76) ≡ record { rows = reverse status_given_up_due_rows; history = reverse status_given_up_due_events; ended = true }
-unfolding need_of sent_of ones union_below line_of form_out form_in least run_from
-status_given_up_due_run = refl
+abbrev pub status_given_up_due_shown : Shows
+status_given_up_due_shown = record { rows = reverse status_given_up_due_rows; history = reverse status_given_up_due_events; ended = true }
 
 -- ---- status_struck_due
 
@@ -1112,9 +1065,8 @@ status_struck_due_rows = drive 1295 4 0x00210 ∷ drive 3790 4 0x00610 ∷ drive
 abbrev status_struck_due_events : List Event
 status_struck_due_events = events.Accept (command 1) ∷ events.Run (command 1) ∷ events.End (command 1) 0 ∷ []
 
-status_struck_due_run : shows (run_by_due status_struck_due 74) ≡ record { rows = reverse status_struck_due_rows; history = reverse status_struck_due_events; ended = true }
-unfolding need_of sent_of ones union_below line_of form_out form_in least run_from
-status_struck_due_run = refl
+abbrev pub status_struck_due_shown : Shows
+status_struck_due_shown = record { rows = reverse status_struck_due_rows; history = reverse status_struck_due_events; ended = true }
 
 -- ---- struck_names_due
 
@@ -1137,9 +1089,8 @@ struck_names_due_rows = drive 1200 7 0x00280 ∷ drive 3600 7 0x00680 ∷ drive 
 abbrev struck_names_due_events : List Event
 struck_names_due_events = events.Accept (command 1) ∷ events.Run (command 1) ∷ events.End (command 1) 2 ∷ events.Accept (sense 1) ∷ events.Run (sense 1) ∷ events.End (sense 1) 0 ∷ []
 
-struck_names_due_run : shows (run_by_due struck_names_due 367) ≡ record { rows = reverse struck_names_due_rows; history = reverse struck_names_due_events; ended = true }
-unfolding need_of sent_of ones union_below line_of form_out form_in least run_from
-struck_names_due_run = refl
+abbrev pub struck_names_due_shown : Shows
+struck_names_due_shown = record { rows = reverse struck_names_due_rows; history = reverse struck_names_due_events; ended = true }
 
 -- ---- tag_aborted_due
 
@@ -1162,9 +1113,8 @@ tag_aborted_due_rows = drive 1208 7 0x00280 ∷ drive 3616 7 0x00680 ∷ drive 4
 abbrev tag_aborted_due_events : List Event
 tag_aborted_due_events = events.Accept (command 1) ∷ events.Accept (command 2) ∷ events.Aborted 7 3 0 (aborts.Tag 5) ∷ events.Run (command 2) ∷ events.End (command 2) 0 ∷ []
 
-tag_aborted_due_run : shows (run_by_due tag_aborted_due 180) ≡ record { rows = reverse tag_aborted_due_rows; history = reverse tag_aborted_due_events; ended = true }
-unfolding need_of sent_of ones union_below line_of form_out form_in least run_from
-tag_aborted_due_run = refl
+abbrev pub tag_aborted_due_shown : Shows
+tag_aborted_due_shown = record { rows = reverse tag_aborted_due_rows; history = reverse tag_aborted_due_events; ended = true }
 
 -- ---- tagged_opening_struck_due
 
@@ -1187,9 +1137,8 @@ tagged_opening_struck_due_rows = drive 1207 5 0x00220 ∷ drive 3614 5 0x00620 �
 abbrev tagged_opening_struck_due_events : List Event
 tagged_opening_struck_due_events = events.Accept (command 1) ∷ events.Run (command 1) ∷ events.End (command 1) 0 ∷ []
 
-tagged_opening_struck_due_run : shows (run_by_due tagged_opening_struck_due 98) ≡ record { rows = reverse tagged_opening_struck_due_rows; history = reverse tagged_opening_struck_due_events; ended = true }
-unfolding need_of sent_of ones union_below line_of form_out form_in least run_from
-tagged_opening_struck_due_run = refl
+abbrev pub tagged_opening_struck_due_shown : Shows
+tagged_opening_struck_due_shown = record { rows = reverse tagged_opening_struck_due_rows; history = reverse tagged_opening_struck_due_events; ended = true }
 
 -- ---- text_two_due
 
@@ -1212,9 +1161,8 @@ text_two_due_rows = drive 1203 6 0x00240 ∷ drive 3606 6 0x00640 ∷ drive 4809
 abbrev text_two_due_events : List Event
 text_two_due_events = events.Accept (command 1) ∷ events.Reset 1 ∷ events.Accept (command 2) ∷ events.Accept (command 3) ∷ events.Run (command 2) ∷ events.End (command 2) 2 ∷ events.Accept (sense 2) ∷ events.Run (sense 2) ∷ events.End (sense 2) 0 ∷ events.Run (command 3) ∷ events.End (command 3) 0 ∷ []
 
-text_two_due_run : shows (run_by_due text_two_due 711) ≡ record { rows = reverse text_two_due_rows; history = reverse text_two_due_events; ended = true }
-unfolding need_of sent_of ones union_below line_of form_out form_in least run_from
-text_two_due_run = refl
+abbrev pub text_two_due_shown : Shows
+text_two_due_shown = record { rows = reverse text_two_due_rows; history = reverse text_two_due_events; ended = true }
 
 -- ---- three_contenders_due
 
@@ -1237,9 +1185,8 @@ three_contenders_due_rows = drive 1200 4 0x00210 ∷ drive 1230 2 0x00204 ∷ dr
 abbrev three_contenders_due_events : List Event
 three_contenders_due_events = events.Accept (command 2) ∷ events.Run (command 2) ∷ events.End (command 2) 0 ∷ events.Accept (command 3) ∷ events.Run (command 3) ∷ events.End (command 3) 0 ∷ events.Accept (command 1) ∷ events.Run (command 1) ∷ events.End (command 1) 0 ∷ []
 
-three_contenders_due_run : shows (run_by_due three_contenders_due 182) ≡ record { rows = reverse three_contenders_due_rows; history = reverse three_contenders_due_events; ended = true }
-unfolding need_of sent_of ones union_below line_of form_out form_in least run_from
-three_contenders_due_run = refl
+abbrev pub three_contenders_due_shown : Shows
+three_contenders_due_shown = record { rows = reverse three_contenders_due_rows; history = reverse three_contenders_due_events; ended = true }
 
 -- ---- two_acks_in_one_latency_due
 
@@ -1262,9 +1209,8 @@ two_acks_in_one_latency_due_rows = drive 1280 7 0x00280 ∷ drive 3760 7 0x00680
 abbrev two_acks_in_one_latency_due_events : List Event
 two_acks_in_one_latency_due_events = events.Accept (command 1) ∷ events.Run (command 1) ∷ events.End (command 1) 0 ∷ []
 
-two_acks_in_one_latency_due_run : shows (run_by_due two_acks_in_one_latency_due 192) ≡ record { rows = reverse two_acks_in_one_latency_due_rows; history = reverse two_acks_in_one_latency_due_events; ended = true }
-unfolding need_of sent_of ones union_below line_of form_out form_in least run_from
-two_acks_in_one_latency_due_run = refl
+abbrev pub two_acks_in_one_latency_due_shown : Shows
+two_acks_in_one_latency_due_shown = record { rows = reverse two_acks_in_one_latency_due_rows; history = reverse two_acks_in_one_latency_due_events; ended = true }
 
 -- ---- unanswered_due
 
@@ -1287,9 +1233,8 @@ unanswered_due_rows = drive 1205 7 0x00280 ∷ drive 3610 7 0x00680 ∷ drive 48
 abbrev unanswered_due_events : List Event
 unanswered_due_events = events.Accept (command 2) ∷ events.Run (command 2) ∷ events.End (command 2) 0 ∷ []
 
-unanswered_due_run : shows (run_by_due unanswered_due 80) ≡ record { rows = reverse unanswered_due_rows; history = reverse unanswered_due_events; ended = true }
-unfolding need_of sent_of ones union_below line_of form_out form_in least run_from
-unanswered_due_run = refl
+abbrev pub unanswered_due_shown : Shows
+unanswered_due_shown = record { rows = reverse unanswered_due_rows; history = reverse unanswered_due_events; ended = true }
 
 -- ---- wide_offset_with_lag_due
 
@@ -1312,9 +1257,8 @@ wide_offset_with_lag_due_rows = drive 1200 3 0x00208 ∷ drive 3600 3 0x00608 �
 abbrev wide_offset_with_lag_due_events : List Event
 wide_offset_with_lag_due_events = events.Accept (command 1) ∷ events.Run (command 1) ∷ events.End (command 1) 0 ∷ []
 
-wide_offset_with_lag_due_run : shows (run_by_due wide_offset_with_lag_due 184) ≡ record { rows = reverse wide_offset_with_lag_due_rows; history = reverse wide_offset_with_lag_due_events; ended = true }
-unfolding need_of sent_of ones union_below line_of form_out form_in least run_from
-wide_offset_with_lag_due_run = refl
+abbrev pub wide_offset_with_lag_due_shown : Shows
+wide_offset_with_lag_due_shown = record { rows = reverse wide_offset_with_lag_due_rows; history = reverse wide_offset_with_lag_due_events; ended = true }
 
 -- ---- called_again_for_sense_due
 
@@ -1337,9 +1281,8 @@ called_again_for_sense_due_rows = drive 1200 7 0x00280 ∷ drive 3600 7 0x00680 
 abbrev called_again_for_sense_due_events : List Event
 called_again_for_sense_due_events = events.Accept (command 1) ∷ events.Run (command 1) ∷ events.End (command 1) 2 ∷ events.Accept (sense 1) ∷ events.Run (sense 1) ∷ events.End (sense 1) 0 ∷ []
 
-called_again_for_sense_due_run : shows (run_by_due called_again_for_sense_due 191) ≡ record { rows = reverse called_again_for_sense_due_rows; history = reverse called_again_for_sense_due_events; ended = true }
-unfolding need_of sent_of ones union_below line_of form_out form_in least run_from
-called_again_for_sense_due_run = refl
+abbrev pub called_again_for_sense_due_shown : Shows
+called_again_for_sense_due_shown = record { rows = reverse called_again_for_sense_due_rows; history = reverse called_again_for_sense_due_events; ended = true }
 
 -- ---- failures_due
 
@@ -1362,9 +1305,8 @@ failures_due_rows = drive 24181 3 0x00208 ∷ drive 26681 3 0x00608 ∷ drive 27
 abbrev failures_due_events : List Event
 failures_due_events = events.Fail (command 1) 71 ∷ events.End (command 1) 2 ∷ events.Reset 0 ∷ events.Fail (command 2) 71 ∷ events.End (command 2) 2 ∷ events.Accept (sense 2) ∷ events.Reset 1 ∷ events.Aborted 3 0 0 aborts.WholeQueue ∷ events.Aborted 3 1 4 (aborts.Tag 255) ∷ events.Accept (command 3) ∷ events.Run (command 3) ∷ events.End (command 3) 2 ∷ events.Accept (sense 3) ∷ events.Run (sense 3) ∷ events.End (sense 3) 0 ∷ []
 
-failures_due_run : shows (run_by_due failures_due 471) ≡ record { rows = reverse failures_due_rows; history = reverse failures_due_events; ended = true }
-unfolding need_of sent_of ones union_below line_of form_out form_in least run_from
-failures_due_run = refl
+abbrev pub failures_due_shown : Shows
+failures_due_shown = record { rows = reverse failures_due_rows; history = reverse failures_due_events; ended = true }
 
 -- ---- negotiation_due
 
@@ -1387,9 +1329,8 @@ negotiation_due_rows = drive 1200 7 0x00280 ∷ drive 3600 7 0x00680 ∷ drive 4
 abbrev negotiation_due_events : List Event
 negotiation_due_events = events.Accept (command 1) ∷ events.Run (command 1) ∷ events.End (command 1) 0 ∷ []
 
-negotiation_due_run : shows (run_by_due negotiation_due 201) ≡ record { rows = reverse negotiation_due_rows; history = reverse negotiation_due_events; ended = true }
-unfolding need_of sent_of ones union_below line_of form_out form_in least run_from
-negotiation_due_run = refl
+abbrev pub negotiation_due_shown : Shows
+negotiation_due_shown = record { rows = reverse negotiation_due_rows; history = reverse negotiation_due_events; ended = true }
 
 -- ---- read_whole_after_a_part_due
 
@@ -1412,9 +1353,8 @@ read_whole_after_a_part_due_rows = drive 1200 7 0x00280 ∷ drive 3600 7 0x00680
 abbrev read_whole_after_a_part_due_events : List Event
 read_whole_after_a_part_due_events = events.Accept (command 1) ∷ events.Run (command 1) ∷ events.End (command 1) 0 ∷ []
 
-read_whole_after_a_part_due_run : shows (run_by_due read_whole_after_a_part_due 336) ≡ record { rows = reverse read_whole_after_a_part_due_rows; history = reverse read_whole_after_a_part_due_events; ended = true }
-unfolding need_of sent_of ones union_below line_of form_out form_in least run_from
-read_whole_after_a_part_due_run = refl
+abbrev pub read_whole_after_a_part_due_shown : Shows
+read_whole_after_a_part_due_shown = record { rows = reverse read_whole_after_a_part_due_rows; history = reverse read_whole_after_a_part_due_events; ended = true }
 
 -- ---- two_aborts_due
 
@@ -1437,6 +1377,5 @@ two_aborts_due_rows = drive 89108 3 0x00208 ∷ drive 91508 3 0x00608 ∷ drive 
 abbrev two_aborts_due_events : List Event
 two_aborts_due_events = events.Accept (command 1) ∷ events.Run (command 1) ∷ events.End (command 1) 2 ∷ events.Aborted 3 1 2 (aborts.Tag 2) ∷ events.Aborted 3 4 7 aborts.Device ∷ events.Accept (sense 1) ∷ events.Run (sense 1) ∷ events.End (sense 1) 0 ∷ []
 
-two_aborts_due_run : shows (run_by_due two_aborts_due 376) ≡ record { rows = reverse two_aborts_due_rows; history = reverse two_aborts_due_events; ended = true }
-unfolding need_of sent_of ones union_below line_of form_out form_in least run_from
-two_aborts_due_run = refl
+abbrev pub two_aborts_due_shown : Shows
+two_aborts_due_shown = record { rows = reverse two_aborts_due_rows; history = reverse two_aborts_due_events; ended = true }

@@ -7,6 +7,7 @@ pub mod Plains
 mod Reactions
 mod Rights
 mod Runs
+mod RunCases
 mod SeamCases
 pub mod Seams
 pub mod Stills

@@ -3,4 +3,3 @@ pub mod Running
 pub mod DataRows
 pub mod Past
 pub mod First
-mod Cases

@@ -62,7 +62,7 @@ pub fn message_in(dialogue: &Dialogue, change: &Change, crosses: bool) -> Option
     whole_in(bytes.take_in(change.after.data()))
 }
 
-/// Whether it is MESSAGE PARITY ERROR (6.6.14).
+/// Whether it is MESSAGE PARITY ERROR (6.6.13).
 pub fn is_parity_error(message: MsgOut) -> bool
     ensures { result ≡ is_parity_error message }
 {

@@ -40,7 +40,7 @@ abbrev pub is_inside : Option UnitState → ProcId → Bool
 is_inside None id = false
 is_inside (Some u) id = waits_in u.waiting id || is_some (running_if u.current id)
 
--- It stands outside the queue; one that has no reply yet at a unit that is there is a REQUEST SENSE (7.5).
+-- It stands outside the queue; one that has no reply yet at a unit that is there is a REQUEST SENSE (8.2.14).
 pub record IsGuest (seat : Seat) (p : Process) (reply : Option Reply) : Type 0 where
   pub guest : RunningProcess
   pub at : guest_at seat.guests p.id ≡ Some guest

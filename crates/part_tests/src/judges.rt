@@ -1,5 +1,5 @@
 //! Tests of `bus_rules` and `trace_checker`: one arbitration, before the judge of whole traces and, row by row,
-//! before the other. The kernel computes more traces in `proofs/Cases.antt` of `bus_rules`.
+//! before the other. The kernel computes more traces in `proofs/RuleCases.antt` of `bus_cases`.
 
 use crate::driven_rows::drive;
 use bus_rules::{Verdict, broken, broken_end, judge_plain};

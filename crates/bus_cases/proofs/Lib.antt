@@ -1,0 +1,3 @@
+mod RuleCases
+mod RunCases
+mod SeamCases
