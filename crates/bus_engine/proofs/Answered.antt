@@ -31,8 +31,8 @@ use Rattle.right_laws.proofs.Right.{all_joined}
 use Rattle.initiator.specs.Causes.{has_status}
 use Rattle.initiator.specs.Received.{undoes_no_byte}
 use Rattle.bus_members.specs.Answers.{are_answered, are_answered_from, are_replied_from, is_answered, is_replied, is_settled, sense_is_over}
-use Rattle.bus_engine.proofs.Checks.{checks_stand}
-use Rattle.bus_engine.proofs.EndStatuses.{all_ended, end_found, end_reply}
+use Rattle.delivery_laws.proofs.Checks.{checks_stand}
+use Rattle.delivery_laws.proofs.EndStatuses.{all_ended, end_found, end_reply}
 use Rattle.bus_engine.proofs.ListedReplies.{all_given, is_known}
 use Rattle.bus_engine.proofs.RanTargets.{ran_there}
 use Rattle.bus_engine.proofs.Replied.{HaveReplies, all_replied}

@@ -9,8 +9,6 @@ mod Seams
 mod Attendance
 pub mod Undone
 pub mod ListedReplies
-pub mod Checks
-pub mod EndStatuses
 pub mod Settled
 pub mod Replied
 pub mod Answered

@@ -29,7 +29,7 @@ use Rattle.right_laws.proofs.Carried.{same_is}
 use Rattle.initiator.specs.Causes.{has_status, is_status_of}
 use Rattle.initiator.specs.Received.{room_of}
 use Rattle.bus_members.specs.Answers.{are_replied_from, is_good, is_replied, is_reply}
-use Rattle.bus_engine.proofs.EndStatuses.{HasReply}
+use Rattle.delivery_laws.proofs.EndStatuses.{HasReply}
 use Rattle.bus_engine.proofs.ListedReplies.{AreGiven}
 use Rattle.trace_laws.proofs.Tests.{plus_one}
 

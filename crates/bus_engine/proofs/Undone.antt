@@ -15,16 +15,11 @@ use Rattle.bus_due.specs.Next.{IsPrompt}
 use Rattle.bus_due.specs.RunState.{RunState}
 use Rattle.bus_due.specs.RunSteps.{run_state}
 use Rattle.trace_laws.proofs.Whole.{Whole, standing_next, whole}
-use Rattle.right_laws.specs.Loads.{Load, UndoesLoads, UndoLoadFacts}
+use Rattle.right_laws.specs.Loads.{Load, UndoesLoads}
 use Rattle.right_laws.proofs.Carried.{same_is}
-use Rattle.right_laws.proofs.UndoneLoads.{load_asks, load_next, load_start}
+use Rattle.right_laws.proofs.UndoneLoads.{load_asks}
+use Rattle.delivery_laws.proofs.EndStatuses.{undo_loads}
 use Rattle.initiator.specs.Received.{has_bytes_of, undone_by, undoes_no_byte}
-
-pub undo_loads : (s : ScenarioValue) (p : List Row) → Obeys s → IsPrompt s p → UndoLoadFacts s p
-undo_loads s [] o prompt = load_start s
-undo_loads s (row ∷ p) o prompt =
-    let w : Whole s p = whole s p o prompt.0 in
-    load_next s p row o prompt w.stood (standing_next s p row o prompt w) (undo_loads s p o prompt.0)
 
 bytes_undone : (s : ScenarioValue) (k : RunState) (row : Row) → UndoesLoads k row → has_bytes_of k.story.carried (undone_by k.story.link (row_reading k.story.bus_state row).out) ≡ true
 bytes_undone s k row undoes = go k.story.link refl (row_reading k.story.bus_state row).out refl

@@ -18,6 +18,7 @@ use Rattle.initiator.specs.Outcomes.{told_outcome}
 use Rattle.bus_run.specs.Runs.{AreEarly, IsLong}
 use Rattle.run_record.specs.Value.{RunValue}
 use Rattle.bus_transcript.specs.Events.{TellsHistory}
+use Rattle.delivery_laws.specs.Delivery.{AreCaused, AreStoppedSenses, IsDelivered}
 use Rattle.bus_engine.specs.Limits.{row_limit, step_limit}
 
 abbrev pub told_reply : Outcome → Option told.Outcome
@@ -31,7 +32,9 @@ rows_of run = reverse run.rows
 -- plain disk array permits, each reply is the outcome that they tell, and its disks hold what the array holds after that
 -- history; the rows and the end obey every rule of the bus, the fault rows are those of the scenario, and no line is true at
 -- the end. Each process that ran and ended carried just its own bytes. The transcript of the rows has the events of that history, with
--- the names of processes in place of numbers.
+-- the names of processes in place of numbers. Where queues have room and there is no reset and no abort, each valid command that no more faults
+-- struck than it bears ended GOOD; every other outcome has its cause; and only where its automatic REQUEST SENSE was stopped is a command
+-- without the sense of its CHECK CONDITION.
 pub record IsPromptRun (s : ScenarioValue) (run : RunValue) : Type 0 where
   pub prompt : IsPrompt s (rows_of run)
   pub lawful : IsLawful (rows_of run) run.end
@@ -44,6 +47,9 @@ pub record IsPromptRun (s : ScenarioValue) (run : RunValue) : Type 0 where
   pub replies : map told_reply run.replies ≡ outcomes s (story s (rows_of run))
   pub disks : run.disks ≡ disks_of (array_after s (trace_history s (rows_of run)))
   pub transcript : TellsHistory s (rows_of run)
+  pub delivered : IsDelivered s (rows_of run)
+  pub caused : AreCaused s (rows_of run)
+  pub stopped : AreStoppedSenses s (rows_of run)
 
 -- Each row is of one of the eight devices and comes before 2^62 ns, the end is the time of the last, the rows are fewer than the
 -- budget allows, and there are as many replies as commands and as many disks as units.

@@ -29,6 +29,9 @@ use bus_base::{NoMemory, Steps};
 use bus_due::{kept_is_plain, wants_are_items};
 use bus_members::{Member, member_places, runs_end};
 use bus_run::{RunEnd, Trace, rows_tie_devices};
+use delivery_laws::{
+    outcomes_have_causes, senseless_checks_were_stopped, valid_commands_are_delivered,
+};
 use disk_array::arrays_are_sound;
 use disk_unit::SparseBlocks;
 use fault_laws::fault_rows_are_of_the_scenario;
@@ -128,6 +131,9 @@ fn run_in<L: Ledger>(
     transcripts_follow_prompt_traces();
     wants_are_items();
     endings_have_causes();
+    valid_commands_are_delivered();
+    outcomes_have_causes();
+    senseless_checks_were_stopped();
     let trace = bus_run::run(alloc, scenario, places, most_rows(scenario), steps)?;
     Ok(finish(alloc, scenario, places, trace)?)
 }

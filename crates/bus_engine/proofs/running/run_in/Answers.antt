@@ -19,6 +19,7 @@ use Rattle.bus_run.specs.declared.running.RunEnd.{RunEnd}
 use Rattle.bus_story.specs.Right.{all_carried}
 use Rattle.bus_transcript.specs.Events.{TellsHistory}
 use Rattle.progress_laws.proofs.Ended.{joined}
+use Rattle.delivery_laws.specs.Delivery.{AreCaused, AreStoppedSenses, IsDelivered}
 use Rattle.bus_engine.specs.Limits.{row_limit}
 use Rattle.bus_engine.proofs.Answered.{all_answered}
 use Rattle.bus_engine.proofs.Items.{all_reversed}
@@ -78,6 +79,9 @@ returns-clause-exact g c = λ at.
                 c.in_ok-finish.ensures.disks all plain (c.rows_tie_devices.ensures.allowed s all (h all prompt few)) places
                 ∙ ap (λ (l : List Row). disks_of (array_after s (trace_history s (reverse l)))) (sym r);
             transcript = subst (λ (l : List Row). TellsHistory s (reverse l)) (sym r) (c.transcripts_follow_prompt_traces.ensures s all c.requires.lawful prompt);
+            delivered = subst (λ (l : List Row). IsDelivered s (reverse l)) (sym r) (c.valid_commands_are_delivered.ensures.faulted s all c.requires.lawful prompt ended);
+            caused = subst (λ (l : List Row). AreCaused s (reverse l)) (sym r) (c.outcomes_have_causes.ensures s all c.requires.lawful prompt);
+            stopped = subst (λ (l : List Row). AreStoppedSenses s (reverse l)) (sym r) (c.senseless_checks_were_stopped.ensures s all c.requires.lawful prompt ended);
           };
       devices = subst (λ (l : List Row). AreOfDevices l) (sym r) (all_reversed (λ (row : Row). row.dev < 8) items c.in_ok-trace.ensures.devices);
       early = subst (λ (l : List Row). AreEarly l) (sym r) (all_reversed (λ (row : Row). row.time < 2 ^ 62) items c.in_ok-trace.ensures.early);

@@ -1,0 +1,712 @@
+-- A calling of a device that is there ends without an answer only where a fault struck the IDs that it sampled; so an initiator calls in
+-- vain for an item no more often than faults struck its callings for it (6.1.3, 6.1.3.1).
+use Rattle.std.proofs.Common.{ℕ, ◌≡◌, ◌⊎◌, inl, inr, ◌<◌, ◌≤◌, ◌+◌, ◌^◌, Bool, true, false, not, ◌&&◌, ◌||◌, ◌∙◌, List, [], ◌∷◌, Option, Some, None, refl, sym, ap, subst, arith}
+use Rattle.std.specs.Prelude.{if◌then◌else◌, ◌==◌, ◌++◌, is_none, is_some, nat_lt}
+use Rattle.std.specs.List.{list_any}
+use Rattle.std.proofs.lemmas.Bool.{cases_eq, eqb-true}
+use Rattle.std.proofs.lemmas.Bool.Decides.{nat_tests}
+use Rattle.std.proofs.lemmas.Option.{same_Some}
+use Rattle.bus_base.specs.declared.Event.{Event}
+use Rattle.bus_base.specs.declared.Event.TheVariants as events
+use Rattle.cdb_codec.specs.declared.status.TheConstants.{CHECK_CONDITION}
+use Rattle.bus_base.proofs.Tests.{wrong, wrong', and_false, and_first, and_second, none_between}
+use Rattle.bus_trace.specs.LineSet.{LineSet, none, union}
+use Rattle.bus_trace.specs.declared.Row.{Row}
+use Rattle.bus_trace.specs.declared.Kind.{Kind}
+use Rattle.bus_trace.specs.declared.Kind.TheVariants.{Drives}
+use Rattle.bus_trace.specs.declared.changes.Change.{Change}
+use Rattle.bus_trace.specs.declared.connection.Connection.{Connection}
+use Rattle.bus_trace.specs.declared.selection.Call.{Call}
+use Rattle.bus_trace.specs.declared.selection.Calling.{Calling}
+use Rattle.bus_trace.specs.Changes.{change_of, rises, falls}
+use Rattle.bus_trace.specs.Terms.{call, calling_after, caller_goes_on, called_goes_on, connection, drives_two_ids, is_fault, new_calling, when}
+use Rattle.bus_trace.specs.Trace.{bus, drives, driven_after, line_times}
+use Rattle.bus_trace.proofs.Buses.{bus_on}
+use Rattle.bus_trace.proofs.OneRow.{drives-other}
+use Rattle.bus_trace.proofs.Sets.{same_set-eq}
+use Rattle.bus_lines.specs.declared.stage.Stage.TheVariants.{InCalling}
+use Rattle.bus_lines.specs.Stage.{stage}
+use Rattle.bus_rules.specs.Reset.{only_rst}
+use Rattle.bus_rules.specs.Rules.{broken_rule}
+use Rattle.bus_rules.proofs.First.{row_none}
+use Rattle.scenario.specs.declared.value.CmdDef.{CmdDef}
+use Rattle.scenario.specs.Lookups.{has_target}
+use Rattle.scenario.specs.Value.{ScenarioValue}
+use Rattle.scenario.specs.Writing.{Obeys}
+use Rattle.disk_array.specs.Processes.{command_at, process_if}
+use Rattle.bus_story.specs.BusState.{RowReading, row_reading}
+use Rattle.bus_story.specs.HistoryEvents.{row_events_by}
+use Rattle.bus_story.specs.Items.{Item, process, abort, same_item, count_item, is_open, command_id, command_item, sense_item}
+use Rattle.bus_story.specs.Links.{link_of}
+use Rattle.bus_story.specs.Samples.{latency_of}
+use Rattle.bus_story.specs.Outcomes.{ending_of}
+use Rattle.bus_story.specs.Story.{Story, Ending, by_status, by_abort, by_reset, unanswered, story_with_over, story_with_end, story_with_ends, is_aborted, is_sense_stopped, story_after_event, story_after_events, story_with_end_if}
+use Rattle.bus_story.specs.TraceHistory.{aim_of, is_arbitration_entry, retries_of, story_after_calling, story_after_calling_by, story_after_connection, story_by_change, story_on_bus, story_on_free_bus, story_with_aim, story_with_restored, story_with_sent, story_with_try, story_without_answer}
+use Rattle.bus_story.proofs.StorySteps.{events_aims, restored_aims, sent_aims}
+use Rattle.bus_reactions.specs.declared.due.Due.{Due}
+use Rattle.bus_dialogue.specs.PhaseBytes.{one_if}
+use Rattle.bus_books.proofs.Aims.{connected_aims}
+use Rattle.bus_due.specs.Least.{IsLeast}
+use Rattle.bus_due.specs.Next.{due, IsPrompt}
+use Rattle.bus_due.specs.Plain.{AreOfDevices, IsPlain}
+use Rattle.bus_due.specs.RunState.{RunState}
+use Rattle.bus_due.specs.RunSteps.{run_state}
+use Rattle.bus_due.specs.Wants.{initiator_if, ready_of, target_if, target_of}
+use Rattle.bus_due.proofs.Plains.{run_state_plain}
+use Rattle.bus_laws.specs.Callings.{answer_lines, begun_call, calling_lines, awaiting_call, both_ids, won_call}
+use Rattle.bus_laws.specs.Reactions.{own_time, unreset_due}
+use Rattle.bus_laws.specs.Rows.{row_of_lines}
+use Rattle.bus_laws.specs.Stages.{HasShortLatencies, CalmStanding, BusStage, on_free_bus, in_arbitration, after_arbitration, with_both_ids, awaiting_answer, after_withdrawal, after_answer, after_takeover, in_reset, in_connection, AwaitsAnswer, Calls}
+use Rattle.bus_laws.proofs.Apart.{change_plain}
+use Rattle.bus_laws.proofs.CallDues.{asks_due, answers_due, waits_due, flip_at}
+use Rattle.bus_laws.proofs.Dues.{is_there, is_at}
+use Rattle.bus_laws.proofs.FromCalling.{answer_exists, ids_not_zero}
+use Rattle.bus_laws.proofs.Limits.{obeys_latencies}
+use Rattle.bus_laws.proofs.Prompt.{least_is}
+use Rattle.bus_laws.proofs.Rows.{drives_own, stage_is}
+use Rattle.bus_laws.proofs.Together.{reset_or_calm, by_reset, by_calm}
+use Rattle.link_laws.proofs.Traces.{sides_are}
+use Rattle.trace_laws.proofs.Called.{IsDueCall, sel_of_call}
+use Rattle.trace_laws.proofs.FirstRows.{quiet_sel, under_rst}
+use Rattle.trace_laws.proofs.Impossible.{none_some}
+use Rattle.trace_laws.proofs.Joint.{Stood}
+use Rattle.trace_laws.proofs.OpenCommands.{item_is}
+use Rattle.trace_laws.proofs.PointerWaits.{connection_sent}
+use Rattle.trace_laws.proofs.UnderRst.{quiet_at_end}
+use Rattle.trace_laws.proofs.Whole.{whole}
+use Rattle.fault_laws.proofs.Calls.{Follows, calling_follows, GoesOn, call_goes}
+use Rattle.fault_laws.proofs.Moments.{apart_of, linked_of, reset_of}
+use Rattle.progress_laws.proofs.Rooms.{target_there}
+use Rattle.delivery_laws.specs.Delivery.{is_selecting, is_for_item, is_call_for, is_calling_fault, calling_faults}
+
+-- ---- a row of the caller
+
+-- Before an answer: it releases BSY, with both IDs still true; or it withdraws, a selection time-out delay after it.
+data CallerRow (s : ScenarioValue) (p : List Row) (row : Row) : Type 0 where
+  asks : (m : Bool) (c k : ℕ) → row.kind ≡ Drives (calling_lines m false (2 ^ c + 2 ^ k + 256)) → CallerRow s p row
+  withdraws : (m : Bool) (t : ℕ) → t + 250000000 ≤ row.time → row.kind ≡ Drives (calling_lines m false 0) → CallerRow s p row
+
+asks_row : (s : ScenarioValue) (p : List Row) (m : Bool) (c k t0 t1 : ℕ) (row : Row) → CalmStanding s p → Calls s p (begun_call m c k t0 t1) c k (both_ids m c k) none (both_ids m c k) → IsLeast (unreset_due s p) 8 row → row.dev ≡ c
+    → row.kind ≡ Drives (calling_lines m false (2 ^ c + 2 ^ k + 256))
+asks_row s p m c k t0 t1 row always h least same =
+    let x : Due = record { time = row.time; kind = row.kind } in
+    let w = is_there s p row.dev x least.is_due in
+    let was : stage p ≡ InCalling (begun_call m c k t0 t1) = stage_is p _ _ _ _ h.stands in
+    (is_at (own_time p c + 90 + w.0) (calling_lines m false (2 ^ c + 2 ^ k + 256)) x (sym (asks_due s p m c k t0 t1 w.0 (both_ids m c k) always.devices h.caller_below (ap (latency_of s) (sym same) ∙ w.1) h.stands.connection_is was h.caller) ∙ ap (unreset_due s p) (sym same) ∙ least.is_due)).kind_is
+
+record Withdrawn (row : Row) (m : Bool) (t : ℕ) : Type 0 where
+  late : t + 250000000 ≤ row.time
+  kind_is : row.kind ≡ Drives (calling_lines m false 0)
+
+waits_row : (s : ScenarioValue) (p : List Row) (v m : Bool) (c k t0 t1 t2 n : ℕ) (row : Row) → CalmStanding s p → AwaitsAnswer s p v m c k t0 t1 t2 n → IsLeast (unreset_due s p) 8 row → row.dev ≡ c → Withdrawn row m t2
+waits_row s p v m c k t0 t1 t2 n row always a least same =
+    let h = a.here in
+    let x : Due = record { time = row.time; kind = row.kind } in
+    let w = is_there s p row.dev x least.is_due in
+    let was : stage p ≡ InCalling (awaiting_call v m c k t0 t1 t2) = stage_is p _ _ _ _ h.stands in
+    let z = is_at (t2 + 250000000 + w.0) (record (calling_lines m false n) { data_bits = 0 }) x (sym (waits_due s p v m c k t0 t1 t2 w.0 (calling_lines m false n) always.devices h.caller_below (ap (latency_of s) (sym same) ∙ w.1) h.stands.connection_is was h.caller) ∙ ap (unreset_due s p) (sym same) ∙ least.is_due) in
+    record { late = (let u = z.time_is in omega arith); kind_is = z.kind_is }
+
+-- A device that is called, is there and was not struck would have answered by then.
+answers_first : {A : Type 0} (s : ScenarioValue) (p : List Row) (m : Bool) (c k t0 t1 t2 n lat : ℕ) (row : Row) → HasShortLatencies s → CalmStanding s p → AwaitsAnswer s p false m c k t0 t1 t2 n → IsLeast (unreset_due s p) 8 row → latency_of s k ≡ Some lat → t2 + 250000000 ≤ row.time → A
+answers_first s p m c k t0 t1 t2 n lat row fits always a least there late =
+    let h = a.here in
+    let was : stage p ≡ InCalling (awaiting_call false m c k t0 t1 t2) = stage_is p _ _ _ _ h.stands in
+    let y = answer_exists ((line_times p).bsy + 400 + lat) (flip_at s p lat) answer_lines in
+    let first = least.first k h.called_below y.0 (answers_due s p m c k t0 t1 t2 lat always.devices h.called_below there h.stands.connection_is h.apart was h.other ∙ y.1.0) in
+    let at = y.1.1 in
+    let age = a.bsy_age in
+    let short = fits.latency k lat there in
+    absurd (omega (arith, first, at, age, short, late))
+
+-- ---- whom a caller has called in vain was struck
+
+abbrev pub IsStruckOut : ScenarioValue → List Row → Type 0
+IsStruckOut s p = (k : Call) (g : Calling) → call p ≡ Some k → k.calling ≡ Some g → is_some g.answered ≡ false → is_some g.withdrawn ≡ true → (lat : ℕ) → latency_of s g.called ≡ Some lat → g.struck ≡ true
+
+next_lines : (p : List Row) (row : Row) (l : LineSet) → row.kind ≡ Drives l → (change_of p row).next ≡ l
+next_lines p row l e = ap (λ (y : Kind). driven_after y (drives p row.dev)) e
+
+-- The caller does not withdraw.
+unwithdrawn : (x : Calling) (c : Change) (t : ℕ) → (c.next.data_bits == 0) ≡ false → is_some x.withdrawn ≡ false → is_some (caller_goes_on x c t).withdrawn ≡ false
+unwithdrawn x c t e none = (λ i. is_some (when (not (c.own.data_bits == 0) && e i) t x.withdrawn)) ∙ (λ i. is_some (when (and_false (not (c.own.data_bits == 0)) i) t x.withdrawn)) ∙ none
+
+-- One that was called, answered not and was not struck, and then is withdrawn from, is not there.
+withdrawn_now : {A : Type 0} (s : ScenarioValue) (p : List Row) (row : Row) (k : Call) (x : Calling) (lat : ℕ) → HasShortLatencies s → connection p ≡ None → (bus p).rst ≡ false → CalmStanding s p → IsLeast (unreset_due s p) 8 row → call p ≡ Some k → k.calling ≡ Some x → row.dev ≡ k.caller
+    → x.struck ≡ false → is_some x.answered ≡ false → is_some x.withdrawn ≡ false → latency_of s x.called ≡ Some lat → is_some (caller_goes_on x (change_of p row) row.time).withdrawn ≡ true → BusStage s p → A
+withdrawn_now s p row k x lat fits alone calm always least ek ex own us un uw there now (on_free_bus h) = none_some k (sym h.stands.call_is ∙ ek)
+withdrawn_now s p row k x lat fits alone calm always least ek ex own us un uw there now (in_arbitration a h) = none_some k (sym h.stands.call_is ∙ ek)
+withdrawn_now s p row k x lat fits alone calm always least ek ex own us un uw there now (after_arbitration c t h) =
+    none_some x (ap (λ (w : Call). w.calling) (same_Some (won_call c t) k (sym h.stands.call_is ∙ ek)) ∙ ex)
+withdrawn_now s p row k x lat fits alone calm always least ek ex own us un uw there now (with_both_ids m c j t0 t z h) =
+    let same = same_Some _ k (sym h.stands.call_is ∙ ek) in
+    let caller : row.dev ≡ c = own ∙ ap (λ (w : Call). w.caller) (sym same) in
+    let lines = next_lines p row _ (asks_row s p m c j t0 t row always h least caller) in
+    wrong (sym now ∙ unwithdrawn x (change_of p row) row.time (ap (λ (l : LineSet). l.data_bits == 0) lines ∙ ids_not_zero c j) uw)
+withdrawn_now s p row k x lat fits alone calm always least ek ex own us un uw there now (awaiting_answer v m c j t0 t1 t2 y a) =
+    let same = same_Some _ k (sym a.here.stands.call_is ∙ ek) in
+    let caller : row.dev ≡ c = own ∙ ap (λ (w : Call). w.caller) (sym same) in
+    by v a same caller
+  where
+    by : {A : Type 0} (v : Bool) → AwaitsAnswer s p v m c j t0 t1 t2 y → awaiting_call v m c j t0 t1 t2 ≡ k → row.dev ≡ c → A
+    by v a same caller = go v a (same_Some _ x (ap (λ (w : Call). w.calling) same ∙ ex)) caller
+      where
+        go : {A : Type 0} (v : Bool) → AwaitsAnswer s p v m c j t0 t1 t2 y → (let g : Calling = record { called = j; reselects = not m; at = t1; released = Some t2; withdrawn = None; resumed = None; answered = None; struck = v } in g) ≡ x → row.dev ≡ c → A
+        go true a g caller = wrong (ap (λ (w : Calling). w.struck) g ∙ us)
+        go false a g caller =
+            answers_first s p m c j t0 t1 t2 y lat row fits always a least (ap (λ (w : Calling). latency_of s w.called) g ∙ there) (waits_row s p false m c j t0 t1 t2 y row always a least caller).late
+withdrawn_now s p row k x lat fits alone calm always least ek ex own us un uw there now (after_withdrawal v m c j t0 t1 t2 t3 z h) =
+    wrong (ap (λ (w : Calling). is_some w.withdrawn) (same_Some _ x (ap (λ (w : Call). w.calling) (same_Some _ k (sym h.stands.call_is ∙ ek)) ∙ ex)) ∙ uw)
+withdrawn_now s p row k x lat fits alone calm always least ek ex own us un uw there now (after_answer m c j t0 t1 t2 t3 y h) =
+    wrong (ap (λ (w : Calling). is_some w.answered) (same_Some _ x (ap (λ (w : Call). w.calling) (same_Some _ k (sym h.here.stands.call_is ∙ ek)) ∙ ex)) ∙ un)
+withdrawn_now s p row k x lat fits alone calm always least ek ex own us un uw there now (after_takeover c j t0 t1 t2 t3 t4 y z f h) =
+    wrong (ap (λ (w : Calling). is_some w.answered) (same_Some _ x (ap (λ (w : Call). w.calling) (same_Some _ k (sym h.here.stands.call_is ∙ ek)) ∙ ex)) ∙ un)
+withdrawn_now s p row k x lat fits alone calm always least ek ex own us un uw there now (in_reset h) = wrong (sym h.reset ∙ calm)
+withdrawn_now s p row k x lat fits alone calm always least ek ex own us un uw there now (in_connection n f g h) = none_some n (sym alone ∙ f)
+
+not_so : (q : Bool) → (q ≡ true → false ≡ true) → q ≡ false
+not_so true f = wrong' (f refl)
+not_so false f = refl
+
+not_true : (q : Bool) → q ≡ false → q ≡ true → false ≡ true
+not_true q e f = sym e ∙ f
+
+-- The calling after a row, while SEL is true before it.
+struck_on : (s : ScenarioValue) (p : List Row) (row : Row) → HasShortLatencies s → connection p ≡ None → (bus p).rst ≡ false → CalmStanding s p → IsLeast (unreset_due s p) 8 row → BusStage s p → IsStruckOut s p → IsStruckOut s (row ∷ p)
+struck_on s p row fits alone calm always least h was k g e f un w lat there = by_calling c.was.calling refl
+  where
+    c : GoesOn p row k g
+    c = call_goes p row k g e f
+
+    new : (q : Bool) → (if q then Some (new_calling c.was.caller (change_of p row).next row.time) else None) ≡ Some g → g.struck ≡ true
+    new true z = wrong' (ap (λ (y : Calling). is_some y.withdrawn) (same_Some _ g z) ∙ w)
+    new false z = none_some g z
+
+    by_parts : (x : Calling) → c.was.calling ≡ Some x → calling_after c.was.caller (Some x) (change_of p row) row ≡ Some g → (z : Bool) → is_some x.withdrawn ≡ z → (v : Bool) → x.struck ≡ v → g.struck ≡ true
+    by_parts x ex goes true ew v ev =
+        let fl = calling_follows c.was.caller x g (change_of p row) row goes in
+        fl.struck (was c.was x c.was_is ex (not_so (is_some x.answered) (λ y. not_true (is_some g.answered) un (fl.answered y))) ew lat (ap (latency_of s) (sym fl.called) ∙ there))
+    by_parts x ex goes false ew true ev = (calling_follows c.was.caller x g (change_of p row) row goes).struck ev
+    by_parts x ex goes false ew false ev = go (row.dev == c.was.caller) refl (row.dev == x.called) goes
+      where
+        fl : Follows x g
+        fl = calling_follows c.was.caller x g (change_of p row) row goes
+
+        go : (q : Bool) → (row.dev == c.was.caller) ≡ q → (r : Bool) → (if q then Some (caller_goes_on x (change_of p row) row.time) else if r then Some (called_goes_on x (change_of p row) row) else Some x) ≡ Some g → g.struck ≡ true
+        go true own r z =
+            withdrawn_now s p row c.was x lat fits alone calm always least c.was_is ex (eqb-true row.dev c.was.caller own) ev (not_so (is_some x.answered) (λ y. not_true (is_some g.answered) un (fl.answered y))) ew (ap (latency_of s) (sym fl.called) ∙ there)
+            (ap (λ (y : Calling). is_some y.withdrawn) (same_Some _ g z) ∙ w) h
+        go false own true z = wrong' (sym ew ∙ ap (λ (y : Calling). is_some y.withdrawn) (same_Some _ g z) ∙ w)
+        go false own false z = wrong' (sym ew ∙ ap (λ (y : Calling). is_some y.withdrawn) (same_Some _ g z) ∙ w)
+
+    by_calling : (o : Option Calling) → c.was.calling ≡ o → g.struck ≡ true
+    by_calling None ex = new (row.dev == c.was.caller && drives_two_ids c.was.caller (change_of p row).next) (sym (ap (λ (o : Option Calling). calling_after c.was.caller o (change_of p row) row) ex) ∙ c.goes)
+    by_calling (Some x) ex = by_parts x ex (sym (ap (λ (o : Option Calling). calling_after c.was.caller o (change_of p row) row) ex) ∙ c.goes) (is_some x.withdrawn) refl x.struck refl
+
+-- SEL is false while a connection stands, and as RST falls.
+linked_sel : (s : ScenarioValue) (p : List Row) (n : Connection) → Stood s p → connection p ≡ Some n → (bus p).rst ≡ false → (bus p).sel ≡ false
+linked_sel s p n was con calm = let w = sides_are s p n (linked_of s p n was.here calm con) in ap (λ (l : LineSet). l.sel) w.1.stands.bus_is
+
+reset_sel : (s : ScenarioValue) (p : List Row) (row : Row) → Stood s p → row.dev < 8 → broken_rule p row ≡ None → (bus p).rst ≡ true → (bus (row ∷ p)).rst ≡ false → (bus p).sel ≡ false
+reset_sel s p row was lt obeys on off =
+    quiet_sel (bus p) (same_set-eq (union only_rst (bus p)) only_rst (quiet_at_end s p row lt obeys (under_rst s p (reset_of s p was.here on) on) off))
+
+struck_next : (s : ScenarioValue) (p : List Row) (row : Row) → Obeys s → IsPrompt s (row ∷ p) → (connection p ≡ None → (bus p).rst ≡ false → IsStruckOut s p) → (bus (row ∷ p)).rst ≡ false → IsStruckOut s (row ∷ p)
+struck_next s p row o prompt before off = by_rst (bus p).rst refl
+  where
+    was : Stood s p
+    was = (whole s p o prompt.0).stood
+
+    m : IsLeast (due s p) 8 row
+    m = least_is s p row prompt.1
+
+    obeys : broken_rule p row ≡ None
+    obeys = (row_none p row).1 (whole s (row ∷ p) o prompt).stood.standing.lawful.1
+
+    rst_on : row ≡ row_of_lines row.time row.dev only_rst → (bus (row ∷ p)).rst ≡ true
+    rst_on z = bus_on (λ y. y.rst) (λ _ _. refl) (row ∷ p) row.dev m.inside (ap (λ (w : Row). (drives (w ∷ p) row.dev).rst) z ∙ ap (λ (l : LineSet). l.rst) (drives_own p row.time row.dev only_rst))
+
+    low : (bus p).sel ≡ false → IsStruckOut s (row ∷ p)
+    low none k g e f = wrong (sym (call_goes p row k g e f).sel ∙ none)
+
+    by_connection : (bus p).rst ≡ false → (x : Option Connection) → connection p ≡ x → IsStruckOut s (row ∷ p)
+    by_connection calm (Some n) con = low (linked_sel s p n was con calm)
+    by_connection calm None con = elim (reset_or_calm s p row was.standing calm m) [
+      | by_reset z ↦ wrong (sym (rst_on z) ∙ off)
+      | by_calm always least ↦ struck_on s p row (obeys_latencies s o) con calm always least (apart_of s p was.here con) (before con calm)
+    ]
+
+    by_rst : (q : Bool) → (bus p).rst ≡ q → IsStruckOut s (row ∷ p)
+    by_rst true on = low (reset_sel s p row was m.inside obeys on off)
+    by_rst false calm = by_connection calm (connection p) refl
+
+pub struck_out : (s : ScenarioValue) (p : List Row) → Obeys s → IsPrompt s p → connection p ≡ None → (bus p).rst ≡ false → IsStruckOut s p
+struck_out s [] o prompt alone off = λ k g e. none_some k e
+struck_out s (row ∷ p) o prompt alone off = struck_next s p row o prompt (struck_out s p o prompt.0) off
+
+-- ---- a calling that ends without an answer was withdrawn
+
+-- While it calls and no answer has come, the caller keeps SEL true but as it gives up.
+given_up : (s : ScenarioValue) (p : List Row) (row : Row) (k : Call) (x : Calling) → connection p ≡ None → (bus p).rst ≡ false → (bus (row ∷ p)).sel ≡ false → row.dev < 8 → CalmStanding s p → IsLeast (unreset_due s p) 8 row → call p ≡ Some k → k.calling ≡ Some x → is_some x.answered ≡ false → BusStage s p → is_some x.withdrawn ≡ true
+given_up s p row k x alone calm low lt always least ek ex un (on_free_bus h) = none_some k (sym h.stands.call_is ∙ ek)
+given_up s p row k x alone calm low lt always least ek ex un (in_arbitration a h) = none_some k (sym h.stands.call_is ∙ ek)
+given_up s p row k x alone calm low lt always least ek ex un (after_arbitration c t h) = none_some x (ap (λ (w : Call). w.calling) (same_Some (won_call c t) k (sym h.stands.call_is ∙ ek)) ∙ ex)
+given_up s p row k x alone calm low lt always least ek ex un (with_both_ids m c j t0 t z h) = wrong (sym (elim (cases_eq row.dev c) [
+  | inl same ↦ bus_on (λ y. y.sel) (λ _ _. refl) (row ∷ p) row.dev lt (ap (λ (r : Row). (drives (r ∷ p) row.dev).sel) (row_lines (asks_row s p m c j t0 t row always h least same)) ∙ ap (λ (l : LineSet). l.sel) (drives_own p row.time row.dev _))
+  | inr ne ↦ bus_on (λ y. y.sel) (λ _ _. refl) (row ∷ p) c h.caller_below (ap (λ (l : LineSet). l.sel) (drives-other row p c (λ e. ne (sym e)) ∙ h.caller))
+]) ∙ low)
+  where
+    row_lines : {l : LineSet} → row.kind ≡ Drives l → row ≡ row_of_lines row.time row.dev l
+    row_lines e = λ i. record { time = row.time; dev = row.dev; kind = e i }
+given_up s p row k x alone calm low lt always least ek ex un (awaiting_answer v m c j t0 t1 t2 y a) = wrong (sym (elim (cases_eq row.dev c) [
+  | inl same ↦ bus_on (λ z. z.sel) (λ _ _. refl) (row ∷ p) row.dev lt (ap (λ (r : Row). (drives (r ∷ p) row.dev).sel) (row_lines (waits_row s p v m c j t0 t1 t2 y row always a least same).kind_is) ∙ ap (λ (l : LineSet). l.sel) (drives_own p row.time row.dev _))
+  | inr ne ↦ bus_on (λ z. z.sel) (λ _ _. refl) (row ∷ p) c a.here.caller_below (ap (λ (l : LineSet). l.sel) (drives-other row p c (λ e. ne (sym e)) ∙ a.here.caller))
+]) ∙ low)
+  where
+    row_lines : {l : LineSet} → row.kind ≡ Drives l → row ≡ row_of_lines row.time row.dev l
+    row_lines e = λ i. record { time = row.time; dev = row.dev; kind = e i }
+given_up s p row k x alone calm low lt always least ek ex un (after_withdrawal v m c j t0 t1 t2 t3 z h) = sym (ap (λ (w : Calling). is_some w.withdrawn) (same_Some _ x (ap (λ (w : Call). w.calling) (same_Some _ k (sym h.stands.call_is ∙ ek)) ∙ ex)))
+given_up s p row k x alone calm low lt always least ek ex un (after_answer m c j t0 t1 t2 t3 y h) = wrong (ap (λ (w : Calling). is_some w.answered) (same_Some _ x (ap (λ (w : Call). w.calling) (same_Some _ k (sym h.here.stands.call_is ∙ ek)) ∙ ex)) ∙ un)
+given_up s p row k x alone calm low lt always least ek ex un (after_takeover c j t0 t1 t2 t3 t4 y z f h) = wrong (ap (λ (w : Calling). is_some w.answered) (same_Some _ x (ap (λ (w : Call). w.calling) (same_Some _ k (sym h.here.stands.call_is ∙ ek)) ∙ ex)) ∙ un)
+given_up s p row k x alone calm low lt always least ek ex un (in_reset h) = wrong (sym h.reset ∙ calm)
+given_up s p row k x alone calm low lt always least ek ex un (in_connection n f g h) = none_some n (sym alone ∙ f)
+
+-- ---- what a row makes of the callings in vain, and of the aims
+
+-- No event is a calling.
+ends_tries : (drops stops : CmdDef → Bool) (e : Ending) (k : ℕ) (commands : List CmdDef) (b : Story) → (story_with_ends drops stops e k commands b).sent.tries ≡ b.sent.tries
+ends_tries drops stops e k [] b = refl
+ends_tries drops stops e k (c ∷ commands) b =
+    ends_tries drops stops e (k + 1) commands (story_with_end_if drops stops e k c b)
+    ∙ go (is_open b.sent k && drops c) (stops c && list_any (λ j. j == k) b.sent.checks)
+  where
+    go : (p q : Bool) → (if p then story_with_end b (record { command = k; sense = false }) e else if q then story_with_over b (sense_item k) else b).sent.tries ≡ b.sent.tries
+    go true q = refl
+    go false true = refl
+    go false false = refl
+
+event_tries : (s : ScenarioValue) (b : Story) (e : Event) → (story_after_event s b e).sent.tries ≡ b.sent.tries
+event_tries s b (events.Accept id) = refl
+event_tries s b (events.Refuse id) = refl
+event_tries s b (events.Run id) = refl
+event_tries s b (events.Fail id code) = refl
+event_tries s b (events.End id status) = go (not id.sense && status == CHECK_CONDITION)
+  where
+    go : (q : Bool) → (if q then record (story_with_end b id (by_status status)) { sent = record (story_with_end b id (by_status status)).sent { checks = b.sent.checks ++ id.command ∷ [] } } else story_with_end b id (by_status status)).sent.tries ≡ b.sent.tries
+    go true = refl
+    go false = refl
+event_tries s b (events.Lost id) = refl
+event_tries s b (events.Aborted host target unit what) = ends_tries (is_aborted host target unit what) (is_sense_stopped host target unit what) by_abort 1 s.commands b
+event_tries s b (events.Reset dev) = ends_tries (λ c. true) (λ c. true) by_reset 1 s.commands b
+
+events_tries : (s : ScenarioValue) (b : Story) (shown : List Event) → (story_after_events s b shown).sent.tries ≡ b.sent.tries
+events_tries s b [] = refl
+events_tries s b (e ∷ shown) = event_tries s (story_after_events s b shown) e ∙ events_tries s b shown
+
+restored_tries : (b : Story) (item : Option Item) → (story_with_restored b item).sent.tries ≡ b.sent.tries
+restored_tries b None = refl
+restored_tries b (Some (process id)) = refl
+restored_tries b (Some (abort k)) = refl
+
+sent_tries : (b : Story) (item : Option Item) → (story_with_sent b item).sent.tries ≡ b.sent.tries
+sent_tries b None = refl
+sent_tries b (Some item) = refl
+
+connection_tries : (b : Story) (n : Connection) → (story_after_connection b n).sent.tries ≡ b.sent.tries
+connection_tries b n = go n.reselected
+  where
+    go : (q : Bool) → (if q then record b { link = Some (link_of n None) } else story_with_restored (story_with_sent (record b { link = Some (link_of n (aim_of b.aims n.initiator)) }) (aim_of b.aims n.initiator)) (aim_of b.aims n.initiator)).sent.tries ≡ b.sent.tries
+    go true = refl
+    go false =
+        let c : Story = record b { link = Some (link_of n (aim_of b.aims n.initiator)) } in
+        restored_tries (story_with_sent c (aim_of b.aims n.initiator)) (aim_of b.aims n.initiator) ∙ sent_tries c (aim_of b.aims n.initiator)
+
+-- One calling in vain more for the item of the call that stands, as SEL falls, or none.
+data Tried (b c : Story) (d : RowReading) : Type 0 where
+  no_more : c.sent.tries ≡ b.sent.tries → Tried b c d
+  one_more : (k : Call) (g : Calling) (i : Item) → falls d.change.before.sel d.change.after.sel ≡ true → d.change.after.rst ≡ false → b.bus_state.connection ≡ None → b.bus_state.call ≡ Some k → k.calling ≡ Some g → is_some g.answered ≡ false → g.reselects ≡ false → aim_of b.aims k.caller ≡ Some i
+      → c.sent.tries ≡ i ∷ b.sent.tries → Tried b c d
+
+try_tried : (s : ScenarioValue) (b : Story) (dev : ℕ) (i : Item) → (story_with_try s b dev (Some i)).sent.tries ≡ i ∷ b.sent.tries
+try_tried s b dev i = go _ i
+  where
+    go : (q : Bool) (j : Item) → (if q then story_without_answer (record b { sent = record b.sent { tries = i ∷ b.sent.tries } }) j else record b { sent = record b.sent { tries = i ∷ b.sent.tries } }).sent.tries ≡ i ∷ b.sent.tries
+    go true (process id) = refl
+    go true (abort k) = refl
+    go false j = refl
+
+none_of : (o : Option ℕ) → is_none o ≡ true → is_some o ≡ false
+none_of None e = refl
+none_of (Some x) e = wrong' e
+
+not_of : (q : Bool) → not q ≡ true → q ≡ false
+not_of true e = wrong' e
+not_of false e = refl
+
+calling_tried : (s : ScenarioValue) (b : Story) (d : RowReading) → falls d.change.before.sel d.change.after.sel ≡ true → d.change.after.rst ≡ false → b.bus_state.connection ≡ None → (o : Option Call) → b.bus_state.call ≡ o → Tried b (story_after_calling s b o) d
+calling_tried s b d z off con None e = no_more refl
+calling_tried s b d z off con (Some k) e = by k.calling refl
+  where
+    by : (o : Option Calling) → k.calling ≡ o → Tried b (story_after_calling_by s b k.caller o) d
+    by None f = no_more refl
+    by (Some g) f = go (is_none g.answered && not g.reselects) refl
+      where
+        aimed : (is_none g.answered && not g.reselects) ≡ true → (o : Option Item) → aim_of b.aims k.caller ≡ o → Tried b (story_with_try s b k.caller o) d
+        aimed y None w = no_more refl
+        aimed y (Some i) w =
+            one_more k g i z off con e f (none_of g.answered (and_first (is_none g.answered) (not g.reselects) y)) (not_of g.reselects (and_second (is_none g.answered) (not g.reselects) y)) w (try_tried s b k.caller i)
+
+        go : (q : Bool) → (is_none g.answered && not g.reselects) ≡ q → Tried b (if q then story_with_try s b k.caller (aim_of b.aims k.caller) else b) d
+        go true y = aimed y (aim_of b.aims k.caller) refl
+        go false y = no_more refl
+
+free_tried : (s : ScenarioValue) (b : Story) (d : RowReading) (row : Row) → d.change.after.rst ≡ false → b.bus_state.connection ≡ None → Tried b (story_on_free_bus s b d row) d
+free_tried s b d row off con = go (is_arbitration_entry b d) (falls d.change.before.sel d.change.after.sel) refl
+  where
+    go : (q r : Bool) → falls d.change.before.sel d.change.after.sel ≡ r → Tried b (if q then story_with_aim s b row else if r then story_after_calling s b b.bus_state.call else b) d
+    go true r e = no_more refl
+    go false false e = no_more refl
+    go false true e = calling_tried s b d e off con b.bus_state.call refl
+
+change_tried : (s : ScenarioValue) (b : Story) (d : RowReading) (row : Row) → Tried b (story_by_change s b d row) d
+change_tried s b d row = go d.change.after.rst refl
+  where
+    on_bus : d.change.after.rst ≡ false → (m n : Option Connection) → b.bus_state.connection ≡ m → Tried b (story_on_bus s b m n d row) d
+    on_bus off None None con = free_tried s b d row off con
+    on_bus off None (Some n) con = no_more (connection_tries b n)
+    on_bus off (Some m) None con = no_more refl
+    on_bus off (Some m) (Some n) con = no_more (λ i. (connection_sent s b b.link d row i).tries)
+
+    go : (q : Bool) → d.change.after.rst ≡ q → Tried b (if q then record b { link = None } else story_on_bus s b b.bus_state.connection d.next d row) d
+    go true off = no_more refl
+    go false off = on_bus off b.bus_state.connection d.next refl
+
+-- The aims, but for that of a device that enters arbitration, with which SEL is false before the row.
+aims_on_bus : (s : ScenarioValue) (b : Story) (d : RowReading) (row : Row) → d.change.before.sel ≡ true → (story_by_change s b d row).aims ≡ b.aims
+aims_on_bus s b d row on = go d.change.after.rst
+  where
+    begun : (n : Connection) (q : Bool) → (if q then record b { link = Some (link_of n None) } else story_with_restored (story_with_sent (record b { link = Some (link_of n (aim_of b.aims n.initiator)) }) (aim_of b.aims n.initiator)) (aim_of b.aims n.initiator)).aims ≡ b.aims
+    begun n true = refl
+    begun n false =
+        let c : Story = record b { link = Some (link_of n (aim_of b.aims n.initiator)) } in
+        restored_aims (story_with_sent c (aim_of b.aims n.initiator)) (aim_of b.aims n.initiator) ∙ sent_aims c (aim_of b.aims n.initiator)
+
+    tried : (dev : ℕ) (o : Option Item) → (story_with_try s b dev o).aims ≡ b.aims
+    tried dev None = refl
+    tried dev (Some i) = by _ i
+      where
+        by : (q : Bool) (j : Item) → (if q then story_without_answer (record b { sent = record b.sent { tries = i ∷ b.sent.tries } }) j else record b { sent = record b.sent { tries = i ∷ b.sent.tries } }).aims ≡ b.aims
+        by true (process id) = refl
+        by true (abort k) = refl
+        by false j = refl
+
+    called : (o : Option Call) → (story_after_calling s b o).aims ≡ b.aims
+    called None = refl
+    called (Some k) = by k.calling
+      where
+        by : (o : Option Calling) → (story_after_calling_by s b k.caller o).aims ≡ b.aims
+        by None = refl
+        by (Some g) = at (is_none g.answered && not g.reselects)
+          where
+            at : (q : Bool) → (if q then story_with_try s b k.caller (aim_of b.aims k.caller) else b).aims ≡ b.aims
+            at true = tried k.caller (aim_of b.aims k.caller)
+            at false = refl
+
+    no_entry : is_arbitration_entry b d ≡ false
+    no_entry = (λ i. rises d.change.own.bsy d.change.next.bsy && not (on i) && is_none b.bus_state.connection) ∙ none_between (rises d.change.own.bsy d.change.next.bsy) (is_none b.bus_state.connection)
+
+    free : (story_on_free_bus s b d row).aims ≡ b.aims
+    free = ap (λ (q : Bool). (if q then story_with_aim s b row else if falls d.change.before.sel d.change.after.sel then story_after_calling s b b.bus_state.call else b).aims) no_entry ∙ by (falls d.change.before.sel d.change.after.sel)
+      where
+        by : (q : Bool) → (if q then story_after_calling s b b.bus_state.call else b).aims ≡ b.aims
+        by true = called b.bus_state.call
+        by false = refl
+
+    on_bus : (m n : Option Connection) → (story_on_bus s b m n d row).aims ≡ b.aims
+    on_bus None None = free
+    on_bus None (Some n) = begun n n.reselected
+    on_bus (Some m) None = refl
+    on_bus (Some m) (Some n) = connected_aims s b b.link d row
+
+    go : (q : Bool) → (if q then record b { link = None } else story_on_bus s b b.bus_state.connection d.next d row).aims ≡ b.aims
+    go true = refl
+    go false = on_bus b.bus_state.connection d.next
+
+-- ---- no more callings in vain than faults
+
+abbrev pub is_struck_by : Option Calling → Bool
+is_struck_by None = false
+is_struck_by (Some g) = g.struck
+
+abbrev pub is_struck_call : Option Call → Bool
+is_struck_call None = false
+is_struck_call (Some k) = is_struck_by k.calling
+
+-- A fault has struck the call that stands, which is for this item.
+abbrev pub is_pending : List (Option Item) → Item → Option Call → Bool
+is_pending aims item o = is_struck_call o && is_call_for aims item o
+
+abbrev pub Counts : ScenarioValue → List Row → Item → Type 0
+Counts s p item = count_item (run_state s p).story.sent.tries item + one_if (is_pending (run_state s p).story.aims item (run_state s p).story.bus_state.call) ≤ calling_faults s p item
+
+calling_kept : (caller : ℕ) (x g : Calling) (c : Change) (row : Row) → calling_after caller (Some x) c row ≡ Some g → g.reselects ≡ x.reselects
+calling_kept caller x g c row e = go (row.dev == caller) (row.dev == x.called) e
+  where
+    go : (q r : Bool) → (if q then Some (caller_goes_on x c row.time) else if r then Some (called_goes_on x c row) else Some x) ≡ Some g → g.reselects ≡ x.reselects
+    go true r z = ap (λ (y : Calling). y.reselects) (sym (same_Some _ g z))
+    go false true z = ap (λ (y : Calling). y.reselects) (sym (same_Some _ g z))
+    go false false z = ap (λ (y : Calling). y.reselects) (sym (same_Some _ g z))
+
+-- A calling that was not struck before the row, and is after it, was struck by it.
+struck_now : (caller : ℕ) (x g : Calling) (c : Change) (row : Row) → x.struck ≡ false → g.struck ≡ true → calling_after caller (Some x) c row ≡ Some g → is_fault row.kind ≡ true
+struck_now caller x g c row un on e = go (row.dev == caller) (row.dev == x.called) e
+  where
+    go : (q r : Bool) → (if q then Some (caller_goes_on x c row.time) else if r then Some (called_goes_on x c row) else Some x) ≡ Some g → is_fault row.kind ≡ true
+    go true r z = wrong' (sym un ∙ ap (λ (y : Calling). y.struck) (same_Some _ g z) ∙ on)
+    go false true z = (λ i. sym un i || is_fault row.kind) ∙ ap (λ (y : Calling). y.struck) (same_Some _ g z) ∙ on
+    go false false z = wrong' (sym un ∙ ap (λ (y : Calling). y.struck) (same_Some _ g z) ∙ on)
+
+pending_next : (s : ScenarioValue) (p : List Row) (row : Row) (item : Item) → AreOfDevices p → row.dev < 8
+    → is_pending (run_state s (row ∷ p)).story.aims item (run_state s (row ∷ p)).story.bus_state.call ≡ true
+    → (is_pending (run_state s p).story.aims item (run_state s p).story.bus_state.call ≡ true) ⊎ (is_calling_fault (run_state s p) row item ≡ true)
+pending_next s p row item dv lt e = by_call (call q) refl (ap (λ (o : Option Call). is_pending j.story.aims item o) (sym pl2.call) ∙ e)
+  where
+    q : List Row
+    q = row ∷ p
+
+    k : RunState
+    k = run_state s p
+
+    j : RunState
+    j = run_state s q
+
+    d : RowReading
+    d = row_reading k.story.bus_state row
+
+    pl : IsPlain s p k
+    pl = run_state_plain s p dv
+
+    pl2 : IsPlain s q j
+    pl2 = run_state_plain s q (lt, dv)
+
+    Was : Type 0
+    Was = (is_pending k.story.aims item k.story.bus_state.call ≡ true) ⊎ (is_calling_fault k row item ≡ true)
+
+    by_was : (kk : Call) (g : Calling) → kk.calling ≡ Some g → g.struck ≡ true → is_call_for j.story.aims item (Some kk) ≡ true → (c : GoesOn p row kk g) → (o : Option Calling) → c.was.calling ≡ o → Was
+    by_was kk g f on for c None ex = new (row.dev == c.was.caller && drives_two_ids c.was.caller (change_of p row).next) (sym (ap (λ (o : Option Calling). calling_after c.was.caller o (change_of p row) row) ex) ∙ c.goes)
+      where
+        new : (z : Bool) → (if z then Some (new_calling c.was.caller (change_of p row).next row.time) else None) ≡ Some g → Was
+        new true z = wrong' (ap (λ (y : Calling). y.struck) (same_Some _ g z) ∙ on)
+        new false z = none_some g z
+    by_was kk g f on for c (Some x) ex = by x.struck refl
+      where
+        goes : calling_after c.was.caller (Some x) (change_of p row) row ≡ Some g
+        goes = sym (ap (λ (o : Option Calling). calling_after c.was.caller o (change_of p row) row) ex) ∙ c.goes
+
+        aims : j.story.aims ≡ k.story.aims
+        aims =
+            events_aims s (story_by_change s k.story d row) (row_events_by s k.story d row)
+            ∙ aims_on_bus s k.story d row (ap (λ (y : Change). y.before.sel) (change_plain s row p dv lt) ∙ c.sel)
+
+        callk : k.story.bus_state.call ≡ Some c.was
+        callk = pl.call ∙ c.was_is
+
+        for_was : is_call_for k.story.aims item (Some c.was) ≡ true
+        for_was =
+            (λ i. is_selecting (ex i) && is_for_item (aim_of k.story.aims c.was.caller) item)
+            ∙ (λ i. not (sym (calling_kept c.was.caller x g (change_of p row) row goes) i) && is_for_item (aim_of (sym aims i) (sym c.caller_is i)) item)
+            ∙ (λ i. is_selecting (sym f i) && is_for_item (aim_of j.story.aims kk.caller) item)
+            ∙ for
+
+        by : (z : Bool) → x.struck ≡ z → Was
+        by true z = inl ((λ i. is_struck_call (callk i) && is_call_for k.story.aims item (callk i)) ∙ (λ i. (ap is_struck_by ex ∙ z) i && for_was i))
+        by false z = inr ((λ i. struck_now c.was.caller x g (change_of p row) row z on goes i && is_call_for k.story.aims item (callk i)) ∙ for_was)
+
+    by_calling : (kk : Call) → call q ≡ Some kk → (o : Option Calling) → kk.calling ≡ o → is_struck_by kk.calling ≡ true → is_call_for j.story.aims item (Some kk) ≡ true → Was
+    by_calling kk ek None f on for = wrong' (ap is_struck_by (sym f) ∙ on)
+    by_calling kk ek (Some g) f on for = let c = call_goes p row kk g ek f in by_was kk g f (ap is_struck_by (sym f) ∙ on) for c c.was.calling refl
+
+    by_call : (o : Option Call) → call q ≡ o → is_pending j.story.aims item o ≡ true → Was
+    by_call None ek z = wrong' z
+    by_call (Some kk) ek z = by_calling kk ek kk.calling refl (and_first (is_struck_by kk.calling) (is_call_for j.story.aims item (Some kk)) z) (and_second (is_struck_by kk.calling) (is_call_for j.story.aims item (Some kk)) z)
+
+-- ---- in numbers
+
+stays_less : (a b c d e : ℕ) → a ≡ b → b + c ≤ d → a + 0 ≤ d + e
+stays_less a b c d e f g = omega (arith, f, g)
+
+stays_pending : (a b d e : ℕ) → a ≡ b → b + 1 ≤ d → a + 1 ≤ d + e
+stays_pending a b d e f g = omega (arith, f, g)
+
+grows_both : (a b c d : ℕ) → a ≡ b → b + c ≤ d → a + 1 ≤ d + 1
+grows_both a b c d f g = omega (arith, f, g)
+
+tried_less : (a b d e : ℕ) → a ≡ b + 1 → b + 1 ≤ d → a + 0 ≤ d + e
+tried_less a b d e f g = omega (arith, f, g)
+
+counts_next : (s : ScenarioValue) (p : List Row) (row : Row) → Obeys s → IsPrompt s (row ∷ p) → (item : Item) (t lat : ℕ) → target_of s (Some item) ≡ Some t → latency_of s t ≡ Some lat → Counts s p item → Counts s (row ∷ p) item
+counts_next s p row o prompt item t lat et el h = by_tried (change_tried s k.story d row)
+  where
+    q : List Row
+    q = row ∷ p
+
+    k : RunState
+    k = run_state s p
+
+    j : RunState
+    j = run_state s q
+
+    d : RowReading
+    d = row_reading k.story.bus_state row
+
+    changed : Story
+    changed = story_by_change s k.story d row
+
+    was : Stood s p
+    was = (whole s p o prompt.0).stood
+
+    m : IsLeast (due s p) 8 row
+    m = least_is s p row prompt.1
+
+    dv : AreOfDevices p
+    dv = was.standing.devices
+
+    pl : IsPlain s p k
+    pl = run_state_plain s p dv
+
+    pl2 : IsPlain s q j
+    pl2 = run_state_plain s q (m.inside, dv)
+
+    c : d.change ≡ change_of p row
+    c = change_plain s row p dv m.inside
+
+    tries : j.story.sent.tries ≡ changed.sent.tries
+    tries = events_tries s changed (row_events_by s k.story d row)
+
+    before : ℕ
+    before = count_item k.story.sent.tries item
+
+    fault : Bool
+    fault = is_calling_fault k row item
+
+    on_pending : (z : Bool) → is_pending k.story.aims item k.story.bus_state.call ≡ z → before + one_if z ≤ calling_faults s p item
+    on_pending z e = subst (λ (x : Bool). before + one_if x ≤ calling_faults s p item) e h
+
+    stays : count_item j.story.sent.tries item ≡ before → Counts s q item
+    stays same = go (is_pending j.story.aims item j.story.bus_state.call) refl
+      where
+        go : (z : Bool) → is_pending j.story.aims item j.story.bus_state.call ≡ z → count_item j.story.sent.tries item + one_if z ≤ calling_faults s p item + one_if fault
+        go false e = stays_less (count_item j.story.sent.tries item) before (one_if (is_pending k.story.aims item k.story.bus_state.call)) (calling_faults s p item) (one_if fault) same h
+        go true e = elim (pending_next s p row item dv m.inside e) [
+          | inl z ↦ stays_pending (count_item j.story.sent.tries item) before (calling_faults s p item) (one_if fault) same (on_pending true z)
+          | inr z ↦ subst (λ (x : Bool). count_item j.story.sent.tries item + 1 ≤ calling_faults s p item + one_if x) (sym z) (grows_both (count_item j.story.sent.tries item) before (one_if (is_pending k.story.aims item k.story.bus_state.call)) (calling_faults s p item) same h)
+        ]
+
+    -- the calling ended without an answer
+    fallen : (kk : Call) (g : Calling) (i : Item) → falls d.change.before.sel d.change.after.sel ≡ true → d.change.after.rst ≡ false → k.story.bus_state.connection ≡ None → k.story.bus_state.call ≡ Some kk → kk.calling ≡ Some g → is_some g.answered ≡ false → g.reselects ≡ false → aim_of k.story.aims kk.caller ≡ Some i
+        → changed.sent.tries ≡ i ∷ k.story.sent.tries → Counts s q item
+    fallen kk g i fall off con call_is f un sel aim more = by_item (same_item i item) refl
+      where
+        falls_both : (a b : Bool) → falls a b ≡ true → (a ≡ true) × (b ≡ false)
+        falls_both true true z = wrong' z
+        falls_both true false z = (refl, refl)
+        falls_both false b z = wrong' z
+
+        two : (d.change.before.sel ≡ true) × (d.change.after.sel ≡ false)
+        two = falls_both d.change.before.sel d.change.after.sel fall
+
+        high : (bus p).sel ≡ true
+        high = ap (λ (y : Change). y.before.sel) (sym c) ∙ two.0
+
+        low : (bus q).sel ≡ false
+        low = ap (λ (y : Change). y.after.sel) (sym c) ∙ two.1
+
+        calm_after : (bus q).rst ≡ false
+        calm_after = ap (λ (y : Change). y.after.rst) (sym c) ∙ off
+
+        obeys : broken_rule p row ≡ None
+        obeys = (row_none p row).1 (whole s q o prompt).stood.standing.lawful.1
+
+        calm : (bus p).rst ≡ false
+        calm = go (bus p).rst refl
+          where
+            go : (z : Bool) → (bus p).rst ≡ z → (bus p).rst ≡ false
+            go false e = e
+            go true e = wrong (sym high ∙ reset_sel s p row was m.inside obeys e calm_after)
+
+        alone : connection p ≡ None
+        alone = sym pl.connection ∙ con
+
+        ek : call p ≡ Some kk
+        ek = sym pl.call ∙ call_is
+
+        stage_is_apart : BusStage s p
+        stage_is_apart = apart_of s p was.here alone
+
+        rst_on : row ≡ row_of_lines row.time row.dev only_rst → (bus q).rst ≡ true
+        rst_on z = bus_on (λ y. y.rst) (λ _ _. refl) q row.dev m.inside (ap (λ (w : Row). (drives (w ∷ p) row.dev).rst) z ∙ ap (λ (l : LineSet). l.rst) (drives_own p row.time row.dev only_rst))
+
+        withdrawn : is_some g.withdrawn ≡ true
+        withdrawn = elim (reset_or_calm s p row was.standing calm m) [
+          | by_reset z ↦ wrong (sym (rst_on z) ∙ calm_after)
+          | by_calm always least ↦ given_up s p row kk g alone calm low m.inside always least ek f un stage_is_apart
+        ]
+
+        made : IsDueCall s p kk.caller g
+        made = was.called alone calm kk g ek f
+
+        called : target_of s (Some i) ≡ Some g.called
+        called = sym (λ x. if (made.host_is ∙ ap not sel) x then target_of s (aim x) else initiator_if (ready_of s k kk.caller)) ∙ made.callee_is
+
+        struck : same_item i item ≡ true → g.struck ≡ true
+        struck same =
+            let own : target_of s (Some item) ≡ Some g.called = ap (λ (y : Item). target_of s (Some y)) (sym (item_is i item same)) ∙ called in
+            let place : t ≡ g.called = same_Some t g.called (sym et ∙ own) in
+            struck_out s p o prompt.0 alone calm kk g ek f un withdrawn lat (ap (latency_of s) (sym place) ∙ el)
+
+        none_pending : is_pending j.story.aims item j.story.bus_state.call ≡ false
+        none_pending = ap (λ (x : Option Call). is_pending j.story.aims item x) pl2.call ∙ go (call q) refl
+          where
+            go : (x : Option Call) → call q ≡ x → is_pending j.story.aims item x ≡ false
+            go None e = refl
+            go (Some kj) e = wrong (sym (sel_of_call q kj e) ∙ low)
+
+        count_is : count_item j.story.sent.tries item ≡ (if same_item i item then before + 1 else before)
+        count_is = ap (λ (x : List Item). count_item x item) (tries ∙ more)
+
+        done : (n : ℕ) → count_item j.story.sent.tries item ≡ n → n + 0 ≤ calling_faults s p item + one_if fault → Counts s q item
+        done n e less = subst (λ (x : Bool). count_item j.story.sent.tries item + one_if x ≤ calling_faults s p item + one_if fault) (sym none_pending) (subst (λ (x : ℕ). x + 0 ≤ calling_faults s p item + one_if fault) (sym e) less)
+
+        by_item : (z : Bool) → same_item i item ≡ z → Counts s q item
+        by_item false e = done before (count_is ∙ ap (λ (x : Bool). if x then before + 1 else before) e) (stays_less before before (one_if (is_pending k.story.aims item k.story.bus_state.call)) (calling_faults s p item) (one_if fault) refl h)
+        by_item true e =
+            let pending : is_pending k.story.aims item k.story.bus_state.call ≡ true =
+            (λ x. is_struck_call (call_is x) && is_call_for k.story.aims item (call_is x))
+            ∙ (λ x. (ap is_struck_by f ∙ struck e) x && (is_selecting (f x) && is_for_item (aim x) item))
+            ∙ (λ x. not (sel x) && e x) in
+            done (before + 1) (count_is ∙ ap (λ (x : Bool). if x then before + 1 else before) e) (tried_less (before + 1) before (calling_faults s p item) (one_if fault) refl (on_pending true pending))
+
+    by_tried : Tried k.story changed d → Counts s q item
+    by_tried (no_more z) = stays (ap (λ (x : List Item). count_item x item) (tries ∙ z))
+    by_tried (one_more kk g i fall off con call_is f un sel aim more) = fallen kk g i fall off con call_is f un sel aim more
+
+pub tries_counted : (s : ScenarioValue) (p : List Row) → Obeys s → IsPrompt s p → (item : Item) (t lat : ℕ) → target_of s (Some item) ≡ Some t → latency_of s t ≡ Some lat → Counts s p item
+tries_counted s [] o prompt item t lat et el = omega arith
+tries_counted s (row ∷ p) o prompt item t lat et el = counts_next s p row o prompt item t lat et el (tries_counted s p o prompt.0 item t lat et el)
+
+-- ---- so a command ends unanswered only where more faults struck its callings than its initiator tries again
+
+less_by : (a b x y : ℕ) → nat_lt a b ≡ true → b + x ≤ y → nat_lt a y ≡ true
+less_by a b x y e f = grind (arith, nat_tests)
+
+abbrev pub AreTried : Type 0
+AreTried =
+    (s : ScenarioValue) (rows : List Row) (n : ℕ) (c : CmdDef) → AreOfDevices rows → command_at s.commands n ≡ Some c → ending_of (run_state s rows).story.ended n ≡ Some unanswered → nat_lt (retries_of s.hosts c.host) (count_item (run_state s rows).story.sent.tries (command_item n)) ≡ true
+
+pub unanswered_struck : (s : ScenarioValue) (p : List Row) (n : ℕ) (c : CmdDef) → AreTried → Obeys s → IsPrompt s p → command_at s.commands n ≡ Some c → has_target s c.target ≡ true → ending_of (run_state s p).story.ended n ≡ Some unanswered → nat_lt (retries_of s.hosts c.host) (calling_faults s p (command_item n)) ≡ true
+unanswered_struck s p n c tried o prompt at there e =
+    let dv : AreOfDevices p = (whole s p o prompt).stood.standing.devices in
+    let w = target_there s c.target there in
+    let target : target_of s (Some (command_item n)) ≡ Some c.target = λ i. target_if (process_if s (command_id n) (at i)) in
+    less_by (retries_of s.hosts c.host) (count_item (run_state s p).story.sent.tries (command_item n)) (one_if (is_pending (run_state s p).story.aims (command_item n) (run_state s p).story.bus_state.call)) (calling_faults s p (command_item n))
+    (tried s p n c dv at e) (tries_counted s p o prompt (command_item n) c.target w.latency target w.latency_is)

@@ -1,0 +1,98 @@
+-- A command of which the history has the end with CHECK CONDITION stands among those that ended so (7.3, 7.8).
+use Rattle.std.proofs.Common.{ℕ, inl, inr, ◌≡◌, ◌⊎◌, Bool, true, false, ◌||◌, ◌∙◌, List, [], ◌∷◌, ◌++◌, refl, ap}
+use Rattle.std.specs.Prelude.{if◌then◌else◌, ◌==◌}
+use Rattle.std.specs.List.{list_any}
+use Rattle.bus_base.specs.declared.Event.{Event}
+use Rattle.bus_base.specs.declared.Event.TheVariants as events
+use Rattle.bus_base.specs.declared.ProcId.{ProcId}
+use Rattle.bus_base.proofs.Tests.{and_first, and_second, eq_self, wrong'}
+use Rattle.bus_trace.specs.declared.Row.{Row}
+use Rattle.cdb_codec.specs.declared.status.TheConstants.{CHECK_CONDITION}
+use Rattle.scenario.specs.Value.{ScenarioValue}
+use Rattle.disk_array.specs.Processes.{same_id}
+use Rattle.bus_story.specs.BusState.{RowReading, row_reading}
+use Rattle.bus_story.specs.HistoryEvents.{row_events_by}
+use Rattle.bus_story.specs.Items.{Sent, command_id}
+use Rattle.bus_story.specs.Story.{Story, by_status, story_after_event, story_after_events, story_with_end, with_check}
+use Rattle.bus_story.specs.TraceHistory.{story_by_change}
+use Rattle.bus_due.specs.RunSteps.{run_state}
+use Rattle.bus_books.proofs.Lookups.{id_is}
+use Rattle.trace_laws.proofs.OverItems.{events_grow}
+use Rattle.progress_laws.proofs.OwedRows.{changed}
+use Rattle.initiator.specs.Causes.{has_status, is_status_of}
+
+abbrev pub IsChecked : ℕ → Sent → Type 0
+IsChecked n b = list_any (λ k. k == n) b.checks ≡ true
+
+last_there : (xs : List ℕ) (n : ℕ) → list_any (λ k. k == n) (xs ++ n ∷ []) ≡ true
+last_there [] n = ap (λ (q : Bool). q || false) (eq_self n)
+last_there (x ∷ xs) n = go (x == n) (last_there xs n)
+  where
+    go : (q : Bool) → list_any (λ k. k == n) (xs ++ n ∷ []) ≡ true → (q || list_any (λ k. k == n) (xs ++ n ∷ [])) ≡ true
+    go true h = refl
+    go false h = h
+
+-- ---- an event
+
+check_stands : (b : Story) (n status : ℕ) → (status == CHECK_CONDITION) ≡ true → IsChecked n (with_check b (command_id n) status).sent
+check_stands b n status e =
+    (λ i. list_any (λ k. k == n) (if e i then record b { sent = record b.sent { checks = b.sent.checks ++ n ∷ [] } } else b).sent.checks) ∙ last_there b.sent.checks n
+
+event_stands : (s : ScenarioValue) (b : Story) (n : ℕ) (e : Event) → is_status_of (command_id n) CHECK_CONDITION e ≡ true → IsChecked n (story_after_event s b e).sent
+event_stands s b n (events.End id status) e =
+    let same : id ≡ command_id n = id_is id (command_id n) (and_first (same_id id (command_id n)) (status == CHECK_CONDITION) e) in
+    ap (λ (x : ProcId). list_any (λ k. k == n) (with_check (story_with_end b x (by_status status)) x status).sent.checks) same
+    ∙ check_stands (story_with_end b (command_id n) (by_status status)) n status (and_second (same_id id (command_id n)) (status == CHECK_CONDITION) e)
+event_stands s b n (events.Accept id) e = wrong' e
+event_stands s b n (events.Refuse id) e = wrong' e
+event_stands s b n (events.Run id) e = wrong' e
+event_stands s b n (events.Fail id code) e = wrong' e
+event_stands s b n (events.Lost id) e = wrong' e
+event_stands s b n (events.Aborted i t m what) e = wrong' e
+event_stands s b n (events.Reset dev) e = wrong' e
+
+-- ---- the events of a row
+
+shown_stands : (s : ScenarioValue) (b : Story) (n : ℕ) (shown : List Event) → has_status shown (command_id n) CHECK_CONDITION ≡ true → IsChecked n (story_after_events s b shown).sent
+shown_stands s b n [] e = wrong' e
+shown_stands s b n (x ∷ shown) e = go (is_status_of (command_id n) CHECK_CONDITION x) refl e (λ z. shown_stands s b n shown z)
+  where
+    was : Story
+    was = story_after_events s b shown
+
+    go : (q : Bool) → is_status_of (command_id n) CHECK_CONDITION x ≡ q → (q || has_status shown (command_id n) CHECK_CONDITION) ≡ true
+        → (has_status shown (command_id n) CHECK_CONDITION ≡ true → IsChecked n was.sent) → IsChecked n (story_after_event s was x).sent
+    go true z f rest = event_stands s was n x z
+    go false z f rest = (events_grow s was (x ∷ [])).checks n (rest f)
+
+either : (xs ys : List Event) (id : ProcId) (status : ℕ) → has_status (xs ++ ys) id status ≡ true → (has_status xs id status ≡ true) ⊎ (has_status ys id status ≡ true)
+either [] ys id status e = inr e
+either (x ∷ xs) ys id status e = go (is_status_of id status x) e (either xs ys id status)
+  where
+    go : (q : Bool) → (q || has_status (xs ++ ys) id status) ≡ true → (has_status (xs ++ ys) id status ≡ true → (has_status xs id status ≡ true) ⊎ (has_status ys id status ≡ true))
+        → ((q || has_status xs id status) ≡ true) ⊎ (has_status ys id status ≡ true)
+    go true z rest = inl refl
+    go false z rest = rest z
+
+-- ---- after any rows
+
+pub checks_stand : (s : ScenarioValue) (p : List Row) (n : ℕ) → has_status (run_state s p).story.history (command_id n) CHECK_CONDITION ≡ true → IsChecked n (run_state s p).story.sent
+checks_stand s [] n e = wrong' e
+checks_stand s (row ∷ p) n e = go (either now b.history (command_id n) CHECK_CONDITION e) (λ z. checks_stand s p n z)
+  where
+    b : Story
+    b = (run_state s p).story
+
+    d : RowReading
+    d = row_reading b.bus_state row
+
+    c : Story
+    c = story_by_change s b d row
+
+    now : List Event
+    now = row_events_by s b d row
+
+    go : (has_status now (command_id n) CHECK_CONDITION ≡ true) ⊎ (has_status b.history (command_id n) CHECK_CONDITION ≡ true)
+        → (has_status b.history (command_id n) CHECK_CONDITION ≡ true → IsChecked n b.sent) → IsChecked n (run_state s (row ∷ p)).story.sent
+    go (inl z) rest = shown_stands s c n now z
+    go (inr z) rest = (events_grow s c now).checks n (ap (λ (x : List ℕ). list_any (λ k. k == n) x) (changed s b d row).checks ∙ rest z)

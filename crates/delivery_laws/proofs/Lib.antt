@@ -1,0 +1,26 @@
+pub mod ValidReplies
+pub mod CalmTraces
+pub mod Callings
+pub mod EndStatuses
+pub mod Delivered
+pub mod Counting
+pub mod OpenWithin
+pub mod Taken
+pub mod Room
+pub mod Faultless
+pub mod Present
+pub mod OutcomeCauses
+pub mod Checks
+pub mod SenseReplies
+pub mod Stopped
+pub mod OwnSenses
+pub mod OwnRows
+pub mod LastingReplies
+pub mod GivenReplies
+pub mod OwnOutcomes
+pub mod InvalidReplies
+pub mod Unheard
+pub mod CheckedOutcomes
+pub mod ResetDevices
+pub mod ResetLines
+mod Cases

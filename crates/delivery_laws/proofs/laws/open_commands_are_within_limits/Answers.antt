@@ -1,0 +1,10 @@
+use Rattle.std.proofs.Common.{ℕ, ◌≤◌, sym, subst}
+use Rattle.bus_due.specs.RunSteps.{run_state}
+use Rattle.bus_story.specs.Items.{open_limit_of}
+use Rattle.delivery_laws.proofs.Counting.{open_length}
+use Rattle.delivery_laws.proofs.OpenWithin.{open_within}
+use Rattle.delivery_laws.proofs.laws.open_commands_are_within_limits.Goals as goal
+
+pub returns : goal.returns
+returns c = λ s rows dev o prompt.
+    subst (λ (x : ℕ). x ≤ open_limit_of s.hosts dev) (sym (open_length (run_state s rows).story.sent dev 1 s.commands)) (open_within s rows o prompt dev)

@@ -1,0 +1,35 @@
+use Rattle.std.proofs.Common.{◌∙◌, List, Option, sym, ap, subst}
+use Rattle.bus_base.specs.declared.Event.{Event}
+use Rattle.disk_array.specs.ArrayHistory.{array_after, reply_of}
+use Rattle.disk_array.specs.Units.{Array}
+use Rattle.bus_story.specs.Items.{command_id}
+use Rattle.bus_story.specs.Outcomes.{ending_of}
+use Rattle.bus_story.specs.Story.{Story}
+use Rattle.bus_due.specs.RunState.{array_of}
+use Rattle.bus_due.specs.RunSteps.{run_state}
+use Rattle.bus_due.proofs.Plains.{prompt_plain}
+use Rattle.delivery_laws.specs.Delivery.{HasRun}
+use Rattle.delivery_laws.proofs.CheckedOutcomes.{ran_outcome}
+use Rattle.delivery_laws.proofs.Delivered.{HaveCauses}
+use Rattle.delivery_laws.proofs.LastingReplies.{ran_lasts}
+use Rattle.delivery_laws.proofs.OwnOutcomes.{own_plays}
+use Rattle.delivery_laws.proofs.laws.replies_last.Goals as goal
+
+pub returns-clause-ran : goal.returns-clause-ran
+returns-clause-ran c = λ s rows id r o prompt w.
+    let same = ap (λ (b : Story). b.history) (prompt_plain s rows prompt).story in
+    ap (λ (h : List Event). reply_of (array_after s h) id) (sym same) ∙ ap (λ (x : Option Array). reply_of x id) (own_plays s rows o prompt)
+    ∙ ran_lasts s rows (array_of s (run_state s rows)) id r o prompt (own_plays s rows o prompt) (subst (λ (h : List Event). HasRun s h id r) (sym same) w)
+
+pub returns-clause-checked : goal.returns-clause-checked
+returns-clause-checked c = λ s rows o prompt n status r w check e.
+    let causes : HaveCauses = record {
+      status = c.endings_have_causes.ensures.status;
+      loss = c.endings_have_causes.ensures.loss;
+      reset = c.endings_have_causes.ensures.reset;
+      abort = c.endings_have_causes.ensures.abort;
+      tried = c.endings_have_causes.ensures.unanswered;
+    } in
+    let same = (prompt_plain s rows prompt).story in
+    ran_outcome s rows n status r causes o prompt (subst (λ (h : List Event). HasRun s h (command_id n) r) (sym (ap (λ (b : Story). b.history) same)) w) check
+    (ap (λ (b : Story). ending_of b.ended n) same ∙ e)

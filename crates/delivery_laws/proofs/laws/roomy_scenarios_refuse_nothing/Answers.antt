@@ -1,0 +1,7 @@
+use Rattle.bus_due.specs.RunSteps.{run_state}
+use Rattle.delivery_laws.proofs.Room.{none_refused}
+use Rattle.delivery_laws.proofs.Taken.{never_refused}
+use Rattle.delivery_laws.proofs.laws.roomy_scenarios_refuse_nothing.Goals as goal
+
+pub returns : goal.returns
+returns c = λ s rows id o roomy prompt. never_refused (run_state s rows).story.history id (none_refused s rows o roomy prompt)

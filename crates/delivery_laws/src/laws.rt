@@ -1,0 +1,176 @@
+// Laws of prompt traces, each named by the contract of a function that does nothing.
+
+ghost use Rattle.std.specs.Prelude.{ℕ, ◌≡◌, ◌≤◌, ◌⊎◌, length, nat_le, nat_lt, true, false, List, [], Some};
+ghost use Rattle.bus_trace.specs.declared.Row.{Row};
+ghost use Rattle.bus_base.specs.declared.Event.TheVariants as events;
+ghost use Rattle.bus_due.specs.Goals.{Delivers, is_good};
+ghost use Rattle.bus_due.specs.Next.{IsPrompt, IsEnded};
+ghost use Rattle.ending_causes.specs.FullQueues.{has_event};
+ghost use Rattle.bus_due.specs.RunSteps.{run_state};
+ghost use Rattle.std.specs.List.{list_any};
+ghost use Rattle.bus_base.specs.declared.Event.{Event};
+ghost use Rattle.bus_base.specs.declared.ProcId.{ProcId};
+ghost use Rattle.scenario.specs.declared.value.CmdDef.{CmdDef};
+ghost use Rattle.scenario.specs.Value.{ScenarioValue};
+ghost use Rattle.scenario.specs.Writing.{Obeys};
+ghost use Rattle.disk_array.specs.ArrayHistory.{array_after, reply_in, reply_of};
+ghost use Rattle.disk_array.specs.Execution.{Reply};
+ghost use Rattle.disk_array.specs.Processes.{command_at};
+ghost use Rattle.disk_array.specs.Units.{Array};
+ghost use Rattle.cdb_codec.specs.declared.status.TheConstants.{GOOD};
+ghost use Rattle.bus_story.specs.Items.{command_id, command_item, open_from, open_limit_of};
+ghost use Rattle.bus_story.specs.Outcomes.{ending_of, is_roomy, is_valid, outcome_of};
+ghost use Rattle.bus_story.specs.Story.{unanswered};
+ghost use Rattle.bus_story.specs.TraceHistory.{retries_of, story, trace_history};
+ghost use Rattle.scenario.specs.Lookups.{has_target};
+ghost use Rattle.delivery_laws.specs.Delivery.{AreAnswered, AreCaused, AreChecked, AreOwnSenses, AreStoppedSenses, DeliversFaulted, HasRun, IsGiven};
+ghost use Rattle.delivery_laws.specs.Delivery.{calling_faults, command_faults, fault_limit, is_calm_event, is_given_up_by};
+ghost use Rattle.delivery_laws.specs.Resets.{are_lines, are_releases, has_line};
+ghost use Rattle.scenario.specs.declared.value.ResetDef.{ResetDef};
+ghost use Rattle.std.specs.List.{list_all};
+
+use bus_due::wants_are_items;
+use ending_causes::replies_have_causes;
+use fault_laws::fault_rows_are_of_the_scenario;
+use initiator::endings_have_causes;
+use progress_laws::ended_traces_have_outcomes;
+use trace_laws::limits_are_kept;
+
+/// In a history without resets and aborts a valid command is answered GOOD, unless it was refused or failed.
+pub fn valid_commands_run_good()
+    ensures { (s : ScenarioValue) (h : List Event) (a : Array) (n : ℕ) (c : CmdDef) (r : Reply) → Obeys s
+        → array_after s h ≡ Some a → list_all (λ (e : Event). is_calm_event e) h ≡ true
+        → command_at s.commands n ≡ Some c → is_valid s c ≡ true → reply_in a.replies (command_id n) ≡ Some r
+        → (r.status ≡ GOOD) ⊎ (list_any (λ (e : Event). is_given_up_by (command_id n) e) h ≡ true) }
+{}
+
+/// In a scenario without resets and aborts the history of a prompt trace has neither.
+pub fn calm_scenarios_have_calm_histories()
+    ensures { (s : ScenarioValue) (rows : List Row) → Obeys s → s.resets ≡ [] → s.aborts ≡ [] → IsPrompt s rows
+        → list_all (λ (e : Event). is_calm_event e) (run_state s rows).story.history ≡ true }
+{}
+
+/// A command for a target that is there ends unanswered only where faults struck more of its callings than its
+/// initiator tries again.
+pub fn unanswered_commands_were_struck()
+    ensures { (s : ScenarioValue) (rows : List Row) (n : ℕ) (c : CmdDef) → Obeys s → IsPrompt s rows
+        → command_at s.commands n ≡ Some c → has_target s c.target ≡ true
+        → ending_of (run_state s rows).story.ended n ≡ Some unanswered
+        → nat_lt (retries_of s.hosts c.host) (calling_faults s rows (command_item n)) ≡ true }
+{
+    endings_have_causes();
+}
+
+/// A valid command that was not refused, in a scenario without resets and aborts, ends GOOD where no more faults struck
+/// it than it bears.
+pub fn unrefused_commands_are_delivered()
+    ensures { (s : ScenarioValue) (rows : List Row) (n : ℕ) (c : CmdDef) → Obeys s → s.resets ≡ [] → s.aborts ≡ []
+        → IsPrompt s rows → IsEnded s rows → command_at s.commands n ≡ Some c → is_valid s c ≡ true
+        → nat_le (command_faults s rows n) (fault_limit s c) ≡ true
+        → has_event (run_state s rows).story.history (events.Refuse (command_id n)) ≡ false
+        → is_good (outcome_of s (story s rows) n) ≡ true }
+{
+    endings_have_causes();
+    limits_are_kept();
+    ended_traces_have_outcomes();
+}
+
+/// No initiator has more commands open than its limit.
+pub fn open_commands_are_within_limits()
+    ensures { (s : ScenarioValue) (rows : List Row) (dev : ℕ) → Obeys s → IsPrompt s rows
+        → length (open_from (run_state s rows).story.sent dev 1 s.commands) ≤ open_limit_of s.hosts dev }
+{}
+
+/// Where each queue has room for all commands that the initiators may have open at once, no command is refused.
+pub fn roomy_scenarios_refuse_nothing()
+    ensures { (s : ScenarioValue) (rows : List Row) (id : ProcId) → Obeys s → is_roomy s ≡ true → IsPrompt s rows
+        → has_event (run_state s rows).story.history (events.Refuse id) ≡ false }
+{}
+
+/// Where each queue has room for all commands that the initiators may have open at once, and there is no reset and no
+/// abort, every valid command that no more faults struck than it bears ends GOOD (`faulted`); so in a scenario without
+/// faults every valid command does (`faultless`).
+pub fn valid_commands_are_delivered()
+    ensures faulted { DeliversFaulted }
+    ensures faultless { Delivers }
+{
+    roomy_scenarios_refuse_nothing();
+    unrefused_commands_are_delivered();
+    fault_rows_are_of_the_scenario();
+}
+
+/// Why a command ends otherwise than GOOD, in any prompt trace: it is lost, or fails with SCSI PARITY ERROR or
+/// INITIATOR DETECTED ERROR MESSAGE RECEIVED, only where more faults struck it than it bears, and ends unanswered only
+/// there or where its target is absent; it ends with QUEUE FULL only where it was refused at a full queue, and by a
+/// reset or an abort only where the history has one.
+pub fn outcomes_have_causes()
+    ensures { (s : ScenarioValue) (rows : List Row) → Obeys s → IsPrompt s rows → AreCaused s rows }
+{
+    endings_have_causes();
+    limits_are_kept();
+    replies_have_causes();
+}
+
+/// In a prompt trace that has ended a command is without the sense of its CHECK CONDITION only where its automatic
+/// REQUEST SENSE was stopped, by a reset or an abort, or was lost.
+pub fn senseless_checks_were_stopped()
+    ensures { (s : ScenarioValue) (rows : List Row) → Obeys s → IsPrompt s rows → IsEnded s rows
+        → AreStoppedSenses s rows }
+{
+    wants_are_items();
+    endings_have_causes();
+}
+
+/// After every history that the plain disk array permits each process has its reply because it ran, and was carried out
+/// so at that moment, or because it failed or was refused.
+pub fn replies_are_given()
+    ensures { (s : ScenarioValue) (h : List Event) (a : Array) (id : ProcId) (r : Reply) → Obeys s
+        → array_after s h ≡ Some a → reply_in a.replies id ≡ Some r → IsGiven s h id r }
+{}
+
+/// In every prompt trace the sense with which a command ends is that of its own reply: with SCSI PARITY ERROR or
+/// INITIATOR DETECTED ERROR MESSAGE RECEIVED the command itself failed so, and more faults struck it than it bears; any
+/// other sense is what the plain disk array answered as this command ran.
+pub fn senses_are_their_own()
+    ensures { (s : ScenarioValue) (rows : List Row) → Obeys s → IsPrompt s rows → AreOwnSenses s rows }
+{
+    limits_are_kept();
+    replies_have_causes();
+}
+
+/// In a scenario without resets and aborts, at the end of a prompt trace: a command whose target is absent ended
+/// unanswered; and where each queue has room for all commands that the initiators may have open at once, one that is
+/// not valid, and that no more faults struck than it bears, ended with CHECK CONDITION and the sense of what is wrong
+/// with it first.
+pub fn invalid_commands_are_checked()
+    ensures { (s : ScenarioValue) (rows : List Row) → Obeys s → s.resets ≡ [] → s.aborts ≡ [] → IsPrompt s rows
+        → IsEnded s rows → AreChecked s rows }
+{
+    wants_are_items();
+    endings_have_causes();
+    limits_are_kept();
+    ended_traces_have_outcomes();
+    roomy_scenarios_refuse_nothing();
+}
+
+/// The resets of a prompt trace, by its rows alone: a row with which a device begins to drive RST is that of a reset
+/// line (`begins`); while a device drives RST its next row releases it, a reset hold time and its latency after it
+/// began (`ends`); and at the end of a trace each reset line has had its row, of its device and at its time, or its
+/// device drove RST then, or released it (`lines`).
+pub fn resets_are_by_lines()
+    ensures begins { (s : ScenarioValue) (rows : List Row) → Obeys s → IsPrompt s rows → are_lines s rows ≡ true }
+    ensures ends { (s : ScenarioValue) (rows : List Row) → Obeys s → IsPrompt s rows → are_releases s rows ≡ true }
+    ensures lines { (s : ScenarioValue) (rows : List Row) → Obeys s → IsPrompt s rows → IsEnded s rows
+        → list_all (λ (r : ResetDef). has_line rows r) s.resets ≡ true }
+{}
+
+/// In a prompt trace a process is answered once: one that ran has the reply that it got as it ran (`ran`); so a command
+/// that ran with CHECK CONDITION, and that neither was lost nor ended by a reset or an abort, ends with CHECK CONDITION
+/// and this sense, or without sense (`checked`).
+pub fn replies_last()
+    ensures ran { (s : ScenarioValue) (rows : List Row) (id : ProcId) (r : Reply) → Obeys s → IsPrompt s rows
+        → HasRun s (trace_history s rows) id r → reply_of (array_after s (trace_history s rows)) id ≡ Some r }
+    ensures checked { (s : ScenarioValue) (rows : List Row) → Obeys s → IsPrompt s rows → AreAnswered s rows }
+{
+    endings_have_causes();
+}
