@@ -4,12 +4,14 @@
     tools/fresh.py
 
 A maker's output and the file are compared without blanks and line ends, since the file was laid out; a file imports no name that its
-maker does not. Ends with status 1 where one differs.
+maker does not, by the way that crates.txt leaves (tools/imports.py). Ends with status 1 where one differs.
 """
 import pathlib
 import re
 import subprocess
 import sys
+
+import imports
 
 ROOT = pathlib.Path(__file__).resolve().parent.parent
 CASES = sorted(str(path) for path in (ROOT / "tools" / "cases").glob("*.scn"))
@@ -55,7 +57,7 @@ MADE = {
     "crates/right_laws/proofs/GivenCases.antt": (["tools/books_case.py", "--given"] + READS, None),
     "crates/bus_laws/proofs/WrittenCases.antt": (["tools/written_case.py", "Cases"] + RUNS, None),
     "crates/disk_target/proofs/AttendedCases.antt": (["tools/attended_case.py", "Cases"] + RUNS, None),
-    "crates/ending_causes/proofs/RunCases.antt": (["tools/cause_case.py", "Cases"] + RUNS, None),
+    "crates/bus_books/proofs/CauseRunCases.antt": (["tools/cause_case.py", "Cases"] + RUNS, None),
     "crates/bus_laws/proofs/Cases.antt": (["tools/law_case.py"] + LAWS, None),
     "crates/vcd_text/proofs/TraceCases.antt": (["tools/dump_case.py"] + DUMPS, None),
     "crates/bus_transcript/proofs/Cases.antt": (["tools/transcript_case.py"] + TRANSCRIPTS, None),
@@ -88,7 +90,7 @@ def made(command, source):
 def main():
     stale = []
     for name, (command, source) in MADE.items():
-        new, old = made(command, source), (ROOT / name).read_text()
+        new, old = imports.homely(made(command, source)), imports.homely((ROOT / name).read_text())
         if body(new) != body(old) or not uses(old) <= uses(new):
             stale.append("%s is not what %s writes" % (name, command[0]))
     print("\n".join(stale) if stale else "the generated cases are fresh")

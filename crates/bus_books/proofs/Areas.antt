@@ -2,7 +2,7 @@
 use Rattle.std.proofs.Common.{ℕ, ◌≡◌, ◌≤◌, ◌<◌, ◌+◌, Bool, true, false, List, [], ◌∷◌, ◌++◌, ◌∙◌, ◌⊎◌, inl, inr, length, refl, sym, ap, arith, append_assoc, length-append}
 use Rattle.std.specs.Prelude.{slice_index_or, slice_set, nat_lt, if◌then◌else◌}
 use Rattle.std.proofs.lemmas.Bool.Decides.{nat_tests}
-use Rattle.bus_story.specs.CarriedBytes.{Area, CarriedBytes, bytes_with, area_with}
+use Rattle.bus_due.specs.bus_story.specs.CarriedBytes.{Area, CarriedBytes, bytes_with, area_with}
 use Rattle.bus_books.specs.Carrying.{IsFilled, TakesBlock}
 use Rattle.bus_books.proofs.Lists.{word_at, set_same}
 

@@ -1,11 +1,11 @@
 -- A command descriptor block that was heard whole is that of the process.
 use Rattle.std.proofs.Common.{ℕ, ◌≡◌, ◌<◌, Bool, true, false, ◌||◌, ◌∙◌, List, length, Option, Some, None, refl, ap, arith}
-use Rattle.cdb_codec.specs.Cdb.{has_group_len}
-use Rattle.scenario.specs.Value.{ScenarioValue}
-use Rattle.disk_array.specs.Processes.{Process, process_of}
-use Rattle.bus_story.specs.Items.{Item, process, abort}
-use Rattle.bus_story.specs.Right.{same_bytes}
-use Rattle.bus_story.proofs.CarriedLists.{carried_id}
+use Rattle.bus_due.specs.cdb_codec.specs.Cdb.{has_group_len}
+use Rattle.bus_due.specs.scenario.specs.Value.{ScenarioValue}
+use Rattle.bus_due.specs.disk_array.specs.Processes.{Process, process_of}
+use Rattle.bus_due.specs.bus_story.specs.Items.{Item, process, abort}
+use Rattle.bus_due.specs.bus_story.specs.Right.{same_bytes}
+use Rattle.bus_due.specs.bus_story.proofs.CarriedLists.{carried_id}
 use Rattle.bus_due.specs.Faithful.{is_block_of_process}
 use Rattle.bus_due.specs.RunState.{RunState, process_item, process_served, carried_here}
 use Rattle.bus_books.specs.Carrying.{AllCarryOwn, CarriesOwn}

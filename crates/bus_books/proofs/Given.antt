@@ -1,31 +1,31 @@
 -- MESSAGE IN begins with a reselection; and no byte of it makes an unknown message, nor is one half given at the end.
 use Rattle.std.proofs.Common.{ℕ, zero, suc, ◌≡◌, ◌<◌, Bool, true, false, not, ◌&&◌, ◌∙◌, List, [], ◌∷◌, ◌++◌, length, Option, Some, None, refl, sym, ap, subst, arith, append-nil, length-append, true≢false}
 use Rattle.std.specs.Prelude.{if◌then◌else◌, is_some, slice_index_or, ◌%◌}
-use Rattle.bus_trace.specs.declared.Row.{Row}
-use Rattle.bus_trace.specs.declared.changes.Change.{Change}
-use Rattle.bus_trace.specs.declared.connection.Connection.{Connection}
-use Rattle.bus_trace.specs.Changes.{rises}
-use Rattle.bus_trace.specs.Terms.{receiver_in}
-use Rattle.bus_trace.specs.Phases.{changes_phase, is_message_out, is_message_in}
-use Rattle.bus_lines.specs.Handshakes.{no_handshakes, handshakes_after, asked_if, answered_if}
-use Rattle.bus_phases.specs.declared.reading.Reading.TheVariants as readings
-use Rattle.bus_phases.specs.Dialogue.{opened, dialogue_after}
-use Rattle.bus_phases.specs.Reading.{reading_out, reading_in, reading_of}
-use Rattle.bus_rules.specs.Messages.{is_unknown}
-use Rattle.msg_grammar.specs.declared.message.MsgIn.{MsgIn}
-use Rattle.msg_grammar.specs.declared.message.MsgIn.TheVariants as to_initiator
-use Rattle.msg_grammar.specs.Messages.{form_in, FitsIn, got_out, got_in, in_bytes}
-use Rattle.scenario.specs.declared.value.Tag.{Tag}
-use Rattle.scenario.specs.declared.value.Tag.TheVariants as tags
-use Rattle.scenario.specs.Value.{ScenarioValue}
-use Rattle.bus_story.specs.PairAgreements.{agreement_in}
-use Rattle.bus_story.specs.BusState.{row_reading}
-use Rattle.bus_story.specs.TraceHistory.{aim_of}
-use Rattle.bus_dialogue.specs.declared.exchange.Messages.{Messages}
-use Rattle.bus_dialogue.specs.Exchange.{no_messages, bytes_of_messages, message_bytes}
-use Rattle.bus_dialogue.specs.Planning.{first_plan}
-use Rattle.bus_dialogue.specs.Words.{tag_named}
-use Rattle.bus_dialogue.specs.Wants.{Ready}
+use Rattle.bus_due.specs.bus_trace.specs.declared.Row.{Row}
+use Rattle.bus_due.specs.bus_trace.specs.declared.changes.Change.{Change}
+use Rattle.bus_due.specs.bus_trace.specs.declared.connection.Connection.{Connection}
+use Rattle.bus_due.specs.bus_trace.specs.Changes.{rises}
+use Rattle.bus_due.specs.bus_trace.specs.Terms.{receiver_in}
+use Rattle.bus_due.specs.bus_trace.specs.Phases.{changes_phase, is_message_out, is_message_in}
+use Rattle.bus_due.specs.bus_lines.specs.Handshakes.{no_handshakes, handshakes_after, asked_if, answered_if}
+use Rattle.bus_due.specs.bus_phases.specs.declared.reading.Reading.TheVariants as readings
+use Rattle.bus_due.specs.bus_phases.specs.Dialogue.{opened, dialogue_after}
+use Rattle.bus_due.specs.bus_phases.specs.Reading.{reading_out, reading_in, reading_of}
+use Rattle.bus_due.specs.bus_rules.specs.Messages.{is_unknown}
+use Rattle.bus_due.specs.msg_grammar.specs.declared.message.MsgIn.{MsgIn}
+use Rattle.bus_due.specs.msg_grammar.specs.declared.message.MsgIn.TheVariants as to_initiator
+use Rattle.bus_due.specs.msg_grammar.specs.Messages.{form_in, FitsIn, got_out, got_in, in_bytes}
+use Rattle.bus_due.specs.scenario.specs.declared.value.Tag.{Tag}
+use Rattle.bus_due.specs.scenario.specs.declared.value.Tag.TheVariants as tags
+use Rattle.bus_due.specs.scenario.specs.Value.{ScenarioValue}
+use Rattle.bus_due.specs.bus_story.specs.PairAgreements.{agreement_in}
+use Rattle.bus_due.specs.bus_story.specs.BusState.{row_reading}
+use Rattle.bus_due.specs.bus_story.specs.TraceHistory.{aim_of}
+use Rattle.bus_due.specs.bus_dialogue.specs.declared.exchange.Messages.{Messages}
+use Rattle.bus_due.specs.bus_dialogue.specs.Exchange.{no_messages, bytes_of_messages, message_bytes}
+use Rattle.bus_due.specs.bus_dialogue.specs.Planning.{first_plan}
+use Rattle.bus_due.specs.bus_dialogue.specs.Words.{tag_named}
+use Rattle.bus_due.specs.bus_dialogue.specs.Wants.{Ready}
 use Rattle.bus_due.specs.RunState.{RunState, bus_of}
 use Rattle.bus_due.specs.RunSteps.{run_state_after, messages_if, first_exchange, exchange_after, may_negotiate, leaving_of}
 use Rattle.bus_due.specs.Wants.{ready_of}
@@ -35,7 +35,7 @@ use Rattle.bus_books.specs.Rows.{IsFirstRow}
 use Rattle.bus_books.proofs.Lists.{word_at}
 use Rattle.bus_books.proofs.Areas.{split_at}
 use Rattle.bus_books.proofs.Gives.{gives_as, answered_same}
-use Rattle.bus_base.proofs.Tests.{and_first, and_second}
+use Rattle.bus_due.specs.bus_base.proofs.Tests.{and_first, and_second}
 use Rattle.bus_books.proofs.Reading.{nil_is}
 use Rattle.bus_books.proofs.Hearable.{next_half}
 

@@ -2,30 +2,30 @@
 use Rattle.std.proofs.Common.{ℕ, ◌≡◌, ◌<◌, ◌+◌, Bool, true, false, not, ◌&&◌, ◌∙◌, List, [], ◌∷◌, ◌++◌, length, Option, Some, None, refl, sym, ap, subst, arith, append_assoc, length-append}
 use Rattle.std.proofs.lemmas.Bool.{not-true}
 use Rattle.std.specs.Prelude.{if◌then◌else◌, is_some, slice_index_or, nat_lt, ◌-◌, ◌%◌}
-use Rattle.bus_base.specs.Faults.{counted_on}
-use Rattle.bus_trace.specs.LineSet.{LineSet}
-use Rattle.bus_trace.specs.declared.Row.{Row}
-use Rattle.bus_trace.specs.declared.changes.Change.{Change}
-use Rattle.bus_trace.specs.declared.connection.Connection.{Connection}
-use Rattle.bus_trace.specs.Changes.{rises}
-use Rattle.bus_trace.specs.Terms.{receiver_in}
-use Rattle.bus_trace.specs.Phases.{changes_phase, is_message_out, is_message_in}
-use Rattle.bus_lines.specs.Handshakes.{Handshakes, no_handshakes, handshakes_on, handshakes_after, asked_if, answered_if}
-use Rattle.bus_phases.specs.declared.dialogue.Dialogue.{Dialogue}
-use Rattle.bus_phases.specs.Dialogue.{byte_out, byte_in, byte_else, byte_crosses, phase_begins}
-use Rattle.bus_phases.specs.Half.{left_of}
-use Rattle.msg_grammar.specs.declared.message.MsgIn.{MsgIn}
-use Rattle.msg_grammar.specs.declared.message.MsgIn.TheVariants as to_initiator
-use Rattle.msg_grammar.specs.declared.message.MsgOut.{MsgOut}
-use Rattle.msg_grammar.specs.Messages.{FitsIn, got_in, in_bytes}
-use Rattle.scenario.specs.declared.value.HostDef.{HostDef}
-use Rattle.scenario.specs.Value.{ScenarioValue}
-use Rattle.bus_dialogue.specs.declared.exchange.Hearing.{Hearing}
-use Rattle.bus_dialogue.specs.declared.exchange.Leaving.{Leaving}
-use Rattle.bus_dialogue.specs.declared.exchange.Messages.{Messages}
-use Rattle.bus_dialogue.specs.declared.exchange.Plan.{Plan}
-use Rattle.bus_dialogue.specs.Exchange.{Exchange, bytes_of_messages, message_bytes, from_byte, plan_anew, plan_anew_if, plan_after_message, struck_plan}
-use Rattle.bus_dialogue.specs.Planning.{plan_in_phase, plan_in_message_out}
+use Rattle.bus_due.specs.bus_base.specs.Faults.{counted_on}
+use Rattle.bus_due.specs.bus_trace.specs.LineSet.{LineSet}
+use Rattle.bus_due.specs.bus_trace.specs.declared.Row.{Row}
+use Rattle.bus_due.specs.bus_trace.specs.declared.changes.Change.{Change}
+use Rattle.bus_due.specs.bus_trace.specs.declared.connection.Connection.{Connection}
+use Rattle.bus_due.specs.bus_trace.specs.Changes.{rises}
+use Rattle.bus_due.specs.bus_trace.specs.Terms.{receiver_in}
+use Rattle.bus_due.specs.bus_trace.specs.Phases.{changes_phase, is_message_out, is_message_in}
+use Rattle.bus_due.specs.bus_lines.specs.Handshakes.{Handshakes, no_handshakes, handshakes_on, handshakes_after, asked_if, answered_if}
+use Rattle.bus_due.specs.bus_phases.specs.declared.dialogue.Dialogue.{Dialogue}
+use Rattle.bus_due.specs.bus_phases.specs.Dialogue.{byte_out, byte_in, byte_else, byte_crosses, phase_begins}
+use Rattle.bus_due.specs.bus_phases.specs.Half.{left_of}
+use Rattle.bus_due.specs.msg_grammar.specs.declared.message.MsgIn.{MsgIn}
+use Rattle.bus_due.specs.msg_grammar.specs.declared.message.MsgIn.TheVariants as to_initiator
+use Rattle.bus_due.specs.msg_grammar.specs.declared.message.MsgOut.{MsgOut}
+use Rattle.bus_due.specs.msg_grammar.specs.Messages.{FitsIn, got_in, in_bytes}
+use Rattle.bus_due.specs.scenario.specs.declared.value.HostDef.{HostDef}
+use Rattle.bus_due.specs.scenario.specs.Value.{ScenarioValue}
+use Rattle.bus_due.specs.bus_dialogue.specs.declared.exchange.Hearing.{Hearing}
+use Rattle.bus_due.specs.bus_dialogue.specs.declared.exchange.Leaving.{Leaving}
+use Rattle.bus_due.specs.bus_dialogue.specs.declared.exchange.Messages.{Messages}
+use Rattle.bus_due.specs.bus_dialogue.specs.declared.exchange.Plan.{Plan}
+use Rattle.bus_due.specs.bus_dialogue.specs.Exchange.{Exchange, bytes_of_messages, message_bytes, from_byte, plan_anew, plan_anew_if, plan_after_message, struck_plan}
+use Rattle.bus_due.specs.bus_dialogue.specs.Planning.{plan_in_phase, plan_in_message_out}
 use Rattle.bus_due.specs.RunState.{RunState, bus_of}
 use Rattle.bus_due.specs.Defs.{host_of}
 use Rattle.bus_due.specs.Sights.{hearing_of, leaving, serving_of}
@@ -38,8 +38,8 @@ use Rattle.bus_books.proofs.Lists.{word_at}
 use Rattle.bus_books.proofs.Areas.{split_at}
 use Rattle.bus_books.proofs.InConnection.{dialogue_by, InConnection, in_connection, SamePhase, same_phase_is}
 use Rattle.bus_books.proofs.Leavings.{IsOfOthers, left_messages}
-use Rattle.bus_base.proofs.Tests.{and_second, rises_none, rises_some, wrong}
-use Rattle.bus_lines.proofs.Early.{struck_same}
+use Rattle.bus_due.specs.bus_base.proofs.Tests.{and_second, rises_none, rises_some, wrong}
+use Rattle.bus_due.specs.bus_lines.proofs.Early.{struck_same}
 
 -- ---- bytes
 

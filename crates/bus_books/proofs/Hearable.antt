@@ -1,13 +1,13 @@
 -- The initiator hears of a target just the messages that this plans.
 use Rattle.std.proofs.Common.{ℕ, zero, suc, ◌≡◌, ◌<◌, ◌∙◌, List, [], ◌∷◌, ◌++◌, length, Option, Some, None, sym, ap, subst, arith, append-nil}
 use Rattle.std.specs.Prelude.{slice_index_or, ⊤}
-use Rattle.bus_phases.specs.Half.{left_of}
-use Rattle.msg_grammar.specs.declared.message.MsgIn.{MsgIn}
-use Rattle.msg_grammar.specs.declared.message.MsgIn.TheVariants as to_initiator
-use Rattle.msg_grammar.specs.Messages.{form_in, FitsIn, got_in, in_bytes}
-use Rattle.bus_story.specs.BusState.{whole_in}
-use Rattle.bus_dialogue.specs.declared.exchange.Messages.{Messages}
-use Rattle.bus_dialogue.specs.Exchange.{bytes_of_messages, message_bytes}
+use Rattle.bus_due.specs.bus_phases.specs.Half.{left_of}
+use Rattle.bus_due.specs.msg_grammar.specs.declared.message.MsgIn.{MsgIn}
+use Rattle.bus_due.specs.msg_grammar.specs.declared.message.MsgIn.TheVariants as to_initiator
+use Rattle.bus_due.specs.msg_grammar.specs.Messages.{form_in, FitsIn, got_in, in_bytes}
+use Rattle.bus_due.specs.bus_story.specs.BusState.{whole_in}
+use Rattle.bus_due.specs.bus_dialogue.specs.declared.exchange.Messages.{Messages}
+use Rattle.bus_due.specs.bus_dialogue.specs.Exchange.{bytes_of_messages, message_bytes}
 use Rattle.bus_books.specs.Listening.{half_after}
 use Rattle.bus_books.specs.Giving.{AreGiven, OnMessage, OnMessages}
 use Rattle.bus_books.proofs.Lists.{word_at}

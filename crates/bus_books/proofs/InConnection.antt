@@ -1,19 +1,19 @@
 -- A row in a connection that stands before and after it: what it makes of what is kept.
 use Rattle.std.proofs.Common.{◌≡◌, Bool, true, false, not, ◌&&◌, ◌∙◌, Some, None, refl, sym, ap, true≢false}
 use Rattle.std.specs.Prelude.{if◌then◌else◌, is_some}
-use Rattle.bus_trace.specs.LineSet.{LineSet, same}
-use Rattle.bus_trace.specs.declared.Row.{Row}
-use Rattle.bus_trace.specs.declared.changes.Change.{Change}
-use Rattle.bus_trace.specs.declared.connection.Connection.{Connection}
-use Rattle.bus_trace.specs.Changes.{same_phase}
-use Rattle.bus_trace.specs.Terms.{is_fault, connection_after, receiver_in, receiver_of}
-use Rattle.bus_trace.specs.Phases.{changes_phase}
-use Rattle.bus_phases.specs.declared.dialogue.Dialogue.{Dialogue}
-use Rattle.bus_phases.specs.Dialogue.{dialogue_after, byte_crosses, phase_begins}
-use Rattle.scenario.specs.Value.{ScenarioValue}
-use Rattle.bus_story.specs.PairAgreements.{agreement_in}
-use Rattle.bus_story.specs.BusState.{row_reading, message_out, message_in}
-use Rattle.bus_lines.specs.Handshakes.{handshakes_after}
+use Rattle.bus_due.specs.bus_trace.specs.LineSet.{LineSet, same}
+use Rattle.bus_due.specs.bus_trace.specs.declared.Row.{Row}
+use Rattle.bus_due.specs.bus_trace.specs.declared.changes.Change.{Change}
+use Rattle.bus_due.specs.bus_trace.specs.declared.connection.Connection.{Connection}
+use Rattle.bus_due.specs.bus_trace.specs.Changes.{same_phase}
+use Rattle.bus_due.specs.bus_trace.specs.Terms.{is_fault, connection_after, receiver_in, receiver_of}
+use Rattle.bus_due.specs.bus_trace.specs.Phases.{changes_phase}
+use Rattle.bus_due.specs.bus_phases.specs.declared.dialogue.Dialogue.{Dialogue}
+use Rattle.bus_due.specs.bus_phases.specs.Dialogue.{dialogue_after, byte_crosses, phase_begins}
+use Rattle.bus_due.specs.scenario.specs.Value.{ScenarioValue}
+use Rattle.bus_due.specs.bus_story.specs.PairAgreements.{agreement_in}
+use Rattle.bus_due.specs.bus_story.specs.BusState.{row_reading, message_out, message_in}
+use Rattle.bus_due.specs.bus_lines.specs.Handshakes.{handshakes_after}
 use Rattle.bus_due.specs.RunState.{RunState}
 use Rattle.bus_due.specs.Defs.{host_of}
 use Rattle.bus_due.specs.Sights.{hearing_of, leaving}

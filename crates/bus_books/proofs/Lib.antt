@@ -30,3 +30,14 @@ pub mod MessageRules
 pub mod FirstBytes
 pub mod ReadyProcesses
 pub mod CarriedSteps
+pub mod Replies
+pub mod Refusals
+pub mod Counts
+pub mod GiveUps
+pub mod FailureTraces
+mod Forward
+mod CauseCases
+mod CauseRunCases
+pub mod Struck
+pub mod Faults
+pub mod Senses

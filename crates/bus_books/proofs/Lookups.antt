@@ -1,12 +1,12 @@
 -- What one process carried_after_byte does not touch another.
 use Rattle.std.proofs.Common.{◌≡◌, Bool, false, List, ◌∙◌, ap}
 use Rattle.std.specs.Prelude.{if◌then◌else◌}
-use Rattle.bus_base.specs.declared.ProcId.{ProcId}
-use Rattle.disk_array.specs.Processes.{same_id}
-use Rattle.bus_story.specs.CarriedBytes.{CarriedBytes, with_carried, carried_of}
-use Rattle.bus_story.proofs.CarriedLists.{carried_with}
-pub use Rattle.disk_array.proofs.SeatLookups.{same_id_is as id_is}
-pub use Rattle.disk_array.proofs.SeatReplies.{id_self as self_id}
+use Rattle.bus_due.specs.bus_base.specs.declared.ProcId.{ProcId}
+use Rattle.bus_due.specs.disk_array.specs.Processes.{same_id}
+use Rattle.bus_due.specs.bus_story.specs.CarriedBytes.{CarriedBytes, with_carried, carried_of}
+use Rattle.bus_due.specs.bus_story.proofs.CarriedLists.{carried_with}
+pub use Rattle.bus_due.specs.disk_array.proofs.SeatLookups.{same_id_is as id_is}
+pub use Rattle.bus_due.specs.disk_array.proofs.SeatReplies.{id_self as self_id}
 
 pub put_own : (all : List CarriedBytes) (c : CarriedBytes) (id : ProcId) → c.id ≡ id → carried_of (with_carried all c) id ≡ c
 put_own all c id e = carried_with all c id ∙ ap (λ (q : Bool). if q then c else carried_of all id) (ap (λ (x : ProcId). same_id x id) e ∙ self_id id)

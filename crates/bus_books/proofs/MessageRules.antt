@@ -1,38 +1,38 @@
 -- The bytes of message phases form messages, and none is half sent as the phase is left (6.6).
 use Rattle.std.proofs.Common.{ℕ, ◌≡◌, ◌<◌, Bool, true, false, not, ◌&&◌, ◌||◌, ◌∙◌, List, [], ◌∷◌, ◌++◌, Some, refl, sym, ap, subst, true≢false, zero, suc, ◌+◌, arith, Option, None}
 use Rattle.std.specs.Prelude.{if◌then◌else◌, is_some, ◌%◌, slice_index_or}
-use Rattle.bus_trace.specs.LineSet.{LineSet}
-use Rattle.bus_trace.specs.declared.Row.{Row}
-use Rattle.bus_trace.specs.declared.changes.Change.{Change}
-use Rattle.bus_trace.specs.declared.connection.Connection.{Connection}
-use Rattle.bus_trace.specs.Trace.{bus}
-use Rattle.bus_trace.specs.Changes.{falls, change_of}
-use Rattle.bus_trace.specs.Terms.{receiver_in, receiver_of, connection, connection_after, connection_of, call}
-use Rattle.bus_trace.specs.Phases.{changes_phase, is_message_out, is_message_in, is_data}
-use Rattle.bus_phases.specs.declared.reading.Reading.TheVariants as readings
-use Rattle.bus_phases.specs.Dialogue.{dialogue}
-use Rattle.bus_phases.specs.Half.{is_nil}
-use Rattle.bus_phases.specs.Reading.{reading_out, reading_in, reading_of}
-use Rattle.msg_grammar.specs.Messages.{got_out, got_in, form_in}
-use Rattle.bus_rules.specs.Messages.{is_unknown, leaves_message_well, is_opening, opens_well, same_bool, settles_offers, keeps_messages}
-use Rattle.bus_rules.specs.Seen.{seen, seen_with}
-use Rattle.scenario.specs.Value.{ScenarioValue}
-use Rattle.bus_story.specs.Story.{Story}
-use Rattle.bus_dialogue.specs.declared.exchange.Phase.TheVariants as phases
-use Rattle.bus_dialogue.specs.NextPhase.{phase_of}
+use Rattle.bus_due.specs.bus_trace.specs.LineSet.{LineSet}
+use Rattle.bus_due.specs.bus_trace.specs.declared.Row.{Row}
+use Rattle.bus_due.specs.bus_trace.specs.declared.changes.Change.{Change}
+use Rattle.bus_due.specs.bus_trace.specs.declared.connection.Connection.{Connection}
+use Rattle.bus_due.specs.bus_trace.specs.Trace.{bus}
+use Rattle.bus_due.specs.bus_trace.specs.Changes.{falls, change_of}
+use Rattle.bus_due.specs.bus_trace.specs.Terms.{receiver_in, receiver_of, connection, connection_after, connection_of, call}
+use Rattle.bus_due.specs.bus_trace.specs.Phases.{changes_phase, is_message_out, is_message_in, is_data}
+use Rattle.bus_due.specs.bus_phases.specs.declared.reading.Reading.TheVariants as readings
+use Rattle.bus_due.specs.bus_phases.specs.Dialogue.{dialogue}
+use Rattle.bus_due.specs.bus_phases.specs.Half.{is_nil}
+use Rattle.bus_due.specs.bus_phases.specs.Reading.{reading_out, reading_in, reading_of}
+use Rattle.bus_due.specs.msg_grammar.specs.Messages.{got_out, got_in, form_in}
+use Rattle.bus_due.specs.bus_rules.specs.Messages.{is_unknown, leaves_message_well, is_opening, opens_well, same_bool, settles_offers, keeps_messages}
+use Rattle.bus_due.specs.bus_rules.specs.Seen.{seen, seen_with}
+use Rattle.bus_due.specs.scenario.specs.Value.{ScenarioValue}
+use Rattle.bus_due.specs.bus_story.specs.Story.{Story}
+use Rattle.bus_due.specs.bus_dialogue.specs.declared.exchange.Phase.TheVariants as phases
+use Rattle.bus_due.specs.bus_dialogue.specs.NextPhase.{phase_of}
 use Rattle.bus_due.specs.Plain.{AreOfDevices}
 use Rattle.bus_due.specs.RunState.{RunState, bus_of}
 use Rattle.bus_due.specs.RunSteps.{run_state}
 use Rattle.bus_due.proofs.Plains.{IsBusStateOf, run_state_plain, bus_state_is, change_same}
-use Rattle.bus_story.specs.BusState.{row_reading}
-use Rattle.bus_dialogue.specs.Exchange.{message_bytes}
+use Rattle.bus_due.specs.bus_story.specs.BusState.{row_reading}
+use Rattle.bus_due.specs.bus_dialogue.specs.Exchange.{message_bytes}
 use Rattle.bus_books.specs.FirstBytes.{IsUnopened, before_all, in_opening, in_names}
 use Rattle.bus_books.specs.Listening.{Understanding, nothing_understood, understood, half_after}
 use Rattle.bus_books.specs.Traces.{GoesOn, Books, Ends}
 use Rattle.bus_books.proofs.Given.{in_is_whole, in_is_known}
 use Rattle.bus_books.proofs.Gives.{in_io}
 use Rattle.bus_books.proofs.Opened.{out_is_whole, out_is_known}
-use Rattle.bus_base.proofs.Tests.{nil_of}
+use Rattle.bus_due.specs.bus_base.proofs.Tests.{nil_of}
 
 -- ---- phases by the lines
 

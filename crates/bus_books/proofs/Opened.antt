@@ -1,24 +1,24 @@
 -- What the target has heard as MESSAGE OUT is left, and what a byte of it makes.
 use Rattle.std.proofs.Common.{ℕ, ◌≡◌, Bool, true, false, ◌||◌, ◌∙◌, List, [], ◌∷◌, ◌++◌, Option, Some, None, refl, ap}
 use Rattle.std.specs.Prelude.{if◌then◌else◌, is_some, ◌%◌}
-use Rattle.bus_trace.specs.declared.changes.Change.{Change}
-use Rattle.bus_trace.specs.declared.connection.Connection.{Connection}
-use Rattle.bus_trace.specs.Terms.{receiver_in}
-use Rattle.bus_trace.specs.Phases.{is_message_out, is_message_in}
-use Rattle.bus_phases.specs.declared.dialogue.Dialogue.{Dialogue}
-use Rattle.bus_phases.specs.declared.reading.Reading.TheVariants as readings
-use Rattle.bus_phases.specs.Reading.{reading_out, reading_in, reading_of}
-use Rattle.msg_grammar.specs.Messages.{got_out, got_in}
-use Rattle.bus_rules.specs.Messages.{is_unknown}
-use Rattle.scenario.specs.declared.value.AbortDef.{AbortDef}
-use Rattle.scenario.specs.Value.{ScenarioValue}
-use Rattle.disk_array.specs.Processes.{Process, process_of}
-use Rattle.bus_story.specs.Items.{Item, process, abort}
-use Rattle.bus_story.specs.HistoryEvents.{abort_line_at}
-use Rattle.bus_dialogue.specs.declared.exchange.Cause.{Cause}
-use Rattle.bus_dialogue.specs.declared.exchange.Said.{Said}
-use Rattle.bus_dialogue.specs.Exchange.{Exchange}
-use Rattle.bus_dialogue.specs.Words.{process_opening, abort_opening}
+use Rattle.bus_due.specs.bus_trace.specs.declared.changes.Change.{Change}
+use Rattle.bus_due.specs.bus_trace.specs.declared.connection.Connection.{Connection}
+use Rattle.bus_due.specs.bus_trace.specs.Terms.{receiver_in}
+use Rattle.bus_due.specs.bus_trace.specs.Phases.{is_message_out, is_message_in}
+use Rattle.bus_due.specs.bus_phases.specs.declared.dialogue.Dialogue.{Dialogue}
+use Rattle.bus_due.specs.bus_phases.specs.declared.reading.Reading.TheVariants as readings
+use Rattle.bus_due.specs.bus_phases.specs.Reading.{reading_out, reading_in, reading_of}
+use Rattle.bus_due.specs.msg_grammar.specs.Messages.{got_out, got_in}
+use Rattle.bus_due.specs.bus_rules.specs.Messages.{is_unknown}
+use Rattle.bus_due.specs.scenario.specs.declared.value.AbortDef.{AbortDef}
+use Rattle.bus_due.specs.scenario.specs.Value.{ScenarioValue}
+use Rattle.bus_due.specs.disk_array.specs.Processes.{Process, process_of}
+use Rattle.bus_due.specs.bus_story.specs.Items.{Item, process, abort}
+use Rattle.bus_due.specs.bus_story.specs.HistoryEvents.{abort_line_at}
+use Rattle.bus_due.specs.bus_dialogue.specs.declared.exchange.Cause.{Cause}
+use Rattle.bus_due.specs.bus_dialogue.specs.declared.exchange.Said.{Said}
+use Rattle.bus_due.specs.bus_dialogue.specs.Exchange.{Exchange}
+use Rattle.bus_due.specs.bus_dialogue.specs.Words.{process_opening, abort_opening}
 use Rattle.bus_due.specs.Defs.{host_of, opening}
 use Rattle.bus_due.specs.Faithful.{is_process_named, is_abort_named, is_item_named, is_opening_named}
 use Rattle.bus_due.specs.RunState.{RunState, bus_of}
@@ -28,7 +28,7 @@ use Rattle.bus_books.specs.Speaking.{AreWordsFor, opens, refuses, answers, rejec
 use Rattle.bus_books.proofs.Openings.{opening_heard, abort_heard}
 use Rattle.bus_books.proofs.Reading.{reads_byte}
 use Rattle.bus_books.proofs.FirstWords.{process_unit}
-use Rattle.bus_base.proofs.Tests.{or_true}
+use Rattle.bus_due.specs.bus_base.proofs.Tests.{or_true}
 
 item_named : (s : ScenarioValue) (dev : ℕ) (negotiates : Bool) (said : Said) (item : Option Item) → AreUnits s → (x : List ℕ) → x ≡ opening s dev negotiates item → said ≡ (understood nothing_understood x).said → is_item_named s said item ≡ true
 item_named s dev negotiates said None u x e f = refl

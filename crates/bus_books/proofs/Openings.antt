@@ -1,23 +1,23 @@
 -- What a target makes of whole messages, and of the opening.
 use Rattle.std.proofs.Common.{ℕ, ◌≡◌, ◌<◌, zero, suc, Bool, true, false, not, ◌&&◌, ◌∙◌, [], ◌++◌, Option, Some, None, refl, ap, arith}
 use Rattle.std.specs.Prelude.{if◌then◌else◌, nat_lt, is_none}
-use Rattle.msg_grammar.specs.declared.message.MsgOut.{MsgOut}
-use Rattle.msg_grammar.specs.declared.message.MsgOut.TheVariants as to_target
-use Rattle.msg_grammar.specs.Messages.{form_out, out_bytes, FitsOut}
-use Rattle.bus_base.specs.declared.AbortKind.{AbortKind}
-use Rattle.bus_base.specs.declared.AbortKind.TheVariants as aborts
-use Rattle.scenario.specs.declared.value.AbortDef.{AbortDef}
-use Rattle.scenario.specs.declared.value.HostDef.{HostDef}
-use Rattle.scenario.specs.declared.value.Tag.{Tag}
-use Rattle.scenario.specs.declared.value.Tag.TheVariants as tags
-use Rattle.disk_array.specs.Processes.{Process}
-use Rattle.bus_dialogue.specs.declared.exchange.Said.{Said}
-use Rattle.bus_dialogue.specs.Exchange.{nothing_heard, said_with}
-use Rattle.bus_dialogue.specs.Words.{process_opening, abort_opening, abort_bytes, tag_bytes, offer_if}
+use Rattle.bus_due.specs.msg_grammar.specs.declared.message.MsgOut.{MsgOut}
+use Rattle.bus_due.specs.msg_grammar.specs.declared.message.MsgOut.TheVariants as to_target
+use Rattle.bus_due.specs.msg_grammar.specs.Messages.{form_out, out_bytes, FitsOut}
+use Rattle.bus_due.specs.bus_base.specs.declared.AbortKind.{AbortKind}
+use Rattle.bus_due.specs.bus_base.specs.declared.AbortKind.TheVariants as aborts
+use Rattle.bus_due.specs.scenario.specs.declared.value.AbortDef.{AbortDef}
+use Rattle.bus_due.specs.scenario.specs.declared.value.HostDef.{HostDef}
+use Rattle.bus_due.specs.scenario.specs.declared.value.Tag.{Tag}
+use Rattle.bus_due.specs.scenario.specs.declared.value.Tag.TheVariants as tags
+use Rattle.bus_due.specs.disk_array.specs.Processes.{Process}
+use Rattle.bus_due.specs.bus_dialogue.specs.declared.exchange.Said.{Said}
+use Rattle.bus_due.specs.bus_dialogue.specs.Exchange.{nothing_heard, said_with}
+use Rattle.bus_due.specs.bus_dialogue.specs.Words.{process_opening, abort_opening, abort_bytes, tag_bytes, offer_if}
 use Rattle.bus_due.specs.Faithful.{is_process_named, is_abort_named, is_kind, is_unit, same_tag}
 use Rattle.bus_books.specs.Listening.{Understanding, nothing_understood, understood}
 use Rattle.bus_books.proofs.Lists.{understood_append}
-use Rattle.bus_base.proofs.Tests.{eq_self}
+use Rattle.bus_due.specs.bus_base.proofs.Tests.{eq_self}
 
 abbrev after : Said → Understanding
 after said = record { said = said; half = [] }

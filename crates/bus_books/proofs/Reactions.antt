@@ -2,34 +2,34 @@
 use Rattle.std.proofs.Common.{ℕ, ◌≡◌, Bool, true, false, not, ◌&&◌, ◌||◌, ◌∙◌, length, Some, refl, sym, ap, arith, true≢false, ◌≤◌, ◌++◌, [], ◌∷◌, List, Option, None, length-append, suc}
 use Rattle.std.specs.Prelude.{if◌then◌else◌, is_some, ◌==◌, ◌%◌, nat_lt, slice_index_or}
 use Rattle.std.proofs.lemmas.Bool.Decides.{nat_tests}
-use Rattle.bus_trace.specs.LineSet.{LineSet}
-use Rattle.bus_trace.specs.declared.changes.Change.{Change}
-use Rattle.bus_trace.specs.declared.connection.Connection.{Connection}
-use Rattle.bus_trace.specs.Terms.{receiver_in}
-use Rattle.bus_trace.specs.Phases.{is_command, is_data, is_message_out, is_message_in}
-use Rattle.cdb_codec.specs.Cdb.{has_group_len}
-use Rattle.scenario.specs.Value.{ScenarioValue}
-use Rattle.disk_array.specs.Processes.{Process}
-use Rattle.bus_dialogue.specs.declared.exchange.Phase.{Phase}
-use Rattle.bus_dialogue.specs.declared.exchange.Phase.TheVariants as phases
-use Rattle.bus_dialogue.specs.Exchange.{next_word, bytes_of_messages, message_bytes}
-use Rattle.bus_dialogue.specs.Ends.{follows_by}
-use Rattle.bus_dialogue.specs.NextPhase.{phase_of}
-use Rattle.bus_dialogue.specs.PhaseBytes.{phase_byte, has_whole_block, follows_in}
-use Rattle.bus_dialogue.specs.Sending.{Sending, byte_to_send}
+use Rattle.bus_due.specs.bus_trace.specs.LineSet.{LineSet}
+use Rattle.bus_due.specs.bus_trace.specs.declared.changes.Change.{Change}
+use Rattle.bus_due.specs.bus_trace.specs.declared.connection.Connection.{Connection}
+use Rattle.bus_due.specs.bus_trace.specs.Terms.{receiver_in}
+use Rattle.bus_due.specs.bus_trace.specs.Phases.{is_command, is_data, is_message_out, is_message_in}
+use Rattle.bus_due.specs.cdb_codec.specs.Cdb.{has_group_len}
+use Rattle.bus_due.specs.scenario.specs.Value.{ScenarioValue}
+use Rattle.bus_due.specs.disk_array.specs.Processes.{Process}
+use Rattle.bus_due.specs.bus_dialogue.specs.declared.exchange.Phase.{Phase}
+use Rattle.bus_due.specs.bus_dialogue.specs.declared.exchange.Phase.TheVariants as phases
+use Rattle.bus_due.specs.bus_dialogue.specs.Exchange.{next_word, bytes_of_messages, message_bytes}
+use Rattle.bus_due.specs.bus_dialogue.specs.Ends.{follows_by}
+use Rattle.bus_due.specs.bus_dialogue.specs.NextPhase.{phase_of}
+use Rattle.bus_due.specs.bus_dialogue.specs.PhaseBytes.{phase_byte, has_whole_block, follows_in}
+use Rattle.bus_due.specs.bus_dialogue.specs.Sending.{Sending, byte_to_send}
 use Rattle.bus_due.specs.RunState.{RunState, bus_of, process_here, process_served, carried_here, item_of}
 use Rattle.bus_due.specs.Sights.{serving_of, sending_by, sending_of}
 use Rattle.bus_due.specs.Tasks.{task_if}
-use Rattle.msg_grammar.specs.declared.message.MsgIn.{MsgIn}
-use Rattle.msg_grammar.specs.declared.message.MsgIn.TheVariants as to_initiator
-use Rattle.msg_grammar.specs.Messages.{in_bytes}
-use Rattle.bus_dialogue.specs.declared.exchange.Messages.{Messages}
+use Rattle.bus_due.specs.msg_grammar.specs.declared.message.MsgIn.{MsgIn}
+use Rattle.bus_due.specs.msg_grammar.specs.declared.message.MsgIn.TheVariants as to_initiator
+use Rattle.bus_due.specs.msg_grammar.specs.Messages.{in_bytes}
+use Rattle.bus_due.specs.bus_dialogue.specs.declared.exchange.Messages.{Messages}
 use Rattle.bus_books.specs.Hearing.{is_in_phase, is_out_phase, HasPhase, LeavesWhole}
 use Rattle.bus_books.specs.Giving.{GivesNext, Gives}
 use Rattle.bus_books.specs.Reactions.{IsAnswered, IsOffered, IsOver, HasMessage}
 use Rattle.bus_books.specs.Speaking.{SaysNext}
 use Rattle.std.proofs.lemmas.Bool.{ltb-true, or_parts}
-use Rattle.bus_base.proofs.Tests.{and_second, zero_of}
+use Rattle.bus_due.specs.bus_base.proofs.Tests.{and_second, zero_of}
 use Rattle.scsi_device.specs.Heard.{is_command_phase}
 use Rattle.scsi_device.proofs.PhaseLines.{in_phase, out_phase}
 

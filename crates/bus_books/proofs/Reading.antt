@@ -1,31 +1,31 @@
 -- Rule 25 in MESSAGE OUT: the bytes form messages, and none is half sent as the phase is left.
 use Rattle.std.proofs.Common.{ℕ, ◌≡◌, ◌<◌, zero, suc, Bool, true, false, not, ◌&&◌, ◌∙◌, List, [], ◌∷◌, ◌++◌, Option, Some, None, refl, sym, ap, arith, true≢false}
 use Rattle.std.specs.Prelude.{if◌then◌else◌, nat_lt}
-use Rattle.bus_trace.specs.declared.agreements.Agreement.{Agreement}
-use Rattle.msg_grammar.specs.declared.message.MsgOut.{MsgOut}
-use Rattle.msg_grammar.specs.declared.message.MsgOut.TheVariants as to_target
-use Rattle.msg_grammar.specs.Messages.{form_out, out_bytes, got_out, FitsOut}
-use Rattle.bus_base.specs.declared.AbortKind.{AbortKind}
-use Rattle.bus_base.specs.declared.AbortKind.TheVariants as aborts
-use Rattle.bus_phases.specs.declared.dialogue.Dialogue.{Dialogue}
-use Rattle.bus_phases.specs.Dialogue.{fresh_bytes, byte_out}
-use Rattle.bus_phases.specs.Half.{is_nil, left_of}
-use Rattle.bus_phases.specs.Reading.{reading_out}
-use Rattle.bus_rules.specs.Messages.{is_unknown}
-use Rattle.scenario.specs.declared.value.HostDef.{HostDef}
-use Rattle.scenario.specs.declared.value.AbortDef.{AbortDef}
-use Rattle.scenario.specs.declared.value.Tag.{Tag}
-use Rattle.scenario.specs.declared.value.Tag.TheVariants as tags
-use Rattle.disk_array.specs.Processes.{Process}
-use Rattle.bus_dialogue.specs.declared.exchange.Plan.{Plan}
-use Rattle.bus_dialogue.specs.declared.exchange.Said.{Said}
-use Rattle.bus_dialogue.specs.Exchange.{Speech, next_word, attends_with, speech_after_byte, nothing_heard, said_with}
-use Rattle.bus_dialogue.specs.Words.{process_opening, abort_opening, abort_bytes, tag_bytes, offer_if, parity_error, detected_error, answer_bytes}
+use Rattle.bus_due.specs.bus_trace.specs.declared.agreements.Agreement.{Agreement}
+use Rattle.bus_due.specs.msg_grammar.specs.declared.message.MsgOut.{MsgOut}
+use Rattle.bus_due.specs.msg_grammar.specs.declared.message.MsgOut.TheVariants as to_target
+use Rattle.bus_due.specs.msg_grammar.specs.Messages.{form_out, out_bytes, got_out, FitsOut}
+use Rattle.bus_due.specs.bus_base.specs.declared.AbortKind.{AbortKind}
+use Rattle.bus_due.specs.bus_base.specs.declared.AbortKind.TheVariants as aborts
+use Rattle.bus_due.specs.bus_phases.specs.declared.dialogue.Dialogue.{Dialogue}
+use Rattle.bus_due.specs.bus_phases.specs.Dialogue.{fresh_bytes, byte_out}
+use Rattle.bus_due.specs.bus_phases.specs.Half.{is_nil, left_of}
+use Rattle.bus_due.specs.bus_phases.specs.Reading.{reading_out}
+use Rattle.bus_due.specs.bus_rules.specs.Messages.{is_unknown}
+use Rattle.bus_due.specs.scenario.specs.declared.value.HostDef.{HostDef}
+use Rattle.bus_due.specs.scenario.specs.declared.value.AbortDef.{AbortDef}
+use Rattle.bus_due.specs.scenario.specs.declared.value.Tag.{Tag}
+use Rattle.bus_due.specs.scenario.specs.declared.value.Tag.TheVariants as tags
+use Rattle.bus_due.specs.disk_array.specs.Processes.{Process}
+use Rattle.bus_due.specs.bus_dialogue.specs.declared.exchange.Plan.{Plan}
+use Rattle.bus_due.specs.bus_dialogue.specs.declared.exchange.Said.{Said}
+use Rattle.bus_due.specs.bus_dialogue.specs.Exchange.{Speech, next_word, attends_with, speech_after_byte, nothing_heard, said_with}
+use Rattle.bus_due.specs.bus_dialogue.specs.Words.{process_opening, abort_opening, abort_bytes, tag_bytes, offer_if, parity_error, detected_error, answer_bytes}
 use Rattle.bus_books.specs.Listening.{Understanding, nothing_understood, understood_byte, understood, form_messages}
 use Rattle.bus_books.specs.Speaking.{AreWordsHeard}
 use Rattle.bus_books.proofs.Lists.{understood_append}
 use Rattle.bus_books.proofs.Saying.{says_byte, says_more}
-use Rattle.bus_base.proofs.Tests.{and_first, and_second}
+use Rattle.bus_due.specs.bus_base.proofs.Tests.{and_first, and_second}
 
 -- ---- lists
 

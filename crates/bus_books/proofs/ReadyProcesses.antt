@@ -1,23 +1,23 @@
 -- The process that a target has ready is its own, and of the scenario.
 use Rattle.std.proofs.Common.{ℕ, ◌≡◌, ◌+◌, Bool, true, false, ◌&&◌, ◌∙◌, List, [], ◌∷◌, Option, Some, None, refl, sym, ap, subst}
 use Rattle.std.specs.Prelude.{if◌then◌else◌, ◌==◌}
-use Rattle.scenario.specs.Value.{ScenarioValue}
-use Rattle.disk_array.specs.Processes.{Process, process_of}
-use Rattle.disk_array.specs.SoundArray.{IsOwnRunning, IsOwnUnit, AllOwnUnits, IsSound}
-use Rattle.disk_array.specs.Units.{RunningProcess, UnitState, Array, unit_state_at, is_held}
-use Rattle.disk_array.specs.Seats.{current_of, is_initiator}
-use Rattle.bus_dialogue.specs.Wants.{Ready, ready_in, is_ready_before, first_ready}
-use Rattle.bus_story.specs.Items.{Item, process, abort}
-use Rattle.bus_story.specs.TraceHistory.{aim_of}
+use Rattle.bus_due.specs.scenario.specs.Value.{ScenarioValue}
+use Rattle.bus_due.specs.disk_array.specs.Processes.{Process, process_of}
+use Rattle.bus_due.specs.disk_array.specs.SoundArray.{IsOwnRunning, IsOwnUnit, AllOwnUnits, IsSound}
+use Rattle.bus_due.specs.disk_array.specs.Units.{RunningProcess, UnitState, Array, unit_state_at, is_held}
+use Rattle.bus_due.specs.disk_array.specs.Seats.{current_of, is_initiator}
+use Rattle.bus_due.specs.bus_dialogue.specs.Wants.{Ready, ready_in, is_ready_before, first_ready}
+use Rattle.bus_due.specs.bus_story.specs.Items.{Item, process, abort}
+use Rattle.bus_due.specs.bus_story.specs.TraceHistory.{aim_of}
 use Rattle.bus_due.specs.RunState.{RunState, array_of, process_item}
 use Rattle.bus_due.specs.Wants.{since_of, seek_of, ready_at, ready_among, ready_of, target_if, target_of, initiator_if, callee}
 use Rattle.scsi_device.specs.Lines.{AreUnits}
 use Rattle.bus_books.specs.Traces.{IsReadyFor, IsAimedAt}
-use Rattle.bus_trace.specs.declared.connection.Connection.{Connection}
+use Rattle.bus_due.specs.bus_trace.specs.declared.connection.Connection.{Connection}
 use Rattle.bus_books.proofs.FirstWords.{process_unit}
 use Rattle.std.proofs.lemmas.Bool.{eqb-true}
 use Rattle.std.proofs.lemmas.Option.{same_Some}
-use Rattle.bus_base.proofs.Tests.{and_first, none_number}
+use Rattle.bus_due.specs.bus_base.proofs.Tests.{and_first, none_number}
 use Rattle.bus_books.proofs.CarriedRows.{process_none}
 
 none_some : (x : Ready) → (let a : Option Ready = None in a) ≡ Some x → ⊥

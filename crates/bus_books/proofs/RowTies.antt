@@ -1,30 +1,30 @@
 -- The tests of a row say what they are called for.
 use Rattle.std.proofs.Common.{ℕ, ◌≡◌, ◌+◌, ◌⊎◌, inl, inr, Bool, true, false, not, ◌&&◌, ◌||◌, ◌∙◌, length, Option, Some, None, refl, sym, ap, true≢false}
 use Rattle.std.specs.Prelude.{if◌then◌else◌, is_some, is_none, ◌==◌, ◌%◌, nat_lt, slice_index_or}
-use Rattle.bus_base.specs.declared.ProcId.{ProcId}
-use Rattle.bus_trace.specs.declared.Row.{Row}
-use Rattle.bus_trace.specs.declared.changes.Change.{Change}
-use Rattle.bus_trace.specs.declared.connection.Connection.{Connection}
-use Rattle.bus_trace.specs.Changes.{rises}
-use Rattle.bus_trace.specs.Terms.{is_fault, receiver_in, receiver_of}
-use Rattle.bus_trace.specs.Phases.{changes_phase, is_command, is_data, is_message_out, is_message_in}
-use Rattle.cdb_codec.specs.Cdb.{has_group_len}
-use Rattle.msg_grammar.specs.declared.message.MsgIn.{MsgIn}
-use Rattle.scenario.specs.Value.{ScenarioValue}
-use Rattle.disk_array.specs.Processes.{Process, process_of, same_bool}
-use Rattle.disk_array.proofs.SeatLookups.{same_bool_is}
-use Rattle.bus_story.specs.BusState.{row_reading, message_in}
-use Rattle.bus_story.specs.Items.{Item, process, abort}
-use Rattle.bus_story.specs.Links.{link_after_name}
-use Rattle.bus_story.specs.TraceHistory.{aim_of}
-use Rattle.bus_dialogue.specs.declared.exchange.Phase.TheVariants as phases
-use Rattle.bus_dialogue.specs.declared.exchange.Task.{Task}
-use Rattle.bus_dialogue.specs.Arrivals.{policy_of}
-use Rattle.bus_dialogue.specs.DataRuns.{run_at}
-use Rattle.bus_dialogue.specs.Exchange.{next_word, attends_with, bytes_of_messages}
-use Rattle.bus_dialogue.specs.NextPhase.{phase_of}
-use Rattle.bus_dialogue.specs.Wants.{Ready}
-use Rattle.bus_dialogue.specs.Words.{is_name}
+use Rattle.bus_due.specs.bus_base.specs.declared.ProcId.{ProcId}
+use Rattle.bus_due.specs.bus_trace.specs.declared.Row.{Row}
+use Rattle.bus_due.specs.bus_trace.specs.declared.changes.Change.{Change}
+use Rattle.bus_due.specs.bus_trace.specs.declared.connection.Connection.{Connection}
+use Rattle.bus_due.specs.bus_trace.specs.Changes.{rises}
+use Rattle.bus_due.specs.bus_trace.specs.Terms.{is_fault, receiver_in, receiver_of}
+use Rattle.bus_due.specs.bus_trace.specs.Phases.{changes_phase, is_command, is_data, is_message_out, is_message_in}
+use Rattle.bus_due.specs.cdb_codec.specs.Cdb.{has_group_len}
+use Rattle.bus_due.specs.msg_grammar.specs.declared.message.MsgIn.{MsgIn}
+use Rattle.bus_due.specs.scenario.specs.Value.{ScenarioValue}
+use Rattle.bus_due.specs.disk_array.specs.Processes.{Process, process_of, same_bool}
+use Rattle.bus_due.specs.disk_array.proofs.SeatLookups.{same_bool_is}
+use Rattle.bus_due.specs.bus_story.specs.BusState.{row_reading, message_in}
+use Rattle.bus_due.specs.bus_story.specs.Items.{Item, process, abort}
+use Rattle.bus_due.specs.bus_story.specs.Links.{link_after_name}
+use Rattle.bus_due.specs.bus_story.specs.TraceHistory.{aim_of}
+use Rattle.bus_due.specs.bus_dialogue.specs.declared.exchange.Phase.TheVariants as phases
+use Rattle.bus_due.specs.bus_dialogue.specs.declared.exchange.Task.{Task}
+use Rattle.bus_due.specs.bus_dialogue.specs.Arrivals.{policy_of}
+use Rattle.bus_due.specs.bus_dialogue.specs.DataRuns.{run_at}
+use Rattle.bus_due.specs.bus_dialogue.specs.Exchange.{next_word, attends_with, bytes_of_messages}
+use Rattle.bus_due.specs.bus_dialogue.specs.NextPhase.{phase_of}
+use Rattle.bus_due.specs.bus_dialogue.specs.Wants.{Ready}
+use Rattle.bus_due.specs.bus_dialogue.specs.Words.{is_name}
 use Rattle.bus_due.specs.Defs.{target_def_of}
 use Rattle.bus_due.specs.RunState.{RunState, bus_of, item_of, process_here, process_served, carried_here}
 use Rattle.bus_due.specs.Tasks.{is_writing, task_of}
@@ -36,7 +36,7 @@ use Rattle.bus_books.specs.RowTests.{is_of_target, is_aimed_at, is_between, is_r
 use Rattle.bus_books.specs.Traces.{IsReadyFor, IsAimedAt, Begins, GoesOn, Ends, RowOf, apart, begins, goes_on, ends, under_reset}
 use Rattle.bus_books.proofs.Lookups.{id_is}
 use Rattle.std.proofs.lemmas.Bool.{not-true, eqb-true, ltb-true}
-use Rattle.bus_base.proofs.Tests.{and_first, and_second, or_second, implied}
+use Rattle.bus_due.specs.bus_base.proofs.Tests.{and_first, and_second, or_second, implied}
 
 -- ---- small facts
 

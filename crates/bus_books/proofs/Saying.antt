@@ -1,14 +1,14 @@
 -- MESSAGE OUT: a byte crosses.
 use Rattle.std.proofs.Common.{ℕ, ◌≡◌, ◌+◌, Bool, not, List, [], ◌∷◌, ◌++◌, ◌∙◌, length, Option, refl, sym, ap, append_assoc, length-append, true≢false}
 use Rattle.std.specs.Prelude.{slice_index_or, nat_lt, if◌then◌else◌}
-use Rattle.msg_grammar.specs.declared.message.MsgOut.{MsgOut}
-use Rattle.msg_grammar.specs.Messages.{got_out}
-use Rattle.bus_phases.specs.declared.dialogue.Dialogue.{Dialogue}
-use Rattle.bus_phases.specs.Dialogue.{fresh_bytes, byte_out}
-use Rattle.bus_phases.specs.Half.{is_nil, left_of}
-use Rattle.bus_story.specs.BusState.{whole_out}
-use Rattle.bus_dialogue.specs.declared.exchange.Plan.{Plan}
-use Rattle.bus_dialogue.specs.Exchange.{Speech, next_word, attends_with, speech_after_byte, plan_after_message, said_with_if, plan_anew_if}
+use Rattle.bus_due.specs.msg_grammar.specs.declared.message.MsgOut.{MsgOut}
+use Rattle.bus_due.specs.msg_grammar.specs.Messages.{got_out}
+use Rattle.bus_due.specs.bus_phases.specs.declared.dialogue.Dialogue.{Dialogue}
+use Rattle.bus_due.specs.bus_phases.specs.Dialogue.{fresh_bytes, byte_out}
+use Rattle.bus_due.specs.bus_phases.specs.Half.{is_nil, left_of}
+use Rattle.bus_due.specs.bus_story.specs.BusState.{whole_out}
+use Rattle.bus_due.specs.bus_dialogue.specs.declared.exchange.Plan.{Plan}
+use Rattle.bus_due.specs.bus_dialogue.specs.Exchange.{Speech, next_word, attends_with, speech_after_byte, plan_after_message, said_with_if, plan_anew_if}
 use Rattle.bus_books.specs.Listening.{Understanding, nothing_understood, understood_byte, understood, understanding, understanding_anew}
 use Rattle.bus_books.specs.Speaking.{AreWordsHeard}
 use Rattle.bus_books.proofs.Lists.{word_at, more_after, understood_append}

@@ -1,22 +1,22 @@
 -- Each row of some runs is as it is due to be, and the books hold after it. Written by tools/books_case.py.
 use Rattle.std.proofs.Common.{◌≡◌, true, refl}
 use lib.Count.{ones}
-use Rattle.bus_trace.specs.LineSet.{line_of}
-use Rattle.bus_trace.specs.View.{union_below}
-use Rattle.msg_grammar.specs.Messages.{form_out, form_in}
-use Rattle.scenario.specs.Needs.{need_of, sent_of}
+use Rattle.bus_due.specs.bus_trace.specs.LineSet.{line_of}
+use Rattle.bus_due.specs.bus_trace.specs.View.{union_below}
+use Rattle.bus_due.specs.msg_grammar.specs.Messages.{form_out, form_in}
+use Rattle.bus_due.specs.scenario.specs.Needs.{need_of, sent_of}
 use Rattle.bus_due.specs.RunSteps.{first_run_state}
 use Rattle.bus_books.specs.RowTests.{keep_books}
-use Rattle.bus_trace.specs.LineSet.{set_of}
-use Rattle.bus_trace.specs.declared.Row.{Row}
-use Rattle.bus_trace.specs.declared.Kind.TheVariants.{Drives, Fault}
+use Rattle.bus_due.specs.bus_trace.specs.LineSet.{set_of}
+use Rattle.bus_due.specs.bus_trace.specs.declared.Row.{Row}
+use Rattle.bus_due.specs.bus_trace.specs.declared.Kind.TheVariants.{Drives, Fault}
 use Rattle.std.proofs.Common.{ℕ, ◌≡◌, true, false, List, [], ◌∷◌, refl}
-use Rattle.bus_base.specs.declared.AbortKind.TheVariants as aborts
-use Rattle.bus_base.specs.declared.events.Pick.TheVariants as picks
-use Rattle.scenario.specs.declared.value.Policy.TheVariants as policies
-use Rattle.scenario.specs.declared.value.Tag.TheVariants as tags
-use Rattle.scenario.specs.declared.value.Payload.TheVariants as payloads
-use Rattle.scenario.specs.Value.{ScenarioValue}
+use Rattle.bus_due.specs.bus_base.specs.declared.AbortKind.TheVariants as aborts
+use Rattle.bus_due.specs.bus_base.specs.declared.events.Pick.TheVariants as picks
+use Rattle.bus_due.specs.scenario.specs.declared.value.Policy.TheVariants as policies
+use Rattle.bus_due.specs.scenario.specs.declared.value.Tag.TheVariants as tags
+use Rattle.bus_due.specs.scenario.specs.declared.value.Payload.TheVariants as payloads
+use Rattle.bus_due.specs.scenario.specs.Value.{ScenarioValue}
 
 abbrev drive : ℕ → ℕ → ℕ → Row
 drive time dev lines = record { time = time; dev = dev; kind = Drives (set_of lines) }

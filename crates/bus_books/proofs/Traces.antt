@@ -1,19 +1,19 @@
 -- The books hold after every row of a trace, and each tells what was to be said.
 use Rattle.std.proofs.Common.{ℕ, ◌≡◌, ◌<◌, Bool, true, false, not, ◌&&◌, ◌||◌, ◌∙◌, List, [], ◌∷◌, Option, Some, None, refl, sym, ap, subst, true≢false}
 use Rattle.std.specs.Prelude.{if◌then◌else◌, is_some, ◌==◌, ◌%◌}
-use Rattle.bus_trace.specs.declared.Row.{Row}
-use Rattle.bus_trace.specs.declared.changes.Change.{Change}
-use Rattle.bus_trace.specs.declared.connection.Connection.{Connection}
-use Rattle.bus_trace.specs.Changes.{falls}
-use Rattle.bus_trace.specs.Terms.{connection_of, connection_after, receiver_of}
-use Rattle.bus_trace.specs.Phases.{changes_phase}
-use Rattle.scenario.specs.Value.{ScenarioValue}
-use Rattle.disk_array.specs.Processes.{Process}
-use Rattle.bus_story.specs.BusState.{row_reading}
-use Rattle.bus_story.specs.Items.{Item}
-use Rattle.bus_story.specs.TraceHistory.{aim_of}
-use Rattle.bus_dialogue.specs.NextPhase.{phase_of}
-use Rattle.bus_dialogue.specs.Wants.{Ready}
+use Rattle.bus_due.specs.bus_trace.specs.declared.Row.{Row}
+use Rattle.bus_due.specs.bus_trace.specs.declared.changes.Change.{Change}
+use Rattle.bus_due.specs.bus_trace.specs.declared.connection.Connection.{Connection}
+use Rattle.bus_due.specs.bus_trace.specs.Changes.{falls}
+use Rattle.bus_due.specs.bus_trace.specs.Terms.{connection_of, connection_after, receiver_of}
+use Rattle.bus_due.specs.bus_trace.specs.Phases.{changes_phase}
+use Rattle.bus_due.specs.scenario.specs.Value.{ScenarioValue}
+use Rattle.bus_due.specs.disk_array.specs.Processes.{Process}
+use Rattle.bus_due.specs.bus_story.specs.BusState.{row_reading}
+use Rattle.bus_due.specs.bus_story.specs.Items.{Item}
+use Rattle.bus_due.specs.bus_story.specs.TraceHistory.{aim_of}
+use Rattle.bus_due.specs.bus_dialogue.specs.NextPhase.{phase_of}
+use Rattle.bus_due.specs.bus_dialogue.specs.Wants.{Ready}
 use Rattle.bus_due.specs.Faithful.{has_ends, is_known_process, is_true_leaving, is_true_crossing, is_true_beginning, is_true_hearing, is_faithful, faithful}
 use Rattle.bus_due.specs.RunState.{RunState, bus_of, process_item, process_served}
 use Rattle.bus_due.specs.RunSteps.{run_state, run_state_after, exchange_after, served_after, item_if, leaving_of}
@@ -40,7 +40,7 @@ use Rattle.bus_books.proofs.Quiet.{quiet_first, quiet_on}
 use Rattle.bus_books.proofs.Speaks.{speaks_on}
 use Rattle.std.proofs.lemmas.Bool.{or_right}
 use Rattle.std.proofs.lemmas.Option.{same_Some}
-use Rattle.bus_base.proofs.Tests.{and_false, eq_self}
+use Rattle.bus_due.specs.bus_base.proofs.Tests.{and_false, eq_self}
 
 -- ---- small facts
 

@@ -1,12 +1,12 @@
 -- The items that devices call for are their own, of the scenario.
 use Rattle.std.specs.Prelude.{ℕ, ◌≡◌, Some}
-use Rattle.bus_base.specs.declared.ProcId.{ProcId}
-use Rattle.scenario.specs.declared.value.AbortDef.{AbortDef}
-use Rattle.scenario.specs.Value.{ScenarioValue}
-use Rattle.disk_array.specs.Processes.{Process, process_of}
-use Rattle.bus_story.specs.Items.{Item, process, abort}
-use Rattle.bus_story.specs.HistoryEvents.{abort_line_at}
-use Rattle.bus_story.specs.TraceHistory.{aim_of}
+use Rattle.bus_due.specs.bus_base.specs.declared.ProcId.{ProcId}
+use Rattle.bus_due.specs.scenario.specs.declared.value.AbortDef.{AbortDef}
+use Rattle.bus_due.specs.scenario.specs.Value.{ScenarioValue}
+use Rattle.bus_due.specs.disk_array.specs.Processes.{Process, process_of}
+use Rattle.bus_due.specs.bus_story.specs.Items.{Item, process, abort}
+use Rattle.bus_due.specs.bus_story.specs.HistoryEvents.{abort_line_at}
+use Rattle.bus_due.specs.bus_story.specs.TraceHistory.{aim_of}
 use Rattle.bus_due.specs.RunState.{RunState}
 
 pub data IsItem (s : ScenarioValue) (dev : ℕ) : Item → Type 0 where

@@ -12,3 +12,6 @@ pub mod Traces
 pub mod RowTests
 pub mod Reactions
 pub mod FirstBytes
+pub mod FullQueues
+pub mod WrongParity
+pub mod Strikes

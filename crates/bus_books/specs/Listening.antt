@@ -1,15 +1,15 @@
 -- What a listener makes of the bytes of messages, one after the other (6.6).
 use Rattle.std.specs.Prelude.{ℕ, Bool, not, ◌&&◌, List, [], ◌∷◌, ◌++◌}
-use Rattle.msg_grammar.specs.Messages.{got_out, got_in}
-use Rattle.bus_phases.specs.Half.{left_of, is_nil}
-use Rattle.bus_phases.specs.Reading.{reading_out, reading_in}
-use Rattle.bus_rules.specs.Messages.{is_unknown}
-use Rattle.bus_phases.specs.declared.dialogue.Dialogue.{Dialogue}
-use Rattle.bus_phases.specs.Dialogue.{fresh_bytes}
-use Rattle.bus_story.specs.BusState.{whole_out}
-use Rattle.bus_dialogue.specs.declared.exchange.Said.{Said}
-use Rattle.bus_dialogue.specs.declared.exchange.Plan.{Plan}
-use Rattle.bus_dialogue.specs.Exchange.{nothing_heard, said_with_if, plan_anew_if}
+use Rattle.bus_due.specs.msg_grammar.specs.Messages.{got_out, got_in}
+use Rattle.bus_due.specs.bus_phases.specs.Half.{left_of, is_nil}
+use Rattle.bus_due.specs.bus_phases.specs.Reading.{reading_out, reading_in}
+use Rattle.bus_due.specs.bus_rules.specs.Messages.{is_unknown}
+use Rattle.bus_due.specs.bus_phases.specs.declared.dialogue.Dialogue.{Dialogue}
+use Rattle.bus_due.specs.bus_phases.specs.Dialogue.{fresh_bytes}
+use Rattle.bus_due.specs.bus_story.specs.BusState.{whole_out}
+use Rattle.bus_due.specs.bus_dialogue.specs.declared.exchange.Said.{Said}
+use Rattle.bus_due.specs.bus_dialogue.specs.declared.exchange.Plan.{Plan}
+use Rattle.bus_due.specs.bus_dialogue.specs.Exchange.{nothing_heard, said_with_if, plan_anew_if}
 
 -- ---- the target: the messages that it heard whole, and the bytes of one that it has heard half
 

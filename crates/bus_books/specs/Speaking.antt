@@ -1,20 +1,20 @@
 -- MESSAGE OUT: what the initiator says is what it was asked for, and the target has heard what stands before the place of its
 -- next byte (6.6).
 use Rattle.std.specs.Prelude.{ℕ, ◌%◌, ◌≡◌, is_some, true, false, List, ◌∷◌, ◌++◌, length, Option}
-use Rattle.bus_trace.specs.LineSet.{LineSet}
-use Rattle.bus_trace.specs.declared.changes.Change.{Change}
-use Rattle.bus_trace.specs.declared.connection.Connection.{Connection}
-use Rattle.bus_trace.specs.Terms.{receiver_in}
-use Rattle.bus_trace.specs.Phases.{is_message_out}
-use Rattle.bus_phases.specs.declared.dialogue.Dialogue.{Dialogue}
-use Rattle.bus_phases.specs.Dialogue.{fresh_bytes}
-use Rattle.scenario.specs.Value.{ScenarioValue}
-use Rattle.bus_story.specs.Items.{Item}
-use Rattle.bus_dialogue.specs.declared.exchange.Cause.{Cause}
-use Rattle.bus_dialogue.specs.declared.exchange.Cause.TheVariants as causes
-use Rattle.bus_dialogue.specs.declared.exchange.Plan.{Plan}
-use Rattle.bus_dialogue.specs.Exchange.{Speech, Exchange, next_word, attends_with}
-use Rattle.bus_dialogue.specs.Words.{parity_error, detected_error, answer_bytes}
+use Rattle.bus_due.specs.bus_trace.specs.LineSet.{LineSet}
+use Rattle.bus_due.specs.bus_trace.specs.declared.changes.Change.{Change}
+use Rattle.bus_due.specs.bus_trace.specs.declared.connection.Connection.{Connection}
+use Rattle.bus_due.specs.bus_trace.specs.Terms.{receiver_in}
+use Rattle.bus_due.specs.bus_trace.specs.Phases.{is_message_out}
+use Rattle.bus_due.specs.bus_phases.specs.declared.dialogue.Dialogue.{Dialogue}
+use Rattle.bus_due.specs.bus_phases.specs.Dialogue.{fresh_bytes}
+use Rattle.bus_due.specs.scenario.specs.Value.{ScenarioValue}
+use Rattle.bus_due.specs.bus_story.specs.Items.{Item}
+use Rattle.bus_due.specs.bus_dialogue.specs.declared.exchange.Cause.{Cause}
+use Rattle.bus_due.specs.bus_dialogue.specs.declared.exchange.Cause.TheVariants as causes
+use Rattle.bus_due.specs.bus_dialogue.specs.declared.exchange.Plan.{Plan}
+use Rattle.bus_due.specs.bus_dialogue.specs.Exchange.{Speech, Exchange, next_word, attends_with}
+use Rattle.bus_due.specs.bus_dialogue.specs.Words.{parity_error, detected_error, answer_bytes}
 use Rattle.bus_due.specs.RunState.{RunState, bus_of}
 use Rattle.bus_due.specs.Defs.{host_of, opening}
 use Rattle.bus_books.specs.Listening.{nothing_understood, understood, form_messages, understanding, understanding_anew}

@@ -2,16 +2,16 @@
 -- and docs/behaviour.md have it: messages as their bytes, lines as a trace has them.
 use Rattle.std.proofs.Common.{ℕ, ◌≡◌, Bool, true, false, [], ◌∷◌, Option, Some, None, refl}
 use lib.Count.{ones}
-use Rattle.bus_base.specs.declared.AbortKind.{AbortKind}
-use Rattle.bus_base.specs.declared.AbortKind.TheVariants as aborts
-use Rattle.bus_base.specs.declared.events.Pick.TheVariants as picks
-use Rattle.bus_trace.specs.LineSet.{set_of, number_of}
-use Rattle.bus_trace.specs.declared.agreements.Agreement.{Agreement}
-use Rattle.msg_grammar.specs.declared.message.MsgOut.{MsgOut}
-use Rattle.msg_grammar.specs.declared.message.MsgOut.TheVariants as to_target
-use Rattle.msg_grammar.specs.declared.message.MsgIn.{MsgIn}
-use Rattle.msg_grammar.specs.declared.message.MsgIn.TheVariants as to_initiator
-use Rattle.bus_phases.specs.declared.words.End.TheVariants as ends
+use Rattle.scenario.specs.bus_base.specs.declared.AbortKind.{AbortKind}
+use Rattle.scenario.specs.bus_base.specs.declared.AbortKind.TheVariants as aborts
+use Rattle.scenario.specs.bus_base.specs.declared.events.Pick.TheVariants as picks
+use Rattle.bus_story.specs.bus_trace.specs.LineSet.{set_of, number_of}
+use Rattle.bus_story.specs.bus_trace.specs.declared.agreements.Agreement.{Agreement}
+use Rattle.bus_story.specs.msg_grammar.specs.declared.message.MsgOut.{MsgOut}
+use Rattle.bus_story.specs.msg_grammar.specs.declared.message.MsgOut.TheVariants as to_target
+use Rattle.bus_story.specs.msg_grammar.specs.declared.message.MsgIn.{MsgIn}
+use Rattle.bus_story.specs.msg_grammar.specs.declared.message.MsgIn.TheVariants as to_initiator
+use Rattle.bus_story.specs.bus_phases.specs.declared.words.End.TheVariants as ends
 use Rattle.scenario.specs.declared.value.HostDef.{HostDef}
 use Rattle.scenario.specs.declared.value.TargetDef.{TargetDef}
 use Rattle.scenario.specs.declared.value.AbortDef.{AbortDef}
@@ -19,9 +19,9 @@ use Rattle.scenario.specs.declared.value.Policy.{Policy}
 use Rattle.scenario.specs.declared.value.Policy.TheVariants as policies
 use Rattle.scenario.specs.declared.value.Tag.{Tag}
 use Rattle.scenario.specs.declared.value.Tag.TheVariants as tags
-use Rattle.disk_array.specs.Processes.{Process}
+use Rattle.bus_story.specs.disk_array.specs.Processes.{Process}
 use Rattle.bus_reactions.specs.declared.ends.Offering.{Offering}
-use Rattle.bus_lines.specs.Handshakes.{Handshakes, no_handshakes}
+use Rattle.bus_reactions.specs.bus_lines.specs.Handshakes.{Handshakes, no_handshakes}
 use Rattle.bus_dialogue.specs.declared.exchange.Arrival.{Arrival}
 use Rattle.bus_dialogue.specs.declared.exchange.Arrival.TheVariants as arrivals
 use Rattle.bus_dialogue.specs.declared.exchange.Cause.{Cause}

@@ -1,16 +1,16 @@
 -- What rows tell the two ends of a connection, computed: a selection, MESSAGE OUT with bytes that are begun anew, and MESSAGE
 -- IN with a byte that a fault strikes; and a reselection.
-use Rattle.bus_trace.specs.LineSet.{set_of}
-use Rattle.bus_trace.specs.View.{union_below}
-use Rattle.bus_trace.specs.declared.Row.{Row}
-use Rattle.bus_trace.specs.declared.Kind.TheVariants.{Drives, Fault}
+use Rattle.bus_story.specs.bus_trace.specs.LineSet.{set_of}
+use Rattle.bus_story.specs.bus_trace.specs.View.{union_below}
+use Rattle.bus_story.specs.bus_trace.specs.declared.Row.{Row}
+use Rattle.bus_story.specs.bus_trace.specs.declared.Kind.TheVariants.{Drives, Fault}
 use Rattle.std.proofs.Common.{ℕ, ◌≡◌, Bool, true, false, List, [], ◌∷◌, reverse, drop, Option, Some, None, refl}
 use lib.Count.{ones}
-use Rattle.msg_grammar.specs.declared.message.MsgOut.{MsgOut}
-use Rattle.msg_grammar.specs.declared.message.MsgOut.TheVariants as to_target
-use Rattle.msg_grammar.specs.declared.message.MsgIn.{MsgIn}
-use Rattle.msg_grammar.specs.declared.message.MsgIn.TheVariants as to_initiator
-use Rattle.msg_grammar.specs.Messages.{form_out, form_in}
+use Rattle.bus_story.specs.msg_grammar.specs.declared.message.MsgOut.{MsgOut}
+use Rattle.bus_story.specs.msg_grammar.specs.declared.message.MsgOut.TheVariants as to_target
+use Rattle.bus_story.specs.msg_grammar.specs.declared.message.MsgIn.{MsgIn}
+use Rattle.bus_story.specs.msg_grammar.specs.declared.message.MsgIn.TheVariants as to_initiator
+use Rattle.bus_story.specs.msg_grammar.specs.Messages.{form_out, form_in}
 use Rattle.bus_dialogue.specs.declared.exchange.Hearing.{Hearing}
 use Rattle.bus_dialogue.specs.Hearing.{begun, last_hearing}
 

@@ -6,7 +6,7 @@ use Rattle.bus_dialogue.specs.Events.{is_status_next, is_empty}
 use Rattle.bus_dialogue.specs.declared.exchange.Task.{Task}
 use Rattle.scenario.specs.declared.value.TargetDef.{TargetDef}
 use Rattle.bus_dialogue.specs.declared.exchange.Leaving.{Leaving}
-use Rattle.bus_base.specs.declared.Event.{Event}
+use Rattle.scenario.specs.bus_base.specs.declared.Event.{Event}
 
 pub task_not : (x : Option Task) (f : Task → Leaving) → ((t : Task) → is_status_next (f t).to ≡ false) → is_status_next (with_task x f).to ≡ false
 task_not None f h = refl

@@ -2,22 +2,22 @@
 use Rattle.std.proofs.Common.{ℕ, ◌≡◌, Bool, true, false, List, ◌∷◌, Option, Some, None, refl, sym, ◌∙◌}
 use Rattle.std.specs.Prelude.{◌||◌, is_some, is_none, if◌then◌else◌}
 use Rattle.std.proofs.lemmas.Bool.{and_parts, not-true}
-use Rattle.bus_trace.specs.declared.Row.{Row}
-use Rattle.bus_trace.specs.declared.agreements.Agreement.{Agreement}
-use Rattle.bus_trace.specs.declared.changes.Change.{Change}
-use Rattle.bus_trace.specs.declared.connection.Connection.{Connection}
-use Rattle.bus_trace.specs.Phases.{changes_phase, is_data}
-use Rattle.bus_trace.specs.Terms.{receiver_of}
-use Rattle.bus_lines.specs.declared.effect.RowEffect.{RowEffect}
-use Rattle.bus_lines.specs.BusView.{BusViewValue, IsBusViewOf}
-use Rattle.bus_lines.specs.Effect.{effect}
-use Rattle.bus_lines.specs.Handshakes.{Handshakes, handshakes}
-use Rattle.bus_phases.specs.declared.agreements.Agreements.{Agreements}
-use Rattle.bus_phases.specs.declared.dialogue.Dialogue.{Dialogue}
-use Rattle.bus_phases.specs.declared.spoken.Spoken.{Spoken}
-use Rattle.bus_phases.specs.Dialogue.{asynchronous, byte_crosses, closed_agreement_by, dialogue_after, phase_begins, takes_data, agreed}
-use Rattle.bus_phases.specs.Tables.{AreAgreements}
-use Rattle.bus_phases.proofs.Agreeing.{agreeing}
+use Rattle.bus_story.specs.bus_trace.specs.declared.Row.{Row}
+use Rattle.bus_story.specs.bus_trace.specs.declared.agreements.Agreement.{Agreement}
+use Rattle.bus_story.specs.bus_trace.specs.declared.changes.Change.{Change}
+use Rattle.bus_story.specs.bus_trace.specs.declared.connection.Connection.{Connection}
+use Rattle.bus_story.specs.bus_trace.specs.Phases.{changes_phase, is_data}
+use Rattle.bus_story.specs.bus_trace.specs.Terms.{receiver_of}
+use Rattle.bus_reactions.specs.bus_lines.specs.declared.effect.RowEffect.{RowEffect}
+use Rattle.bus_reactions.specs.bus_lines.specs.BusView.{BusViewValue, IsBusViewOf}
+use Rattle.bus_reactions.specs.bus_lines.specs.Effect.{effect}
+use Rattle.bus_reactions.specs.bus_lines.specs.Handshakes.{Handshakes, handshakes}
+use Rattle.bus_story.specs.bus_phases.specs.declared.agreements.Agreements.{Agreements}
+use Rattle.bus_story.specs.bus_phases.specs.declared.dialogue.Dialogue.{Dialogue}
+use Rattle.bus_story.specs.bus_phases.specs.declared.spoken.Spoken.{Spoken}
+use Rattle.bus_story.specs.bus_phases.specs.Dialogue.{asynchronous, byte_crosses, closed_agreement_by, dialogue_after, phase_begins, takes_data, agreed}
+use Rattle.bus_story.specs.bus_phases.specs.Tables.{AreAgreements}
+use Rattle.bus_story.specs.bus_phases.proofs.Agreeing.{agreeing}
 use Rattle.bus_dialogue.specs.declared.exchange.Hearing.{Hearing}
 use Rattle.bus_dialogue.specs.Hearing.{agreed_after, begun_after, hearing_by, is_within_phase}
 use Rattle.bus_dialogue.specs.Observer.{ObserverValue, IsObserverOf}

@@ -1,14 +1,14 @@
 -- What an initiator sends next, what a target has ready, and what a target shows, computed on small books.
 use Rattle.std.proofs.Common.{ℕ, ◌≡◌, Bool, true, false, [], ◌∷◌, Option, Some, None, refl}
-use Rattle.bus_base.specs.declared.ProcId.{ProcId}
-use Rattle.bus_base.specs.declared.AbortKind.TheVariants as aborts
-use Rattle.bus_base.specs.declared.Event.TheVariants as events
-use Rattle.bus_trace.specs.declared.connection.Connection.{Connection}
+use Rattle.scenario.specs.bus_base.specs.declared.ProcId.{ProcId}
+use Rattle.scenario.specs.bus_base.specs.declared.AbortKind.TheVariants as aborts
+use Rattle.scenario.specs.bus_base.specs.declared.Event.TheVariants as events
+use Rattle.bus_story.specs.bus_trace.specs.declared.connection.Connection.{Connection}
 use Rattle.scenario.specs.declared.value.CmdDef.{CmdDef}
 use Rattle.scenario.specs.declared.value.Payload.TheVariants as payloads
 use Rattle.scenario.specs.declared.value.Tag.{Tag}
 use Rattle.scenario.specs.declared.value.Tag.TheVariants as tags
-use Rattle.disk_array.specs.Processes.{Process}
+use Rattle.bus_story.specs.disk_array.specs.Processes.{Process}
 use Rattle.bus_story.specs.Items.{abort, command_item, sense_item}
 use Rattle.bus_dialogue.specs.declared.exchange.Arrival.TheVariants as arrivals
 use Rattle.bus_dialogue.specs.declared.exchange.Phase.TheVariants as phases

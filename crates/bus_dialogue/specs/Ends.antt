@@ -1,18 +1,18 @@
 -- What the two ends of a connection have to do in the phase, each by what it knows.
 use Rattle.std.specs.Prelude.{ℕ, Bool, ◌&&◌, Option, Some, None, nat_lt, if◌then◌else◌}
-use Rattle.bus_trace.specs.LineSet.{LineSet}
-use Rattle.bus_trace.specs.declared.agreements.Agreement.{Agreement}
-use Rattle.bus_trace.specs.Agreements.{times_of}
-use Rattle.bus_phases.specs.declared.words.End.{End}
-use Rattle.bus_phases.specs.declared.words.End.TheVariants as ends
-use Rattle.bus_phases.specs.Dialogue.{is_of_other}
-use Rattle.bus_trace.specs.Phases.{is_data, is_command}
+use Rattle.bus_story.specs.bus_trace.specs.LineSet.{LineSet}
+use Rattle.bus_story.specs.bus_trace.specs.declared.agreements.Agreement.{Agreement}
+use Rattle.bus_story.specs.bus_trace.specs.Agreements.{times_of}
+use Rattle.bus_story.specs.bus_phases.specs.declared.words.End.{End}
+use Rattle.bus_story.specs.bus_phases.specs.declared.words.End.TheVariants as ends
+use Rattle.bus_story.specs.bus_phases.specs.Dialogue.{is_of_other}
+use Rattle.bus_story.specs.bus_trace.specs.Phases.{is_data, is_command}
 use Rattle.scenario.specs.declared.value.HostDef.{HostDef}
 use Rattle.scenario.specs.declared.value.TargetDef.{TargetDef}
 use Rattle.bus_reactions.specs.declared.ends.Pace.{Pace}
 use Rattle.bus_reactions.specs.declared.ends.Offering.{Offering}
 use Rattle.bus_reactions.specs.declared.ends.Answering.{Answering}
-use Rattle.bus_lines.specs.Handshakes.{Handshakes}
+use Rattle.bus_reactions.specs.bus_lines.specs.Handshakes.{Handshakes}
 use Rattle.bus_dialogue.specs.declared.exchange.Leaving.{Leaving}
 use Rattle.bus_dialogue.specs.Exchange.{Speech, attends_with}
 use Rattle.bus_dialogue.specs.Arrivals.{policy_of}

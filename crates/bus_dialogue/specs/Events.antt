@@ -1,11 +1,11 @@
 -- The events that the target of a connection shows as it leaves a phase, by what it knows itself.
 use Rattle.std.specs.Prelude.{ℕ, Bool, true, false, not, ◌&&◌, List, [], ◌∷◌, Option, Some, None, if◌then◌else◌}
-use Rattle.bus_base.specs.declared.ProcId.{ProcId}
-use Rattle.bus_base.specs.declared.AbortKind.{AbortKind}
-use Rattle.bus_base.specs.declared.Event.{Event}
-use Rattle.bus_base.specs.declared.Event.TheVariants as events
-use Rattle.bus_trace.specs.declared.connection.Connection.{Connection}
-use Rattle.cdb_codec.specs.declared.sense.TheConstants.{PARITY_ERROR, INITIATOR_DETECTED_ERROR}
+use Rattle.scenario.specs.bus_base.specs.declared.ProcId.{ProcId}
+use Rattle.scenario.specs.bus_base.specs.declared.AbortKind.{AbortKind}
+use Rattle.scenario.specs.bus_base.specs.declared.Event.{Event}
+use Rattle.scenario.specs.bus_base.specs.declared.Event.TheVariants as events
+use Rattle.bus_story.specs.bus_trace.specs.declared.connection.Connection.{Connection}
+use Rattle.scenario.specs.cdb_codec.specs.declared.sense.TheConstants.{PARITY_ERROR, INITIATOR_DETECTED_ERROR}
 use Rattle.bus_dialogue.specs.declared.exchange.Arrival.{Arrival}
 use Rattle.bus_dialogue.specs.declared.exchange.Arrival.TheVariants as arrivals
 use Rattle.bus_dialogue.specs.declared.exchange.Cause.{Cause}

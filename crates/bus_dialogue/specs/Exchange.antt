@@ -1,12 +1,12 @@
 -- What the two devices of a connection have to say to each other.
 use Rattle.std.specs.Prelude.{ℕ, ◌+◌, Bool, true, false, List, [], ◌++◌, length, slice_index_or, Option, Some, None, nat_lt, if◌then◌else◌}
-use Rattle.bus_trace.specs.declared.agreements.Agreement.{Agreement}
-use Rattle.msg_grammar.specs.declared.message.MsgOut.{MsgOut}
-use Rattle.msg_grammar.specs.declared.message.MsgOut.TheVariants as to_target
-use Rattle.msg_grammar.specs.declared.message.MsgIn.{MsgIn}
-use Rattle.msg_grammar.specs.declared.message.MsgIn.TheVariants as to_initiator
-use Rattle.msg_grammar.specs.Messages.{in_bytes}
-use Rattle.bus_base.specs.declared.AbortKind.TheVariants as aborts
+use Rattle.bus_story.specs.bus_trace.specs.declared.agreements.Agreement.{Agreement}
+use Rattle.bus_story.specs.msg_grammar.specs.declared.message.MsgOut.{MsgOut}
+use Rattle.bus_story.specs.msg_grammar.specs.declared.message.MsgOut.TheVariants as to_target
+use Rattle.bus_story.specs.msg_grammar.specs.declared.message.MsgIn.{MsgIn}
+use Rattle.bus_story.specs.msg_grammar.specs.declared.message.MsgIn.TheVariants as to_initiator
+use Rattle.bus_story.specs.msg_grammar.specs.Messages.{in_bytes}
+use Rattle.scenario.specs.bus_base.specs.declared.AbortKind.TheVariants as aborts
 use Rattle.scenario.specs.declared.value.Tag.{Tag}
 use Rattle.scenario.specs.declared.value.Tag.TheVariants as tags
 use Rattle.bus_dialogue.specs.declared.exchange.Messages.{Messages}
@@ -14,7 +14,7 @@ use Rattle.bus_dialogue.specs.declared.exchange.Said.{Said}
 use Rattle.bus_dialogue.specs.declared.exchange.Plan.{Plan}
 use Rattle.bus_dialogue.specs.declared.exchange.Cause.TheVariants as causes
 use Rattle.bus_dialogue.specs.declared.exchange.Next.TheVariants as nexts
-use Rattle.bus_phases.specs.Dialogue.{asynchronous}
+use Rattle.bus_story.specs.bus_phases.specs.Dialogue.{asynchronous}
 
 -- At the initiator: what it says in MESSAGE OUT, the place of its next byte, and what the target has last asked for by a
 -- synchronous data transfer request.

@@ -1,18 +1,18 @@
 -- What a row tells the two ends of the connection that stands, by the rows before it.
 use Rattle.std.specs.Prelude.{ℕ, Bool, false, not, ◌&&◌, ◌||◌, List, [], ◌∷◌, Option, Some, None, is_some, is_none, if◌then◌else◌}
-use Rattle.bus_trace.specs.declared.Row.{Row}
-use Rattle.bus_trace.specs.declared.changes.Change.{Change}
-use Rattle.bus_trace.specs.declared.connection.Connection.{Connection}
-use Rattle.bus_lines.specs.declared.effect.RowEffect.{RowEffect}
-use Rattle.bus_trace.specs.Changes.{change_of}
-use Rattle.bus_trace.specs.Phases.{changes_phase, is_data}
-use Rattle.bus_trace.specs.Terms.{connection}
-use Rattle.bus_lines.specs.Effect.{no_effect, effect}
-use Rattle.bus_lines.specs.Handshakes.{handshakes}
-use Rattle.bus_phases.specs.declared.dialogue.Dialogue.{Dialogue}
-use Rattle.bus_phases.specs.declared.spoken.Spoken.{Spoken}
-use Rattle.bus_trace.specs.declared.agreements.Agreement.{Agreement}
-use Rattle.bus_phases.specs.Dialogue.{asynchronous, opened, dialogue, closed_agreement_by}
+use Rattle.bus_story.specs.bus_trace.specs.declared.Row.{Row}
+use Rattle.bus_story.specs.bus_trace.specs.declared.changes.Change.{Change}
+use Rattle.bus_story.specs.bus_trace.specs.declared.connection.Connection.{Connection}
+use Rattle.bus_reactions.specs.bus_lines.specs.declared.effect.RowEffect.{RowEffect}
+use Rattle.bus_story.specs.bus_trace.specs.Changes.{change_of}
+use Rattle.bus_story.specs.bus_trace.specs.Phases.{changes_phase, is_data}
+use Rattle.bus_story.specs.bus_trace.specs.Terms.{connection}
+use Rattle.bus_reactions.specs.bus_lines.specs.Effect.{no_effect, effect}
+use Rattle.bus_reactions.specs.bus_lines.specs.Handshakes.{handshakes}
+use Rattle.bus_story.specs.bus_phases.specs.declared.dialogue.Dialogue.{Dialogue}
+use Rattle.bus_story.specs.bus_phases.specs.declared.spoken.Spoken.{Spoken}
+use Rattle.bus_story.specs.bus_trace.specs.declared.agreements.Agreement.{Agreement}
+use Rattle.bus_story.specs.bus_phases.specs.Dialogue.{asynchronous, opened, dialogue, closed_agreement_by}
 use Rattle.bus_story.specs.BusState.{message_out, message_in}
 use Rattle.bus_dialogue.specs.declared.exchange.Hearing.{Hearing}
 

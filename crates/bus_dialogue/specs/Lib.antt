@@ -12,3 +12,10 @@ pub mod Ends
 pub mod Events
 pub mod Hearing
 pub mod Observer
+-- Handed on to the crates above that list this one and not these.
+pub use Rattle.bus_reactions.specs.bus_lines
+pub use Rattle.bus_story.specs.bus_phases
+pub use Rattle.scenario
+pub use Rattle.bus_story.specs.disk_array
+pub use Rattle.bus_story
+pub use Rattle.bus_reactions

@@ -1,9 +1,9 @@
 -- The course of a connection at its target: which phase follows, and what is said in it (6.1.5, 6.6).
 use Rattle.std.specs.Prelude.{ℕ, List, ◌+◌, Bool, true, false, not, ◌&&◌, Option, Some, None, is_some, nat_lt, if◌then◌else◌}
-use Rattle.bus_trace.specs.LineSet.{LineSet, none}
-use Rattle.bus_trace.specs.declared.agreements.Agreement.{Agreement}
-use Rattle.msg_grammar.specs.declared.message.MsgIn.TheVariants as to_initiator
-use Rattle.msg_grammar.specs.declared.message.MsgIn.{MsgIn}
+use Rattle.bus_story.specs.bus_trace.specs.LineSet.{LineSet, none}
+use Rattle.bus_story.specs.bus_trace.specs.declared.agreements.Agreement.{Agreement}
+use Rattle.bus_story.specs.msg_grammar.specs.declared.message.MsgIn.TheVariants as to_initiator
+use Rattle.bus_story.specs.msg_grammar.specs.declared.message.MsgIn.{MsgIn}
 use Rattle.scenario.specs.declared.value.TargetDef.{TargetDef}
 use Rattle.scenario.specs.declared.value.Policy.{Policy}
 use Rattle.scenario.specs.declared.value.Policy.TheVariants as policies

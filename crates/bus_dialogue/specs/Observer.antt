@@ -1,11 +1,11 @@
 -- What is told to all devices, and the rows that it was made from.
 use Rattle.std.specs.Prelude.{◌≡◌, Bool, List}
-use Rattle.bus_trace.specs.declared.Row.{Row}
-use Rattle.bus_lines.specs.BusView.{BusViewValue, IsBusViewOf}
-use Rattle.bus_phases.specs.declared.agreements.Agreements.{Agreements}
-use Rattle.bus_phases.specs.declared.dialogue.Dialogue.{Dialogue}
-use Rattle.bus_phases.specs.Dialogue.{agreed, dialogue}
-use Rattle.bus_phases.specs.Tables.{AreAgreements}
+use Rattle.bus_story.specs.bus_trace.specs.declared.Row.{Row}
+use Rattle.bus_reactions.specs.bus_lines.specs.BusView.{BusViewValue, IsBusViewOf}
+use Rattle.bus_story.specs.bus_phases.specs.declared.agreements.Agreements.{Agreements}
+use Rattle.bus_story.specs.bus_phases.specs.declared.dialogue.Dialogue.{Dialogue}
+use Rattle.bus_story.specs.bus_phases.specs.Dialogue.{agreed, dialogue}
+use Rattle.bus_story.specs.bus_phases.specs.Tables.{AreAgreements}
 use Rattle.bus_dialogue.specs.declared.exchange.Hearing.{Hearing}
 use Rattle.bus_dialogue.specs.Hearing.{begun, last_hearing}
 

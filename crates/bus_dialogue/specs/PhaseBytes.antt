@@ -1,10 +1,10 @@
 -- The bytes that the target gives, and how many bytes a phase has.
 use Rattle.std.specs.Prelude.{ℕ, ◌+◌, Bool, true, false, not, ◌&&◌, ◌||◌, ◌==◌, List, length, slice_index_or, Option, Some, None, nat_lt, if◌then◌else◌}
-use Rattle.bus_trace.specs.LineSet.{LineSet, none, byte_set}
+use Rattle.bus_story.specs.bus_trace.specs.LineSet.{LineSet, none, byte_set}
 use Rattle.scenario.specs.declared.value.Policy.{Policy}
 use Rattle.bus_dialogue.specs.declared.exchange.Phase.{Phase}
 use Rattle.bus_dialogue.specs.declared.exchange.Phase.TheVariants as phases
-use Rattle.bus_lines.specs.Handshakes.{Handshakes}
+use Rattle.bus_reactions.specs.bus_lines.specs.Handshakes.{Handshakes}
 use Rattle.bus_dialogue.specs.declared.exchange.Messages.{Messages}
 use Rattle.bus_dialogue.specs.declared.exchange.Leaving.{Leaving}
 use Rattle.bus_dialogue.specs.declared.exchange.Task.{Task}

@@ -1,7 +1,7 @@
 -- What the target of a connection plans in it, row by row.
 use Rattle.std.specs.Prelude.{◌-◌, Bool, true, false, not, ◌&&◌, if◌then◌else◌}
-use Rattle.bus_trace.specs.LineSet.{LineSet}
-use Rattle.bus_trace.specs.Phases.{is_message_out, is_message_in, changes_phase}
+use Rattle.bus_story.specs.bus_trace.specs.LineSet.{LineSet}
+use Rattle.bus_story.specs.bus_trace.specs.Phases.{is_message_out, is_message_in, changes_phase}
 use Rattle.bus_dialogue.specs.declared.exchange.Hearing.{Hearing}
 use Rattle.bus_dialogue.specs.declared.exchange.Cause.{Cause}
 use Rattle.bus_dialogue.specs.declared.exchange.Cause.TheVariants as causes

@@ -1,7 +1,7 @@
 -- The bytes that the initiator gives.
 use Rattle.std.specs.Prelude.{ℕ, List, [], slice_index_or, if◌then◌else◌}
-use Rattle.bus_trace.specs.LineSet.{LineSet}
-use Rattle.bus_trace.specs.Phases.{is_message_out, is_command}
+use Rattle.bus_story.specs.bus_trace.specs.LineSet.{LineSet}
+use Rattle.bus_story.specs.bus_trace.specs.Phases.{is_message_out, is_command}
 use Rattle.bus_dialogue.specs.Exchange.{Speech, next_word}
 
 -- What the initiator has to send of the process of the connection: the bytes of its command and of its data, and the

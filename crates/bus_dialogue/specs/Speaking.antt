@@ -1,7 +1,7 @@
 -- What the initiator of a connection has to say, row by row.
 use Rattle.std.specs.Prelude.{ℕ, not, ◌&&◌, List, Option, if◌then◌else◌}
-use Rattle.bus_trace.specs.declared.agreements.Agreement.{Agreement}
-use Rattle.bus_trace.specs.Phases.{is_message_out, is_message_in, changes_phase}
+use Rattle.bus_story.specs.bus_trace.specs.declared.agreements.Agreement.{Agreement}
+use Rattle.bus_story.specs.bus_trace.specs.Phases.{is_message_out, is_message_in, changes_phase}
 use Rattle.scenario.specs.declared.value.HostDef.{HostDef}
 use Rattle.bus_dialogue.specs.declared.exchange.Hearing.{Hearing}
 use Rattle.bus_dialogue.specs.Exchange.{Speech, speech_of, speech_after_byte, speech_after_request}

@@ -3,8 +3,8 @@
 use Rattle.std.specs.Prelude.{ℕ, Bool, false, not, ◌&&◌, ◌||◌, ◌==◌, List, [], ◌∷◌, length, Option, Some, None, is_some, nat_le, nat_lt, if◌then◌else◌}
 use Rattle.std.specs.List.{list_any}
 use Rattle.scenario.specs.declared.value.CmdDef.{CmdDef}
-use Rattle.disk_array.specs.Processes.{Process}
-use Rattle.disk_array.specs.Units.{RunningProcess}
+use Rattle.bus_story.specs.disk_array.specs.Processes.{Process}
+use Rattle.bus_story.specs.disk_array.specs.Units.{RunningProcess}
 use Rattle.bus_story.specs.Items.{Item, abort, command_item, or_else, is_clash}
 use Rattle.bus_reactions.specs.Reactions.{sooner_time, time_if}
 

@@ -1,20 +1,20 @@
 -- What the two ends of a connection say (6.6).
 use Rattle.std.specs.Prelude.{ℕ, max, min, Bool, true, false, not, ◌&&◌, ◌==◌, List, [], ◌++◌, Option, Some, None, nat_lt, if◌then◌else◌}
-use Rattle.bus_base.specs.declared.AbortKind.{AbortKind}
-use Rattle.bus_base.specs.declared.AbortKind.TheVariants as aborts
-use Rattle.bus_trace.specs.declared.agreements.TheConstants.{UNLIMITED_OFFSET}
-use Rattle.bus_trace.specs.declared.agreements.Agreement.{Agreement}
-use Rattle.msg_grammar.specs.declared.message.MsgOut.TheVariants as to_target
-use Rattle.msg_grammar.specs.declared.message.MsgIn.{MsgIn}
-use Rattle.msg_grammar.specs.declared.message.MsgIn.TheVariants as to_initiator
+use Rattle.scenario.specs.bus_base.specs.declared.AbortKind.{AbortKind}
+use Rattle.scenario.specs.bus_base.specs.declared.AbortKind.TheVariants as aborts
+use Rattle.bus_story.specs.bus_trace.specs.declared.agreements.TheConstants.{UNLIMITED_OFFSET}
+use Rattle.bus_story.specs.bus_trace.specs.declared.agreements.Agreement.{Agreement}
+use Rattle.bus_story.specs.msg_grammar.specs.declared.message.MsgOut.TheVariants as to_target
+use Rattle.bus_story.specs.msg_grammar.specs.declared.message.MsgIn.{MsgIn}
+use Rattle.bus_story.specs.msg_grammar.specs.declared.message.MsgIn.TheVariants as to_initiator
 use Rattle.bus_dialogue.specs.declared.exchange.Messages.{Messages}
-use Rattle.msg_grammar.specs.Messages.{out_bytes}
+use Rattle.bus_story.specs.msg_grammar.specs.Messages.{out_bytes}
 use Rattle.scenario.specs.declared.value.HostDef.{HostDef}
 use Rattle.scenario.specs.declared.value.TargetDef.{TargetDef}
 use Rattle.scenario.specs.declared.value.AbortDef.{AbortDef}
 use Rattle.scenario.specs.declared.value.Tag.{Tag}
 use Rattle.scenario.specs.declared.value.Tag.TheVariants as tags
-use Rattle.disk_array.specs.Processes.{Process}
+use Rattle.bus_story.specs.disk_array.specs.Processes.{Process}
 
 -- ---- synchronous data transfer requests (6.6.21)
 

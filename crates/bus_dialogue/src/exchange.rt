@@ -1,9 +1,9 @@
 // What the two ends of a connection know of each other, and what they mean to do.
 
-use bus_base::AbortKind;
-use bus_trace::{Agreement, Change};
-use msg_grammar::{MsgIn, MsgOut};
+use bus_story::the_bus_trace::{Agreement, Change};
+use bus_story::the_msg_grammar::{MsgIn, MsgOut};
 use scenario::Tag;
+use scenario::the_bus_base::AbortKind;
 
 /// Why the target asks for MESSAGE OUT: it was selected; ATN was true with a byte of MESSAGE IN; or ATN was true as a
 /// run of DATA IN, or STATUS, ended.

@@ -1,20 +1,20 @@
 //! What the rows tell all devices.
 ghost use Rattle.std.specs.Prelude.{ℕ, ◌≡◌, ◌<◌, ◌∷◌, [], List};
-ghost use Rattle.bus_trace.specs.declared.Row.{Row};
-ghost use Rattle.bus_trace.specs.declared.agreements.Agreement.{Agreement};
-ghost use Rattle.bus_trace.specs.Terms.{receiver_of};
-ghost use Rattle.bus_lines.specs.BusView.{IsBusViewOf};
+ghost use Rattle.bus_story.specs.bus_trace.specs.declared.Row.{Row};
+ghost use Rattle.bus_story.specs.bus_trace.specs.declared.agreements.Agreement.{Agreement};
+ghost use Rattle.bus_story.specs.bus_trace.specs.Terms.{receiver_of};
+ghost use Rattle.bus_reactions.specs.bus_lines.specs.BusView.{IsBusViewOf};
 ghost use Rattle.bus_story.specs.BusState.{message_out, message_in};
-ghost use Rattle.bus_phases.specs.Dialogue.{dialogue, dialogue_after};
-ghost use Rattle.bus_phases.specs.Tables.{AreAgreements};
+ghost use Rattle.bus_story.specs.bus_phases.specs.Dialogue.{dialogue, dialogue_after};
+ghost use Rattle.bus_story.specs.bus_phases.specs.Tables.{AreAgreements};
 ghost use Rattle.bus_dialogue.specs.Hearing.{begun_after, begun, hearing_by, last_hearing, no_hearing, agreed_after, is_within_phase};
 ghost use Rattle.bus_dialogue.specs.Observer.{IsObserverOf};
 
 use crate::exchange::Hearing;
-use bus_lines::{BusView, RowEffect, no_effect};
-use bus_phases::{Agreements, Dialogue, End, agree, asynchronous};
+use bus_reactions::the_bus_lines::{BusView, RowEffect, no_effect};
+use bus_story::the_bus_phases::{Agreements, Dialogue, End, agree, asynchronous};
+use bus_story::the_bus_trace::{Agreement, Change, Connection, Row, changes_phase, is_data};
 use bus_story::{message_in, message_out};
-use bus_trace::{Agreement, Change, Connection, Row, changes_phase, is_data};
 use std::marker::Model;
 
 /// What the rows of a trace so far tell all devices, whatever they are: the view of the bus, what the last row told the

@@ -1,19 +1,19 @@
 -- Whole runs: their scenarios, and the rows and histories of their reports, which an independent simulator printed.
 -- Written by tools/due_case.py.
-use Rattle.bus_trace.specs.LineSet.{set_of}
-use Rattle.bus_trace.specs.declared.Row.{Row}
-use Rattle.bus_trace.specs.declared.Kind.TheVariants.{Drives, Fault}
+use Rattle.bus_rules.specs.bus_trace.specs.LineSet.{set_of}
+use Rattle.bus_rules.specs.bus_trace.specs.declared.Row.{Row}
+use Rattle.bus_rules.specs.bus_trace.specs.declared.Kind.TheVariants.{Drives, Fault}
 use Rattle.bus_due.specs.Run.{Run, history_of}
 use Rattle.std.proofs.Common.{ℕ, Bool, true, false, List, [], ◌∷◌, reverse}
-use Rattle.bus_base.specs.declared.ProcId.{ProcId}
-use Rattle.bus_base.specs.declared.AbortKind.TheVariants as aborts
-use Rattle.bus_base.specs.declared.Event.{Event}
-use Rattle.bus_base.specs.declared.Event.TheVariants as events
-use Rattle.bus_base.specs.declared.events.Pick.TheVariants as picks
-use Rattle.scenario.specs.declared.value.Policy.TheVariants as policies
-use Rattle.scenario.specs.declared.value.Tag.TheVariants as tags
-use Rattle.scenario.specs.declared.value.Payload.TheVariants as payloads
-use Rattle.scenario.specs.Value.{ScenarioValue}
+use Rattle.bus_rules.specs.bus_base.specs.declared.ProcId.{ProcId}
+use Rattle.bus_rules.specs.bus_base.specs.declared.AbortKind.TheVariants as aborts
+use Rattle.bus_rules.specs.bus_base.specs.declared.Event.{Event}
+use Rattle.bus_rules.specs.bus_base.specs.declared.Event.TheVariants as events
+use Rattle.bus_rules.specs.bus_base.specs.declared.events.Pick.TheVariants as picks
+use Rattle.bus_dialogue.specs.scenario.specs.declared.value.Policy.TheVariants as policies
+use Rattle.bus_dialogue.specs.scenario.specs.declared.value.Tag.TheVariants as tags
+use Rattle.bus_dialogue.specs.scenario.specs.declared.value.Payload.TheVariants as payloads
+use Rattle.bus_dialogue.specs.scenario.specs.Value.{ScenarioValue}
 
 abbrev drive : ℕ → ℕ → ℕ → Row
 drive time dev lines = record { time = time; dev = dev; kind = Drives (set_of lines) }

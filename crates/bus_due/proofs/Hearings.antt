@@ -1,12 +1,12 @@
 -- What a row tells the two ends of a connection by what is kept is what the plain terms say.
 use Rattle.std.proofs.Common.{◌≡◌, ◌<◌, List, ◌∷◌, sym, subst}
-use Rattle.bus_trace.specs.declared.Row.{Row}
-use Rattle.bus_trace.specs.Changes.{change_of}
-use Rattle.bus_trace.specs.Terms.{connection}
-use Rattle.bus_lines.specs.Effect.{effect_of}
-use Rattle.scenario.specs.Value.{ScenarioValue}
-use Rattle.bus_story.specs.BusState.{change_by, row_reading}
-use Rattle.bus_story.specs.Story.{Story}
+use Rattle.bus_rules.specs.bus_trace.specs.declared.Row.{Row}
+use Rattle.bus_rules.specs.bus_trace.specs.Changes.{change_of}
+use Rattle.bus_rules.specs.bus_trace.specs.Terms.{connection}
+use Rattle.bus_dialogue.specs.bus_lines.specs.Effect.{effect_of}
+use Rattle.bus_dialogue.specs.scenario.specs.Value.{ScenarioValue}
+use Rattle.bus_dialogue.specs.bus_story.specs.BusState.{change_by, row_reading}
+use Rattle.bus_dialogue.specs.bus_story.specs.Story.{Story}
 use Rattle.bus_dialogue.specs.Hearing.{hearing_by, hearing}
 use Rattle.bus_due.specs.Sights.{hearing_of}
 use Rattle.bus_due.specs.RunSteps.{run_state}

@@ -2,17 +2,17 @@
 use Rattle.std.proofs.Common.{true, ap, ◌+◌, ◌≡◌, Option, None, false, Some, refl, ◌∷◌, Bool, List, []}
 use Rattle.bus_due.specs.Faithful.{same_tag, is_unit, is_process_named}
 use Rattle.std.specs.Prelude.{◌&&◌, is_some, is_none, if◌then◌else◌, ◌||◌}
-use Rattle.bus_base.specs.declared.AbortKind.{AbortKind}
+use Rattle.bus_rules.specs.bus_base.specs.declared.AbortKind.{AbortKind}
 use Rattle.std.proofs.lemmas.Bool.{and_parts}
-use Rattle.disk_array.specs.Processes.{Process, same_id}
+use Rattle.bus_dialogue.specs.disk_array.specs.Processes.{Process, same_id}
 use Rattle.bus_dialogue.specs.declared.exchange.Said.{Said}
 use Rattle.bus_dialogue.specs.PhaseBytes.{one_if}
 use Rattle.bus_due.specs.LastingState.{progress_with, progress_in, ProcessProgress}
-use Rattle.bus_base.specs.declared.ProcId.{ProcId}
-use Rattle.scenario.specs.Value.{ScenarioValue}
+use Rattle.bus_rules.specs.bus_base.specs.declared.ProcId.{ProcId}
+use Rattle.bus_dialogue.specs.scenario.specs.Value.{ScenarioValue}
 use Rattle.bus_due.specs.RunSteps.{array_after_events}
-use Rattle.bus_base.specs.declared.Event.{Event}
-use Rattle.disk_array.specs.ArrayHistory as Play
+use Rattle.bus_rules.specs.bus_base.specs.declared.Event.{Event}
+use Rattle.bus_dialogue.specs.disk_array.specs.ArrayHistory as Play
 
 pub named_none : (said : Said) (p : Process) → is_process_named said (Some p) ≡ true → is_some said.aborts ≡ false
 named_none said p e = go said.aborts (and_parts (is_none said.aborts) (is_unit said.unit p.unit) (and_parts (is_none said.aborts && is_unit said.unit p.unit) (same_tag said.tag p.tag) e).0).0

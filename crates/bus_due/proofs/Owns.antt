@@ -3,17 +3,17 @@ use Rattle.std.proofs.Common.{inl, inr, ℕ, ◌≡◌, ◌≢◌, ◌<◌, ◌=
 use Rattle.std.specs.Prelude.{slice_set, if◌then◌else◌}
 use Rattle.std.proofs.lemmas.Bool.{cases_eq, eq-eqb, ne_eqb}
 use Rattle.std.proofs.lemmas.Grind.{common_steps, elements}
-use Rattle.bus_trace.specs.LineSet.{LineSet}
-use Rattle.bus_trace.specs.View.{driven_at}
-use Rattle.bus_trace.specs.declared.Row.{Row}
-use Rattle.bus_trace.specs.declared.Kind.{Kind}
-use Rattle.bus_trace.specs.declared.Kind.TheVariants.{Drives, Fault}
-use Rattle.bus_trace.specs.Trace.{driven_after}
-use Rattle.bus_trace.specs.declared.changes.Change.{Change}
-use Rattle.bus_trace.specs.Terms.{is_fault}
-use Rattle.scenario.specs.Value.{ScenarioValue}
-use Rattle.bus_story.specs.BusState.{change_by, row_reading}
-use Rattle.bus_reactions.specs.declared.due.Myself.{Myself}
+use Rattle.bus_rules.specs.bus_trace.specs.LineSet.{LineSet}
+use Rattle.bus_rules.specs.bus_trace.specs.View.{driven_at}
+use Rattle.bus_rules.specs.bus_trace.specs.declared.Row.{Row}
+use Rattle.bus_rules.specs.bus_trace.specs.declared.Kind.{Kind}
+use Rattle.bus_rules.specs.bus_trace.specs.declared.Kind.TheVariants.{Drives, Fault}
+use Rattle.bus_rules.specs.bus_trace.specs.Trace.{driven_after}
+use Rattle.bus_rules.specs.bus_trace.specs.declared.changes.Change.{Change}
+use Rattle.bus_rules.specs.bus_trace.specs.Terms.{is_fault}
+use Rattle.bus_dialogue.specs.scenario.specs.Value.{ScenarioValue}
+use Rattle.bus_dialogue.specs.bus_story.specs.BusState.{change_by, row_reading}
+use Rattle.bus_dialogue.specs.bus_reactions.specs.declared.due.Myself.{Myself}
 use Rattle.bus_due.specs.Own.{Own, own_at, own_after, owns_after, own_next}
 use Rattle.bus_due.specs.Due.{self_of}
 use Rattle.bus_due.specs.RunSteps.{run_state}

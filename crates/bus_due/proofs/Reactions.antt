@@ -1,21 +1,21 @@
 -- What is due of each device is its reaction, by what the plain terms of the rows say.
 use Rattle.std.proofs.Common.{ℕ, ◌≡◌, ◌==◌, ◌∙◌, Bool, true, false, List, [], ◌∷◌, refl, sym, ap, Option, Some, None}
 use Rattle.std.specs.Prelude.{is_some, if◌then◌else◌}
-use Rattle.bus_trace.specs.declared.Row.{Row}
-use Rattle.bus_trace.specs.declared.connection.Connection.{Connection}
+use Rattle.bus_rules.specs.bus_trace.specs.declared.Row.{Row}
+use Rattle.bus_rules.specs.bus_trace.specs.declared.connection.Connection.{Connection}
 use Rattle.std.proofs.lemmas.Option.{same_Some}
-use Rattle.bus_trace.specs.declared.changes.Change.{Change}
-use Rattle.bus_trace.specs.declared.selection.Call.{Call}
-use Rattle.bus_trace.specs.Changes.{change_of}
-use Rattle.bus_trace.specs.Terms.{call, connection, connection_after, receiver_in, receiver_of, receiver}
-use Rattle.scenario.specs.Value.{ScenarioValue}
-use Rattle.bus_reactions.specs.declared.due.Due.{Due}
-use Rattle.bus_reactions.specs.declared.sight.Sight.{Sight}
-use Rattle.bus_reactions.specs.Linking.{link_due, sample_time}
-use Rattle.bus_reactions.specs.Reset.{with_reset}
-use Rattle.bus_reactions.specs.Ends as hand
-use Rattle.bus_lines.specs.Handshakes.{handshakes}
-use Rattle.bus_reactions.specs.Sight.{sight}
+use Rattle.bus_rules.specs.bus_trace.specs.declared.changes.Change.{Change}
+use Rattle.bus_rules.specs.bus_trace.specs.declared.selection.Call.{Call}
+use Rattle.bus_rules.specs.bus_trace.specs.Changes.{change_of}
+use Rattle.bus_rules.specs.bus_trace.specs.Terms.{call, connection, connection_after, receiver_in, receiver_of, receiver}
+use Rattle.bus_dialogue.specs.scenario.specs.Value.{ScenarioValue}
+use Rattle.bus_dialogue.specs.bus_reactions.specs.declared.due.Due.{Due}
+use Rattle.bus_dialogue.specs.bus_reactions.specs.declared.sight.Sight.{Sight}
+use Rattle.bus_dialogue.specs.bus_reactions.specs.Linking.{link_due, sample_time}
+use Rattle.bus_dialogue.specs.bus_reactions.specs.Reset.{with_reset}
+use Rattle.bus_dialogue.specs.bus_reactions.specs.Ends as hand
+use Rattle.bus_dialogue.specs.bus_lines.specs.Handshakes.{handshakes}
+use Rattle.bus_dialogue.specs.bus_reactions.specs.Sight.{sight}
 use Rattle.bus_dialogue.specs.Hearing.{begun}
 use Rattle.bus_due.specs.Own.{Own, own_of}
 use Rattle.bus_due.specs.RunState.{bus_of}

@@ -3,19 +3,19 @@ use Rattle.std.proofs.Common.{◌≡◌, true, reverse, refl, length}
 use Rattle.std.specs.Prelude.{nat_le, is_some, Option}
 use Rattle.std.specs.List.{list_all}
 use lib.Count.{ones}
-use Rattle.bus_trace.specs.LineSet.{none, line_of}
-use Rattle.bus_trace.specs.View.{union_below}
-use Rattle.bus_trace.specs.Trace.{bus, last_time}
-use Rattle.msg_grammar.specs.Messages.{form_out, form_in}
+use Rattle.bus_rules.specs.bus_trace.specs.LineSet.{none, line_of}
+use Rattle.bus_rules.specs.bus_trace.specs.View.{union_below}
+use Rattle.bus_rules.specs.bus_trace.specs.Trace.{bus, last_time}
+use Rattle.bus_rules.specs.msg_grammar.specs.Messages.{form_out, form_in}
 use Rattle.bus_rules.specs.Seen.{seen_with}
 use Rattle.bus_rules.specs.Rules.{judged_whole}
 use Rattle.bus_rules.specs.declared.verdict.Verdict.TheVariants.{Lawful}
 use Rattle.bus_rules.proofs.First.{whole_lawful}
-use Rattle.scenario.specs.Needs.{need_of, sent_of}
-use Rattle.bus_story.specs.TraceHistory.{story}
-use Rattle.bus_story.specs.Outcomes.{Outcome, outcomes}
-use Rattle.bus_story.specs.Samples.{expected_strikes, row_strikes}
-use Rattle.bus_story.specs.Budget.{budget}
+use Rattle.bus_dialogue.specs.scenario.specs.Needs.{need_of, sent_of}
+use Rattle.bus_dialogue.specs.bus_story.specs.TraceHistory.{story}
+use Rattle.bus_dialogue.specs.bus_story.specs.Outcomes.{Outcome, outcomes}
+use Rattle.bus_dialogue.specs.bus_story.specs.Samples.{expected_strikes, row_strikes}
+use Rattle.bus_dialogue.specs.bus_story.specs.Budget.{budget}
 use Rattle.bus_due.specs.Goals.{IsRight}
 use Rattle.bus_due.proofs.Cases.{resets_dropped_due, resets_dropped_due_rows, one_read_due, one_read_due_rows, unanswered_due, unanswered_due_rows, lost_due, lost_due_rows, delayed_ack_due, delayed_ack_due_rows}
 

@@ -1,10 +1,10 @@
 -- Whole runs, computed from their scenarios by what is due, are those of the reports. Written by tools/shown_case.py.
 use Rattle.std.proofs.Common.{◌≡◌, refl}
 use lib.Count.{ones}
-use Rattle.bus_trace.specs.LineSet.{line_of}
-use Rattle.bus_trace.specs.View.{union_below}
-use Rattle.msg_grammar.specs.Messages.{form_out, form_in}
-use Rattle.scenario.specs.Needs.{need_of, sent_of}
+use Rattle.bus_rules.specs.bus_trace.specs.LineSet.{line_of}
+use Rattle.bus_rules.specs.bus_trace.specs.View.{union_below}
+use Rattle.bus_rules.specs.msg_grammar.specs.Messages.{form_out, form_in}
+use Rattle.bus_dialogue.specs.scenario.specs.Needs.{need_of, sent_of}
 use Rattle.bus_due.specs.Next.{least}
 use Rattle.bus_due.specs.Run.{run_from, run_by_due}
 use Rattle.bus_due.proofs.Cases.{shows, late_entry_due, late_entry_due_shown, one_read_due, one_read_due_shown, pulses_out_due, pulses_out_due_shown, ready_units_due, ready_units_due_shown, resets_dropped_due, resets_dropped_due_shown, tag_aborted_due, tag_aborted_due_shown, unanswered_due, unanswered_due_shown}

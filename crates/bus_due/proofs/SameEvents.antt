@@ -2,13 +2,13 @@
 use Rattle.std.proofs.Common.{ℕ, ◌≡◌, true, List, [], ◌∷◌, refl, ap}
 use Rattle.std.specs.Prelude.{◌==◌, ◌&&◌}
 use Rattle.std.proofs.lemmas.Bool.{and_parts, eqb-true}
-use Rattle.bus_base.specs.declared.ProcId.{ProcId}
-use Rattle.bus_base.specs.declared.AbortKind.{AbortKind}
-use Rattle.bus_base.specs.declared.AbortKind.TheVariants as aborts
-use Rattle.bus_base.specs.declared.Event.{Event}
-use Rattle.bus_base.specs.declared.Event.TheVariants as events
-use Rattle.disk_array.specs.Processes.{same_id}
-use Rattle.disk_array.proofs.SeatLookups.{same_id_is}
+use Rattle.bus_rules.specs.bus_base.specs.declared.ProcId.{ProcId}
+use Rattle.bus_rules.specs.bus_base.specs.declared.AbortKind.{AbortKind}
+use Rattle.bus_rules.specs.bus_base.specs.declared.AbortKind.TheVariants as aborts
+use Rattle.bus_rules.specs.bus_base.specs.declared.Event.{Event}
+use Rattle.bus_rules.specs.bus_base.specs.declared.Event.TheVariants as events
+use Rattle.bus_dialogue.specs.disk_array.specs.Processes.{same_id}
+use Rattle.bus_dialogue.specs.disk_array.proofs.SeatLookups.{same_id_is}
 use Rattle.bus_due.specs.Telling.{same_kind, same_event, same_events}
 
 pub kinds_are : (a b : AbortKind) → same_kind a b ≡ true → a ≡ b

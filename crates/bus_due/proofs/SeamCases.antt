@@ -2,10 +2,10 @@
 -- sound, after each row of some runs. Written by tools/seam_case.py.
 use Rattle.std.proofs.Common.{[], refl}
 use lib.Count.{ones}
-use Rattle.bus_trace.specs.LineSet.{line_of}
-use Rattle.bus_trace.specs.View.{union_below}
-use Rattle.msg_grammar.specs.Messages.{form_out, form_in}
-use Rattle.scenario.specs.Needs.{need_of, sent_of}
+use Rattle.bus_rules.specs.bus_trace.specs.LineSet.{line_of}
+use Rattle.bus_rules.specs.bus_trace.specs.View.{union_below}
+use Rattle.bus_rules.specs.msg_grammar.specs.Messages.{form_out, form_in}
+use Rattle.bus_dialogue.specs.scenario.specs.Needs.{need_of, sent_of}
 use Rattle.bus_due.proofs.Seams.{Hold, onto, all_hold}
 use Rattle.bus_due.proofs.Cases.{late_entry_due, late_entry_due_rows, one_read_due, one_read_due_rows, pulses_out_due, pulses_out_due_rows, ready_units_due, ready_units_due_rows, resets_dropped_due, resets_dropped_due_rows, tag_aborted_due, tag_aborted_due_rows, unanswered_due, unanswered_due_rows}
 

@@ -2,27 +2,27 @@
 use Rattle.std.proofs.Common.{ℕ, zero, suc, ◌≡◌, ◌==◌, Bool, true, false, List, [], ◌∷◌, ◌∙◌, refl, sym, ap, arith, Option, Some, None}
 use Rattle.std.proofs.lemmas.Bool.Decides.{nat_tests}
 use Rattle.std.specs.Prelude.{if◌then◌else◌, not, drop, slice_set, ◌&&◌, ◌||◌}
-use Rattle.bus_trace.specs.declared.Row.{Row}
-use Rattle.bus_trace.specs.declared.Kind.{Kind}
-use Rattle.bus_trace.specs.declared.Kind.TheVariants.{Drives, Fault}
-use Rattle.bus_trace.specs.declared.changes.Change.{Change}
-use Rattle.bus_trace.specs.declared.selection.Call.{Call}
-use Rattle.bus_trace.specs.declared.connection.Connection.{Connection}
-use Rattle.bus_phases.specs.declared.spoken.Spoken.{Spoken}
-use Rattle.bus_trace.specs.Changes.{falls}
-use Rattle.bus_trace.specs.Terms.{is_fault, connection_after}
-use Rattle.bus_trace.specs.Phases.{changes_phase}
-use Rattle.bus_base.specs.declared.Event.{Event}
-use Rattle.scenario.specs.Value.{ScenarioValue}
-use Rattle.bus_story.specs.PairAgreements.{PairAgreement, agreements_at_end, agreements_after}
-use Rattle.bus_story.specs.BusState.{RowReading, row_reading}
-use Rattle.bus_story.specs.Items.{Item}
-use Rattle.bus_story.specs.Links.{Link}
-use Rattle.bus_story.specs.Story.{Story}
-use Rattle.bus_story.specs.HistoryEvents.{row_events_by}
-use Rattle.bus_story.specs.TraceHistory.{is_arbitration_entry, story_on_free_bus, story_after_calling, story_with_aim, story_after_fault, story_in_connection, story_after_crossing, story_on_bus, story_by_change}
+use Rattle.bus_rules.specs.bus_trace.specs.declared.Row.{Row}
+use Rattle.bus_rules.specs.bus_trace.specs.declared.Kind.{Kind}
+use Rattle.bus_rules.specs.bus_trace.specs.declared.Kind.TheVariants.{Drives, Fault}
+use Rattle.bus_rules.specs.bus_trace.specs.declared.changes.Change.{Change}
+use Rattle.bus_rules.specs.bus_trace.specs.declared.selection.Call.{Call}
+use Rattle.bus_rules.specs.bus_trace.specs.declared.connection.Connection.{Connection}
+use Rattle.bus_dialogue.specs.bus_phases.specs.declared.spoken.Spoken.{Spoken}
+use Rattle.bus_rules.specs.bus_trace.specs.Changes.{falls}
+use Rattle.bus_rules.specs.bus_trace.specs.Terms.{is_fault, connection_after}
+use Rattle.bus_rules.specs.bus_trace.specs.Phases.{changes_phase}
+use Rattle.bus_rules.specs.bus_base.specs.declared.Event.{Event}
+use Rattle.bus_dialogue.specs.scenario.specs.Value.{ScenarioValue}
+use Rattle.bus_dialogue.specs.bus_story.specs.PairAgreements.{PairAgreement, agreements_at_end, agreements_after}
+use Rattle.bus_dialogue.specs.bus_story.specs.BusState.{RowReading, row_reading}
+use Rattle.bus_dialogue.specs.bus_story.specs.Items.{Item}
+use Rattle.bus_dialogue.specs.bus_story.specs.Links.{Link}
+use Rattle.bus_dialogue.specs.bus_story.specs.Story.{Story}
+use Rattle.bus_dialogue.specs.bus_story.specs.HistoryEvents.{row_events_by}
+use Rattle.bus_dialogue.specs.bus_story.specs.TraceHistory.{is_arbitration_entry, story_on_free_bus, story_after_calling, story_with_aim, story_after_fault, story_in_connection, story_after_crossing, story_on_bus, story_by_change}
 use Rattle.bus_due.specs.RunState.{RunState, process_served}
-use Rattle.scenario.specs.declared.value.HostDef.{HostDef}
+use Rattle.bus_dialogue.specs.scenario.specs.declared.value.HostDef.{HostDef}
 use Rattle.bus_dialogue.specs.declared.exchange.Hearing.{Hearing}
 use Rattle.bus_dialogue.specs.Exchange.{Exchange}
 use Rattle.bus_due.specs.Defs.{host_of}
@@ -30,12 +30,12 @@ use Rattle.bus_dialogue.specs.Speaking.{speech_in_phase, speech_with_byte}
 use Rattle.bus_dialogue.specs.Planning.{plan_in_phase, plan_with_byte}
 use Rattle.bus_due.specs.RunSteps.{run_state, run_state_with, run_state_with_events, leaving_of, exchange_after, served_after, negotiated_by_connection, progress_by_leaving, progress_after}
 use Rattle.bus_due.specs.Wishes.{IsStillBy, IsStill, is_entry_row, Wishes, wishes_of}
-use Rattle.bus_trace.specs.LineSet.{none}
-use Rattle.bus_story.specs.BusState.{quiet_bus}
-use Rattle.bus_story.specs.Story.{empty_story}
-use Rattle.bus_story.specs.TraceHistory.{aim_of}
-use Rattle.bus_trace.specs.Trace.{no_times}
-use Rattle.bus_lines.specs.Handshakes.{no_handshakes}
+use Rattle.bus_rules.specs.bus_trace.specs.LineSet.{none}
+use Rattle.bus_dialogue.specs.bus_story.specs.BusState.{quiet_bus}
+use Rattle.bus_dialogue.specs.bus_story.specs.Story.{empty_story}
+use Rattle.bus_dialogue.specs.bus_story.specs.TraceHistory.{aim_of}
+use Rattle.bus_rules.specs.bus_trace.specs.Trace.{no_times}
+use Rattle.bus_dialogue.specs.bus_lines.specs.Handshakes.{no_handshakes}
 use Rattle.bus_due.specs.RunState.{bus_of}
 use Rattle.bus_due.specs.Wants.{want_time, callee}
 use Rattle.bus_dialogue.specs.Exchange.{struck_plan}

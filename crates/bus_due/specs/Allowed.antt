@@ -1,9 +1,9 @@
 -- The plain disk array permits every event that the rows show.
 use Rattle.std.specs.Prelude.{Bool, true, ◌&&◌, List, [], ◌∷◌, is_some}
-use Rattle.bus_trace.specs.declared.Row.{Row}
-use Rattle.scenario.specs.Value.{ScenarioValue}
-use Rattle.bus_story.specs.BusState.{RowReading, row_reading}
-use Rattle.bus_story.specs.HistoryEvents.{row_events_by}
+use Rattle.bus_rules.specs.bus_trace.specs.declared.Row.{Row}
+use Rattle.bus_dialogue.specs.scenario.specs.Value.{ScenarioValue}
+use Rattle.bus_dialogue.specs.bus_story.specs.BusState.{RowReading, row_reading}
+use Rattle.bus_dialogue.specs.bus_story.specs.HistoryEvents.{row_events_by}
 use Rattle.bus_due.specs.RunState.{RunState}
 use Rattle.bus_due.specs.RunSteps.{run_state, array_after_events}
 

@@ -1,12 +1,12 @@
 -- The two ends of a connection.
 use Rattle.std.specs.Prelude.{ℕ, Bool, false, ◌==◌, Option, Some, None, if◌then◌else◌}
-use Rattle.bus_trace.specs.declared.changes.Change.{Change}
-use Rattle.bus_trace.specs.declared.connection.Connection.{Connection}
-use Rattle.bus_trace.specs.Terms.{receiver_in}
-use Rattle.scenario.specs.Value.{ScenarioValue}
-use Rattle.bus_reactions.specs.declared.due.Due.{Due}
-use Rattle.bus_reactions.specs.declared.due.Myself.{Myself}
-use Rattle.bus_reactions.specs.Ends as hand
+use Rattle.bus_rules.specs.bus_trace.specs.declared.changes.Change.{Change}
+use Rattle.bus_rules.specs.bus_trace.specs.declared.connection.Connection.{Connection}
+use Rattle.bus_rules.specs.bus_trace.specs.Terms.{receiver_in}
+use Rattle.bus_dialogue.specs.scenario.specs.Value.{ScenarioValue}
+use Rattle.bus_dialogue.specs.bus_reactions.specs.declared.due.Due.{Due}
+use Rattle.bus_dialogue.specs.bus_reactions.specs.declared.due.Myself.{Myself}
+use Rattle.bus_dialogue.specs.bus_reactions.specs.Ends as hand
 use Rattle.bus_due.specs.RunState.{RunState}
 use Rattle.bus_due.specs.Sights.{sight_of, pace_of, offering_of, answering_of, flip_of}
 use Rattle.bus_rules.specs.Order.{is_of_device}

@@ -1,12 +1,12 @@
 -- The lines of a scenario for one device, and what an initiator says first of an item.
 use Rattle.std.specs.Prelude.{ℕ, Bool, ◌==◌, List, [], Option, Some, None}
 use Rattle.std.specs.List.{find}
-use Rattle.scenario.specs.declared.value.HostDef.{HostDef}
-use Rattle.scenario.specs.declared.value.TargetDef.{TargetDef}
-use Rattle.scenario.specs.Value.{ScenarioValue}
-use Rattle.disk_array.specs.Processes.{process_of}
-use Rattle.bus_story.specs.Items.{Item, process, abort}
-use Rattle.bus_story.specs.HistoryEvents.{abort_line_at}
+use Rattle.bus_dialogue.specs.scenario.specs.declared.value.HostDef.{HostDef}
+use Rattle.bus_dialogue.specs.scenario.specs.declared.value.TargetDef.{TargetDef}
+use Rattle.bus_dialogue.specs.scenario.specs.Value.{ScenarioValue}
+use Rattle.bus_dialogue.specs.disk_array.specs.Processes.{process_of}
+use Rattle.bus_dialogue.specs.bus_story.specs.Items.{Item, process, abort}
+use Rattle.bus_dialogue.specs.bus_story.specs.HistoryEvents.{abort_line_at}
 use Rattle.bus_dialogue.specs.Words.{process_opening, abort_opening}
 
 abbrev pub host_of : ScenarioValue → ℕ → Option HostDef

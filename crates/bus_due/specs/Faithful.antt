@@ -1,17 +1,17 @@
 -- What crossed unstruck is what was to be said: the opening, the command block, the data of a run, and who the ends are.
 use Rattle.std.specs.Prelude.{ℕ, ◌+◌, ◌%◌, Bool, true, false, ◌&&◌, ◌||◌, ◌==◌, List, [], ◌∷◌, slice_index_or, Option, Some, None, is_none, if◌then◌else◌}
-use Rattle.bus_trace.specs.declared.Row.{Row}
-use Rattle.bus_trace.specs.Phases.{changes_phase}
-use Rattle.scenario.specs.declared.value.Tag.{Tag}
-use Rattle.scenario.specs.declared.value.Tag.TheVariants as tags
-use Rattle.scenario.specs.Value.{ScenarioValue}
-use Rattle.bus_trace.specs.declared.connection.Connection.{Connection}
-use Rattle.bus_base.specs.declared.AbortKind.{AbortKind}
-use Rattle.scenario.specs.declared.value.AbortDef.{AbortDef}
-use Rattle.bus_story.specs.Items.{Item, process, abort, same_item}
-use Rattle.bus_story.specs.HistoryEvents.{abort_line_at}
-use Rattle.bus_story.specs.BusState.{RowReading, row_reading}
-use Rattle.bus_story.specs.Right.{same_bytes}
+use Rattle.bus_rules.specs.bus_trace.specs.declared.Row.{Row}
+use Rattle.bus_rules.specs.bus_trace.specs.Phases.{changes_phase}
+use Rattle.bus_dialogue.specs.scenario.specs.declared.value.Tag.{Tag}
+use Rattle.bus_dialogue.specs.scenario.specs.declared.value.Tag.TheVariants as tags
+use Rattle.bus_dialogue.specs.scenario.specs.Value.{ScenarioValue}
+use Rattle.bus_rules.specs.bus_trace.specs.declared.connection.Connection.{Connection}
+use Rattle.bus_rules.specs.bus_base.specs.declared.AbortKind.{AbortKind}
+use Rattle.bus_dialogue.specs.scenario.specs.declared.value.AbortDef.{AbortDef}
+use Rattle.bus_dialogue.specs.bus_story.specs.Items.{Item, process, abort, same_item}
+use Rattle.bus_dialogue.specs.bus_story.specs.HistoryEvents.{abort_line_at}
+use Rattle.bus_dialogue.specs.bus_story.specs.BusState.{RowReading, row_reading}
+use Rattle.bus_dialogue.specs.bus_story.specs.Right.{same_bytes}
 use Rattle.bus_dialogue.specs.declared.exchange.Cause.{Cause}
 use Rattle.bus_dialogue.specs.declared.exchange.Cause.TheVariants as causes
 use Rattle.bus_dialogue.specs.declared.exchange.Phase.{Phase}
@@ -19,7 +19,7 @@ use Rattle.bus_dialogue.specs.declared.exchange.Phase.TheVariants as phases
 use Rattle.bus_dialogue.specs.declared.exchange.Plan.{Plan}
 use Rattle.bus_dialogue.specs.declared.exchange.Said.{Said}
 use Rattle.bus_dialogue.specs.declared.exchange.Task.{Task}
-use Rattle.disk_array.specs.Processes.{Process, process_of}
+use Rattle.bus_dialogue.specs.disk_array.specs.Processes.{Process, process_of}
 use Rattle.bus_due.specs.RunState.{RunState, bus_of, process_item, item_of, process_served, carried_here}
 use Rattle.bus_due.specs.RunSteps.{run_state, served_after}
 use Rattle.bus_due.specs.Telling.{same_kind}

@@ -1,12 +1,12 @@
 -- What lasts from one connection to the next: who has met whom, and how far each process has come.
 use Rattle.std.specs.Prelude.{ℕ, ◌+◌, Bool, true, false, ◌&&◌, ◌||◌, ◌==◌, List, [], ◌∷◌, if◌then◌else◌}
 use Rattle.std.specs.List.{list_any}
-use Rattle.bus_base.specs.declared.ProcId.{ProcId}
-use Rattle.bus_base.specs.declared.AbortKind.{AbortKind}
-use Rattle.bus_base.specs.declared.AbortKind.TheVariants as aborts
-use Rattle.bus_base.specs.declared.Event.{Event}
-use Rattle.bus_base.specs.declared.Event.TheVariants as events
-use Rattle.disk_array.specs.Processes.{same_id}
+use Rattle.bus_rules.specs.bus_base.specs.declared.ProcId.{ProcId}
+use Rattle.bus_rules.specs.bus_base.specs.declared.AbortKind.{AbortKind}
+use Rattle.bus_rules.specs.bus_base.specs.declared.AbortKind.TheVariants as aborts
+use Rattle.bus_rules.specs.bus_base.specs.declared.Event.{Event}
+use Rattle.bus_rules.specs.bus_base.specs.declared.Event.TheVariants as events
+use Rattle.bus_dialogue.specs.disk_array.specs.Processes.{same_id}
 use Rattle.bus_dialogue.specs.PhaseBytes.{one_if}
 
 -- ---- which pairs have had the connection in which they may negotiate; in text 1 a reset ends this for good

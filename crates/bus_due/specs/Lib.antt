@@ -19,3 +19,16 @@ pub mod Faithful
 pub mod Allowed
 pub mod Sound
 pub mod Goals
+-- Handed on to the crates above that list this one and not these.
+pub use Rattle.bus_rules.specs.bus_base
+pub use Rattle.bus_rules.specs.bus_trace
+pub use Rattle.bus_dialogue.specs.bus_lines
+pub use Rattle.bus_rules.specs.cdb_codec
+pub use Rattle.bus_rules.specs.msg_grammar
+pub use Rattle.bus_rules.specs.bus_phases
+pub use Rattle.bus_rules
+pub use Rattle.bus_dialogue.specs.scenario
+pub use Rattle.bus_dialogue.specs.disk_array
+pub use Rattle.bus_dialogue.specs.bus_story
+pub use Rattle.bus_dialogue.specs.bus_reactions
+pub use Rattle.bus_dialogue

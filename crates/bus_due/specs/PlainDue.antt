@@ -1,18 +1,18 @@
 -- The reactions of a device by the plain terms of the rows, of which the laws say that they are what is due.
 use Rattle.std.specs.Prelude.{ℕ, ◌≡◌, ◌<◌, false, List, Option, Some}
-use Rattle.bus_trace.specs.declared.Row.{Row}
-use Rattle.bus_trace.specs.declared.connection.Connection.{Connection}
-use Rattle.bus_trace.specs.Trace.{bus, last_time}
-use Rattle.bus_trace.specs.Terms.{connection, receiver}
-use Rattle.bus_lines.specs.Handshakes.{handshakes}
-use Rattle.scenario.specs.Value.{ScenarioValue}
-use Rattle.bus_story.specs.Samples.{latency_of}
-use Rattle.bus_reactions.specs.declared.due.Due.{Due}
-use Rattle.bus_reactions.specs.declared.due.Myself.{Myself}
-use Rattle.bus_reactions.specs.Sight.{sight}
-use Rattle.bus_reactions.specs.Linking.{link_due, sample_time}
-use Rattle.bus_reactions.specs.Ends.{sample_due, target_due, initiator_due}
-use Rattle.bus_reactions.specs.Reset.{with_reset}
+use Rattle.bus_rules.specs.bus_trace.specs.declared.Row.{Row}
+use Rattle.bus_rules.specs.bus_trace.specs.declared.connection.Connection.{Connection}
+use Rattle.bus_rules.specs.bus_trace.specs.Trace.{bus, last_time}
+use Rattle.bus_rules.specs.bus_trace.specs.Terms.{connection, receiver}
+use Rattle.bus_dialogue.specs.bus_lines.specs.Handshakes.{handshakes}
+use Rattle.bus_dialogue.specs.scenario.specs.Value.{ScenarioValue}
+use Rattle.bus_dialogue.specs.bus_story.specs.Samples.{latency_of}
+use Rattle.bus_dialogue.specs.bus_reactions.specs.declared.due.Due.{Due}
+use Rattle.bus_dialogue.specs.bus_reactions.specs.declared.due.Myself.{Myself}
+use Rattle.bus_dialogue.specs.bus_reactions.specs.Sight.{sight}
+use Rattle.bus_dialogue.specs.bus_reactions.specs.Linking.{link_due, sample_time}
+use Rattle.bus_dialogue.specs.bus_reactions.specs.Ends.{sample_due, target_due, initiator_due}
+use Rattle.bus_dialogue.specs.bus_reactions.specs.Reset.{with_reset}
 use Rattle.bus_dialogue.specs.Hearing.{begun}
 use Rattle.bus_due.specs.Own.{own_of}
 use Rattle.bus_due.specs.RunSteps.{run_state}

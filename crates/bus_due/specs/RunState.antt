@@ -1,21 +1,21 @@
 -- All that a device's next row depends on, kept from row to row.
 use Rattle.std.specs.Prelude.{ℕ, List, Option, Some, None}
-use Rattle.bus_base.specs.declared.ProcId.{ProcId}
-use Rattle.bus_trace.specs.LineSet.{LineSet}
-use Rattle.bus_trace.specs.View.{driven_at}
-use Rattle.bus_trace.specs.declared.agreements.Agreement.{Agreement}
-use Rattle.bus_trace.specs.declared.arbitration.Arbitration.{Arbitration}
-use Rattle.scenario.specs.declared.value.FaultDef.{FaultDef}
-use Rattle.scenario.specs.Value.{ScenarioValue}
-use Rattle.disk_array.specs.Processes.{Process, process_of}
-use Rattle.disk_array.specs.Units.{Array, starting_array}
-use Rattle.bus_story.specs.Items.{Item, process, abort}
-use Rattle.bus_story.specs.Links.{Link}
-use Rattle.bus_story.specs.CarriedBytes.{CarriedBytes, carried_of}
-use Rattle.bus_story.specs.Story.{Story}
-use Rattle.bus_trace.specs.declared.line_times.LineTimes.{LineTimes}
+use Rattle.bus_rules.specs.bus_base.specs.declared.ProcId.{ProcId}
+use Rattle.bus_rules.specs.bus_trace.specs.LineSet.{LineSet}
+use Rattle.bus_rules.specs.bus_trace.specs.View.{driven_at}
+use Rattle.bus_rules.specs.bus_trace.specs.declared.agreements.Agreement.{Agreement}
+use Rattle.bus_rules.specs.bus_trace.specs.declared.arbitration.Arbitration.{Arbitration}
+use Rattle.bus_dialogue.specs.scenario.specs.declared.value.FaultDef.{FaultDef}
+use Rattle.bus_dialogue.specs.scenario.specs.Value.{ScenarioValue}
+use Rattle.bus_dialogue.specs.disk_array.specs.Processes.{Process, process_of}
+use Rattle.bus_dialogue.specs.disk_array.specs.Units.{Array, starting_array}
+use Rattle.bus_dialogue.specs.bus_story.specs.Items.{Item, process, abort}
+use Rattle.bus_dialogue.specs.bus_story.specs.Links.{Link}
+use Rattle.bus_dialogue.specs.bus_story.specs.CarriedBytes.{CarriedBytes, carried_of}
+use Rattle.bus_dialogue.specs.bus_story.specs.Story.{Story}
+use Rattle.bus_rules.specs.bus_trace.specs.declared.line_times.LineTimes.{LineTimes}
 use Rattle.bus_due.specs.Own.{Own}
-use Rattle.bus_lines.specs.Handshakes.{Handshakes}
+use Rattle.bus_dialogue.specs.bus_lines.specs.Handshakes.{Handshakes}
 use Rattle.bus_dialogue.specs.Exchange.{Exchange}
 use Rattle.bus_due.specs.LastingState.{Negotiated, ProcessProgress}
 

@@ -1,30 +1,30 @@
 -- All that is kept, row by row.
 use Rattle.std.specs.Prelude.{ℕ, Bool, true, false, not, ◌&&◌, ◌||◌, List, [], ◌∷◌, drop, length, replicate, Option, Some, None, if◌then◌else◌}
-use Rattle.bus_base.specs.declared.Event.{Event}
-use Rattle.bus_trace.specs.declared.Row.{Row}
-use Rattle.bus_trace.specs.declared.connection.Connection.{Connection}
-use Rattle.bus_trace.specs.Terms.{is_fault, arbitration_after}
-use Rattle.bus_trace.specs.Phases.{changes_phase}
-use Rattle.scenario.specs.Value.{ScenarioValue}
-use Rattle.disk_array.specs.Processes.{Process, same_id}
-use Rattle.disk_array.specs.Units.{RunningProcess, UnitState, Array}
-use Rattle.disk_array.specs.ArrayHistory as Play
-use Rattle.bus_story.specs.BusState.{RowReading, row_reading}
-use Rattle.bus_story.specs.Items.{Item, process, abort}
-use Rattle.bus_story.specs.Story.{empty_story}
-use Rattle.bus_story.specs.HistoryEvents.{row_events_by}
-use Rattle.bus_story.specs.TraceHistory.{story_with, aim_of}
-use Rattle.bus_story.specs.Samples.{faults_in_order}
-use Rattle.bus_trace.specs.Trace.{no_times, times_after, free_time}
+use Rattle.bus_rules.specs.bus_base.specs.declared.Event.{Event}
+use Rattle.bus_rules.specs.bus_trace.specs.declared.Row.{Row}
+use Rattle.bus_rules.specs.bus_trace.specs.declared.connection.Connection.{Connection}
+use Rattle.bus_rules.specs.bus_trace.specs.Terms.{is_fault, arbitration_after}
+use Rattle.bus_rules.specs.bus_trace.specs.Phases.{changes_phase}
+use Rattle.bus_dialogue.specs.scenario.specs.Value.{ScenarioValue}
+use Rattle.bus_dialogue.specs.disk_array.specs.Processes.{Process, same_id}
+use Rattle.bus_dialogue.specs.disk_array.specs.Units.{RunningProcess, UnitState, Array}
+use Rattle.bus_dialogue.specs.disk_array.specs.ArrayHistory as Play
+use Rattle.bus_dialogue.specs.bus_story.specs.BusState.{RowReading, row_reading}
+use Rattle.bus_dialogue.specs.bus_story.specs.Items.{Item, process, abort}
+use Rattle.bus_dialogue.specs.bus_story.specs.Story.{empty_story}
+use Rattle.bus_dialogue.specs.bus_story.specs.HistoryEvents.{row_events_by}
+use Rattle.bus_dialogue.specs.bus_story.specs.TraceHistory.{story_with, aim_of}
+use Rattle.bus_dialogue.specs.bus_story.specs.Samples.{faults_in_order}
+use Rattle.bus_rules.specs.bus_trace.specs.Trace.{no_times, times_after, free_time}
 use Rattle.bus_due.specs.Own.{idle_device, owns_after}
-use Rattle.bus_lines.specs.Handshakes.{no_handshakes, handshakes_after}
+use Rattle.bus_dialogue.specs.bus_lines.specs.Handshakes.{no_handshakes, handshakes_after}
 use Rattle.bus_dialogue.specs.declared.exchange.Hearing.{Hearing}
 use Rattle.bus_dialogue.specs.declared.exchange.Messages.{Messages}
 use Rattle.bus_dialogue.specs.declared.exchange.Leaving.{Leaving}
 use Rattle.bus_dialogue.specs.Exchange.{Exchange, no_messages, no_exchange, no_speech, speech_of}
 use Rattle.bus_dialogue.specs.Speaking.{speech_after}
 use Rattle.bus_dialogue.specs.Planning.{plan_after, first_plan}
-use Rattle.scenario.specs.declared.value.HostDef.{HostDef}
+use Rattle.bus_dialogue.specs.scenario.specs.declared.value.HostDef.{HostDef}
 use Rattle.bus_due.specs.LastingState.{Negotiated, none_negotiated, has_negotiated, with_negotiated, negotiated_after, ProcessProgress, progress_with}
 use Rattle.bus_due.specs.RunState.{RunState, or_start, process_served}
 use Rattle.bus_dialogue.specs.Wants.{Ready}

@@ -1,21 +1,21 @@
 -- What each device knows after some rows, and what it wants or has to do: by what is kept of them.
 use Rattle.std.specs.Prelude.{ℕ, ◌+◌, not, List, [], ◌∷◌, Option, Some, None, nat_le, if◌then◌else◌}
-use Rattle.bus_trace.specs.declared.Row.{Row}
-use Rattle.bus_trace.specs.Terms.{is_fault}
-use Rattle.scenario.specs.declared.value.FaultDef.{FaultDef}
-use Rattle.scenario.specs.Value.{ScenarioValue}
-use Rattle.disk_array.specs.Processes.{Process}
-use Rattle.disk_array.specs.Seats.{is_initiator}
-use Rattle.bus_story.specs.BusState.{RowReading}
-use Rattle.bus_story.specs.TraceHistory.{aim_of}
-use Rattle.bus_lines.specs.declared.stage.Stage.{Stage}
-use Rattle.bus_reactions.specs.declared.sight.Sight.{Sight}
-use Rattle.bus_reactions.specs.declared.due.Want.{Want}
-use Rattle.bus_reactions.specs.declared.ends.Pace.{Pace}
-use Rattle.bus_reactions.specs.declared.ends.Offering.{Offering}
-use Rattle.bus_reactions.specs.declared.ends.Answering.{Answering}
-use Rattle.bus_trace.specs.Trace.{free_time}
-use Rattle.bus_lines.specs.Stage.{stage_by}
+use Rattle.bus_rules.specs.bus_trace.specs.declared.Row.{Row}
+use Rattle.bus_rules.specs.bus_trace.specs.Terms.{is_fault}
+use Rattle.bus_dialogue.specs.scenario.specs.declared.value.FaultDef.{FaultDef}
+use Rattle.bus_dialogue.specs.scenario.specs.Value.{ScenarioValue}
+use Rattle.bus_dialogue.specs.disk_array.specs.Processes.{Process}
+use Rattle.bus_dialogue.specs.disk_array.specs.Seats.{is_initiator}
+use Rattle.bus_dialogue.specs.bus_story.specs.BusState.{RowReading}
+use Rattle.bus_dialogue.specs.bus_story.specs.TraceHistory.{aim_of}
+use Rattle.bus_dialogue.specs.bus_lines.specs.declared.stage.Stage.{Stage}
+use Rattle.bus_dialogue.specs.bus_reactions.specs.declared.sight.Sight.{Sight}
+use Rattle.bus_dialogue.specs.bus_reactions.specs.declared.due.Want.{Want}
+use Rattle.bus_dialogue.specs.bus_reactions.specs.declared.ends.Pace.{Pace}
+use Rattle.bus_dialogue.specs.bus_reactions.specs.declared.ends.Offering.{Offering}
+use Rattle.bus_dialogue.specs.bus_reactions.specs.declared.ends.Answering.{Answering}
+use Rattle.bus_rules.specs.bus_trace.specs.Trace.{free_time}
+use Rattle.bus_dialogue.specs.bus_lines.specs.Stage.{stage_by}
 use Rattle.bus_dialogue.specs.declared.exchange.Phase.{Phase}
 use Rattle.bus_dialogue.specs.declared.exchange.Phase.TheVariants as phases
 use Rattle.bus_dialogue.specs.declared.exchange.Arrival.{Arrival}

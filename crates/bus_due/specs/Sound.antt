@@ -1,17 +1,17 @@
 -- What holds on the bus after the rows of a prompt trace: which device drives what, by the stage of the bus; and nothing
 -- that is due lies in the past.
 use Rattle.std.specs.Prelude.{ℕ, Bool, true, not, ◌&&◌, ◌||◌, ◌==◌, List, [], ◌∷◌, ◌+◌, ◌^◌, Option, Some, None, is_some, is_none, nat_le, if◌then◌else◌}
-use Rattle.bus_trace.specs.LineSet.{LineSet, none, same_set}
-use Rattle.bus_trace.specs.declared.Row.{Row}
-use Rattle.bus_trace.specs.declared.selection.Call.{Call}
-use Rattle.bus_trace.specs.declared.selection.Calling.{Calling}
-use Rattle.bus_trace.specs.declared.connection.Connection.{Connection}
+use Rattle.bus_rules.specs.bus_trace.specs.LineSet.{LineSet, none, same_set}
+use Rattle.bus_rules.specs.bus_trace.specs.declared.Row.{Row}
+use Rattle.bus_rules.specs.bus_trace.specs.declared.selection.Call.{Call}
+use Rattle.bus_rules.specs.bus_trace.specs.declared.selection.Calling.{Calling}
+use Rattle.bus_rules.specs.bus_trace.specs.declared.connection.Connection.{Connection}
 use Rattle.bus_rules.specs.Connected.{has_no_target_line, has_no_initiator_line}
-use Rattle.scenario.specs.Value.{ScenarioValue}
-use Rattle.bus_reactions.specs.declared.due.Due.{Due}
-use Rattle.bus_lines.specs.declared.stage.Stage.{Stage}
-use Rattle.bus_lines.specs.declared.stage.Stage.TheVariants.{OnFreeBus, InArbitration, InCalling, InAnswer, InConnection, InReset}
-use Rattle.bus_reactions.specs.FreeBus.{contender_lines}
+use Rattle.bus_dialogue.specs.scenario.specs.Value.{ScenarioValue}
+use Rattle.bus_dialogue.specs.bus_reactions.specs.declared.due.Due.{Due}
+use Rattle.bus_dialogue.specs.bus_lines.specs.declared.stage.Stage.{Stage}
+use Rattle.bus_dialogue.specs.bus_lines.specs.declared.stage.Stage.TheVariants.{OnFreeBus, InArbitration, InCalling, InAnswer, InConnection, InReset}
+use Rattle.bus_dialogue.specs.bus_reactions.specs.FreeBus.{contender_lines}
 use Rattle.bus_due.specs.RunState.{RunState, drives_of}
 use Rattle.bus_due.specs.Sights.{stage_of}
 use Rattle.bus_due.specs.Due.{due_by}

@@ -1,19 +1,19 @@
 -- What the target of a connection knows of the process that it serves, and of the queue of its unit.
 use Rattle.std.specs.Prelude.{ℕ, Bool, not, ◌&&◌, ◌==◌, List, [], length, Option, Some, None, is_some, nat_lt, if◌then◌else◌}
 use Rattle.std.specs.List.{list_any}
-use Rattle.cdb_codec.specs.Cdb.{has_group_len, command_of}
-use Rattle.cdb_codec.specs.declared.status.TheConstants.{GOOD}
-use Rattle.scenario.specs.Needs.{is_write}
-use Rattle.disk_array.specs.Order.{range_in}
+use Rattle.bus_rules.specs.cdb_codec.specs.Cdb.{has_group_len, command_of}
+use Rattle.bus_rules.specs.cdb_codec.specs.declared.status.TheConstants.{GOOD}
+use Rattle.bus_dialogue.specs.scenario.specs.Needs.{is_write}
+use Rattle.bus_dialogue.specs.disk_array.specs.Order.{range_in}
 use Rattle.bus_dialogue.specs.declared.exchange.Task.{Task}
-use Rattle.scenario.specs.declared.value.Policy.{Policy}
-use Rattle.scenario.specs.Value.{ScenarioValue}
-use Rattle.disk_array.specs.Processes.{Process}
-use Rattle.disk_array.specs.Execution.{Reply, execution, is_request_sense}
-use Rattle.disk_array.specs.Units.{UnitState, Array, Nexus, same_nexus, nexus_of, unit_state_at, has_no_current, is_held}
-use Rattle.disk_array.specs.Steps.{context_at, process_count}
-use Rattle.disk_array.specs.ArrayHistory as Play
-use Rattle.bus_story.specs.CarriedBytes.{CarriedBytes}
+use Rattle.bus_dialogue.specs.scenario.specs.declared.value.Policy.{Policy}
+use Rattle.bus_dialogue.specs.scenario.specs.Value.{ScenarioValue}
+use Rattle.bus_dialogue.specs.disk_array.specs.Processes.{Process}
+use Rattle.bus_dialogue.specs.disk_array.specs.Execution.{Reply, execution, is_request_sense}
+use Rattle.bus_dialogue.specs.disk_array.specs.Units.{UnitState, Array, Nexus, same_nexus, nexus_of, unit_state_at, has_no_current, is_held}
+use Rattle.bus_dialogue.specs.disk_array.specs.Steps.{context_at, process_count}
+use Rattle.bus_dialogue.specs.disk_array.specs.ArrayHistory as Play
+use Rattle.bus_dialogue.specs.bus_story.specs.CarriedBytes.{CarriedBytes}
 use Rattle.bus_dialogue.specs.declared.exchange.Arrival.{Arrival}
 use Rattle.bus_dialogue.specs.declared.exchange.Arrival.TheVariants as arrivals
 use Rattle.bus_dialogue.specs.declared.exchange.Room.{Room}

@@ -1,19 +1,19 @@
 -- A row that begins, carries and tells nothing; and what the wishes of the devices are computed from, which it keeps.
 use Rattle.std.specs.Prelude.{◌≡◌, ℕ, Bool, List, [], false, Option}
-use Rattle.bus_trace.specs.declared.Row.{Row}
-use Rattle.bus_trace.specs.Changes.{falls}
-use Rattle.bus_trace.specs.Terms.{is_fault}
-use Rattle.bus_trace.specs.Phases.{changes_phase}
-use Rattle.scenario.specs.declared.value.FaultDef.{FaultDef}
-use Rattle.scenario.specs.Value.{ScenarioValue}
-use Rattle.disk_array.specs.Units.{Array}
-use Rattle.bus_story.specs.PairAgreements.{PairAgreement}
-use Rattle.bus_story.specs.BusState.{RowReading, row_reading}
-use Rattle.bus_story.specs.Items.{Item, Sent}
-use Rattle.bus_story.specs.Links.{Link}
-use Rattle.bus_story.specs.CarriedBytes.{CarriedBytes}
-use Rattle.bus_story.specs.HistoryEvents.{row_events_by}
-use Rattle.bus_story.specs.TraceHistory.{is_arbitration_entry}
+use Rattle.bus_rules.specs.bus_trace.specs.declared.Row.{Row}
+use Rattle.bus_rules.specs.bus_trace.specs.Changes.{falls}
+use Rattle.bus_rules.specs.bus_trace.specs.Terms.{is_fault}
+use Rattle.bus_rules.specs.bus_trace.specs.Phases.{changes_phase}
+use Rattle.bus_dialogue.specs.scenario.specs.declared.value.FaultDef.{FaultDef}
+use Rattle.bus_dialogue.specs.scenario.specs.Value.{ScenarioValue}
+use Rattle.bus_dialogue.specs.disk_array.specs.Units.{Array}
+use Rattle.bus_dialogue.specs.bus_story.specs.PairAgreements.{PairAgreement}
+use Rattle.bus_dialogue.specs.bus_story.specs.BusState.{RowReading, row_reading}
+use Rattle.bus_dialogue.specs.bus_story.specs.Items.{Item, Sent}
+use Rattle.bus_dialogue.specs.bus_story.specs.Links.{Link}
+use Rattle.bus_dialogue.specs.bus_story.specs.CarriedBytes.{CarriedBytes}
+use Rattle.bus_dialogue.specs.bus_story.specs.HistoryEvents.{row_events_by}
+use Rattle.bus_dialogue.specs.bus_story.specs.TraceHistory.{is_arbitration_entry}
 use Rattle.bus_dialogue.specs.Exchange.{Exchange}
 use Rattle.bus_due.specs.LastingState.{Negotiated, ProcessProgress}
 use Rattle.bus_due.specs.RunState.{RunState}

@@ -1,16 +1,16 @@
 // Laws of what is due, each named by the contract of a function that does nothing.
 
 ghost use Rattle.std.specs.Prelude.{ℕ, ◌≡◌, ◌≢◌, ◌<◌, ◌==◌, ◌&&◌, true, false, is_some, List, ◌∷◌, length, Some, None};
-ghost use Rattle.bus_trace.specs.declared.Row.{Row};
-ghost use Rattle.bus_trace.specs.declared.Kind.TheVariants.{Drives};
-ghost use Rattle.bus_trace.specs.LineSet.{LineSet};
-ghost use Rattle.bus_reactions.specs.declared.due.Myself.{Myself};
-ghost use Rattle.bus_trace.specs.Trace.{bus};
-ghost use Rattle.bus_trace.specs.declared.connection.Connection.{Connection};
-ghost use Rattle.bus_trace.specs.Terms.{connection};
+ghost use Rattle.bus_rules.specs.bus_trace.specs.declared.Row.{Row};
+ghost use Rattle.bus_rules.specs.bus_trace.specs.declared.Kind.TheVariants.{Drives};
+ghost use Rattle.bus_rules.specs.bus_trace.specs.LineSet.{LineSet};
+ghost use Rattle.bus_dialogue.specs.bus_reactions.specs.declared.due.Myself.{Myself};
+ghost use Rattle.bus_rules.specs.bus_trace.specs.Trace.{bus};
+ghost use Rattle.bus_rules.specs.bus_trace.specs.declared.connection.Connection.{Connection};
+ghost use Rattle.bus_rules.specs.bus_trace.specs.Terms.{connection};
 ghost use Rattle.bus_due.specs.Sights.{hearing_of, leaving_at, byte_of_phase};
 ghost use Rattle.bus_due.specs.Due.{self_of};
-ghost use Rattle.scenario.specs.Value.{ScenarioValue};
+ghost use Rattle.bus_dialogue.specs.scenario.specs.Value.{ScenarioValue};
 ghost use Rattle.bus_due.specs.Least.{IsLeast};
 ghost use Rattle.bus_due.specs.RunSteps.{run_state};
 ghost use Rattle.bus_due.specs.Next.{due, next, IsPrompt, IsEnded};
@@ -19,13 +19,13 @@ ghost use Rattle.bus_dialogue.specs.Wants.{is_reached, item_by};
 ghost use Rattle.bus_due.specs.Wants.{book_of, item_want_time, want_time, callee};
 ghost use Rattle.bus_due.specs.Plain.{AreOfDevices, IsPlain};
 ghost use Rattle.bus_due.specs.PlainDue.{IsThere, IsLinked, under_reset, link_reaction, target_reaction, initiator_reaction};
-ghost use Rattle.bus_story.specs.Items.{Sent, item_at};
+ghost use Rattle.bus_dialogue.specs.bus_story.specs.Items.{Sent, item_at};
 ghost use Rattle.bus_dialogue.specs.declared.exchange.Phase.{Phase};
 ghost use Rattle.bus_dialogue.specs.declared.exchange.Messages.{Messages};
 ghost use Rattle.bus_due.specs.RunState.{bus_of};
-ghost use Rattle.bus_story.specs.TraceHistory.{aim_of};
+ghost use Rattle.bus_dialogue.specs.bus_story.specs.TraceHistory.{aim_of};
 ghost use Rattle.bus_due.specs.Run.{run_by_due};
-ghost use Rattle.bus_story.specs.BusState.{row_reading};
+ghost use Rattle.bus_dialogue.specs.bus_story.specs.BusState.{row_reading};
 ghost use Rattle.bus_dialogue.specs.Hearing.{begun, hearing};
 
 /// The next row is the first that any of the eight devices is due to make, and of several at one time that of the

@@ -19,3 +19,7 @@ pub use laws::{
     link_reactions_are_due, next_is_least, runs_are_prompt, still_rows_keep_wishes,
     traces_are_determined, wants_are_items,
 };
+
+// Handed on to the crates above that list this one and not these.
+pub use bus_dialogue as the_bus_dialogue;
+pub use bus_rules as the_bus_rules;

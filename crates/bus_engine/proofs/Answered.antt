@@ -13,24 +13,24 @@ use Rattle.scenario.specs.Writing.{Obeys}
 use Rattle.disk_array.specs.ArrayHistory.{array_after}
 use Rattle.disk_array.specs.Processes.{command_at, process_by, process_if}
 use Rattle.disk_array.specs.Units.{Array}
-use Rattle.bus_story.specs.Outcomes.{Outcome, ending_of, has_end, outcome_if, outcome_of, outcomes, outcomes_from}
-use Rattle.bus_story.specs.Story.{Ending, Story, by_abort, by_loss, by_reset, by_status, unanswered}
-use Rattle.bus_story.specs.Right.{all_carried}
-use Rattle.bus_story.specs.TraceHistory.{story, trace_history}
-use Rattle.bus_story.specs.Items.{sense_id, command_id}
+use Rattle.bus_due.specs.bus_story.specs.Outcomes.{Outcome, ending_of, has_end, outcome_if, outcome_of, outcomes, outcomes_from}
+use Rattle.bus_due.specs.bus_story.specs.Story.{Ending, Story, by_abort, by_loss, by_reset, by_status, unanswered}
+use Rattle.bus_due.specs.bus_story.specs.Right.{all_carried}
+use Rattle.bus_due.specs.bus_story.specs.TraceHistory.{story, trace_history}
+use Rattle.bus_due.specs.bus_story.specs.Items.{sense_id, command_id}
 use Rattle.bus_due.specs.Next.{IsEnded, IsPrompt}
 use Rattle.bus_due.specs.Plain.{IsPlain}
 use Rattle.bus_due.specs.RunState.{RunState, array_of, or_start}
 use Rattle.bus_due.specs.RunSteps.{run_state}
 use Rattle.bus_due.proofs.Plains.{run_state_plain}
-use Rattle.progress_laws.proofs.AnsweredEnds.{answered_when_ended}
-use Rattle.progress_laws.proofs.DebtTraces.{Indebted, indebted}
-use Rattle.progress_laws.proofs.Ended.{Joined, free_when_ended, unwanted_when_ended}
-use Rattle.progress_laws.proofs.QueuedTraces.{all_queued}
-use Rattle.right_laws.proofs.Right.{all_joined}
+use Rattle.delivery_laws.specs.progress_laws.proofs.AnsweredEnds.{answered_when_ended}
+use Rattle.delivery_laws.specs.progress_laws.proofs.DebtTraces.{Indebted, indebted}
+use Rattle.delivery_laws.specs.progress_laws.proofs.Ended.{Joined, free_when_ended, unwanted_when_ended}
+use Rattle.delivery_laws.specs.progress_laws.proofs.QueuedTraces.{all_queued}
+use Rattle.delivery_laws.specs.right_laws.proofs.Right.{all_joined}
 use Rattle.initiator.specs.Causes.{has_status}
 use Rattle.initiator.specs.Received.{undoes_no_byte}
-use Rattle.bus_members.specs.Answers.{are_answered, are_answered_from, are_replied_from, is_answered, is_replied, is_settled, sense_is_over}
+use Rattle.bus_engine.specs.Answers.{are_answered, are_answered_from, are_replied_from, is_answered, is_replied, is_settled, sense_is_over}
 use Rattle.delivery_laws.proofs.Checks.{checks_stand}
 use Rattle.delivery_laws.proofs.EndStatuses.{all_ended, end_found, end_reply}
 use Rattle.bus_engine.proofs.ListedReplies.{all_given, is_known}

@@ -14,3 +14,10 @@ pub mod Replied
 pub mod Answered
 pub mod ReplyLengths
 pub mod RanTargets
+pub mod Held
+pub mod Added
+mod HeldAnswers
+mod Overs
+mod Servable
+mod Labels
+mod Turned

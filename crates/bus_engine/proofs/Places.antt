@@ -6,9 +6,9 @@ use Rattle.std.proofs.lemmas.Grind.{common_steps, elements}
 use Rattle.bus_trace.specs.declared.Row.{Row}
 use Rattle.scenario.specs.Value.{ScenarioValue}
 use Rattle.bus_run.proofs.OnePlace.{other_at, own_at}
-use Rattle.bus_members.specs.declared.member.Member.{Member}
-use Rattle.bus_members.specs.declared.member.Member.TheVariants.{Initiator, Target}
-use Rattle.bus_members.specs.Over.{IsMemberOver, IsPlaceOver, AreOver}
+use Rattle.bus_engine.specs.declared.member.Member.{Member}
+use Rattle.bus_engine.specs.declared.member.Member.TheVariants.{Initiator, Target}
+use Rattle.bus_engine.specs.Over.{IsMemberOver, IsPlaceOver, AreOver}
 
 pub member_in : (s : ScenarioValue) (rows : List Row) (dev first : ℕ) (place : Option Member) (member : Member) → place ≡ Some member → IsPlaceOver s rows dev first place → IsMemberOver s rows dev first member
 member_in s rows dev first place member e h = subst (λ (p : Option Member). IsPlaceOver s rows dev first p) e h

@@ -14,23 +14,23 @@ use Rattle.scenario.specs.Lookups.{has_target}
 use Rattle.scenario.specs.Value.{ScenarioValue}
 use Rattle.scenario.specs.Writing.{Obeys}
 use Rattle.disk_array.specs.Processes.{Process, process_of}
-use Rattle.bus_story.specs.BusState.{row_reading}
-use Rattle.bus_story.specs.HistoryEvents.{row_events_by}
-use Rattle.bus_story.specs.Right.{has_run}
+use Rattle.bus_due.specs.bus_story.specs.BusState.{row_reading}
+use Rattle.bus_due.specs.bus_story.specs.HistoryEvents.{row_events_by}
+use Rattle.bus_due.specs.bus_story.specs.Right.{has_run}
 use Rattle.bus_due.specs.Faithful.{faithful, has_ends}
 use Rattle.bus_due.specs.Next.{IsPrompt}
 use Rattle.bus_due.specs.Plain.{IsPlain}
 use Rattle.bus_due.specs.RunState.{RunState, process_item, process_served}
 use Rattle.bus_due.specs.RunSteps.{run_state}
 use Rattle.bus_due.proofs.Plains.{run_state_plain}
-use Rattle.scsi_device.proofs.FitLines.{obeys_fits, units_are}
-use Rattle.target_course.proofs.ServedEnds.{ends_are}
-use Rattle.bus_books.proofs.Traces.{trace_faithful}
+use Rattle.trace_laws.specs.scsi_device.proofs.FitLines.{obeys_fits, units_are}
+use Rattle.disk_target.specs.target_course.proofs.ServedEnds.{ends_are}
+use Rattle.trace_laws.specs.bus_books.proofs.Traces.{trace_faithful}
 use Rattle.trace_laws.proofs.Whole.{Whole, whole}
-use Rattle.right_laws.proofs.RowCrossings.{GoesSo, here_goes, known_served}
-use Rattle.right_laws.proofs.SentBytes.{answer_of}
-use Rattle.right_laws.proofs.ShownRows.{IsAnswer}
-use Rattle.right_laws.proofs.RanFacts.{run_either}
+use Rattle.delivery_laws.specs.right_laws.proofs.RowCrossings.{GoesSo, here_goes, known_served}
+use Rattle.delivery_laws.specs.right_laws.proofs.SentBytes.{answer_of}
+use Rattle.delivery_laws.specs.right_laws.proofs.ShownRows.{IsAnswer}
+use Rattle.delivery_laws.specs.right_laws.proofs.RanFacts.{run_either}
 
 -- A line that is found is there.
 found_there : (targets : List TargetDef) (dev : ℕ) → is_some (find (λ (t : TargetDef). t.dev == dev) targets) ≡ true → list_any (λ (t : TargetDef). t.dev == dev) targets ≡ true

@@ -17,18 +17,18 @@ use Rattle.scenario.specs.Value.{ScenarioValue}
 use Rattle.disk_array.specs.ArrayHistory.{array_after, reply_in, reply_of}
 use Rattle.disk_array.specs.Execution.{Reply}
 use Rattle.disk_array.specs.Processes.{Process, command_at, process_by, process_if, process_of, same_id}
-use Rattle.bus_story.specs.CarriedBytes.{CarriedBytes, carried_of}
-use Rattle.bus_story.specs.Outcomes.{ending_of, has_end, is_end_of, reply_bytes_if}
-use Rattle.bus_story.specs.Right.{all_carried, carried_by, has_run, is_carried, moved_bytes, same_bytes}
-use Rattle.bus_story.specs.Story.{Ending, Story, by_abort, by_loss, by_reset, by_status, unanswered}
-use Rattle.bus_story.specs.Items.{sense_id, command_id}
+use Rattle.bus_due.specs.bus_story.specs.CarriedBytes.{CarriedBytes, carried_of}
+use Rattle.bus_due.specs.bus_story.specs.Outcomes.{ending_of, has_end, is_end_of, reply_bytes_if}
+use Rattle.bus_due.specs.bus_story.specs.Right.{all_carried, carried_by, has_run, is_carried, moved_bytes, same_bytes}
+use Rattle.bus_due.specs.bus_story.specs.Story.{Ending, Story, by_abort, by_loss, by_reset, by_status, unanswered}
+use Rattle.bus_due.specs.bus_story.specs.Items.{sense_id, command_id}
 use Rattle.bus_due.specs.RunState.{RunState, array_of}
-use Rattle.bus_books.proofs.Lookups.{id_is}
-use Rattle.bus_story.proofs.SameBytes.{bytes_are}
-use Rattle.right_laws.proofs.Carried.{same_is}
+use Rattle.trace_laws.specs.bus_books.proofs.Lookups.{id_is}
+use Rattle.bus_due.specs.bus_story.proofs.SameBytes.{bytes_are}
+use Rattle.delivery_laws.specs.right_laws.proofs.Carried.{same_is}
 use Rattle.initiator.specs.Causes.{has_status, is_status_of}
 use Rattle.initiator.specs.Received.{room_of}
-use Rattle.bus_members.specs.Answers.{are_replied_from, is_good, is_replied, is_reply}
+use Rattle.bus_engine.specs.Answers.{are_replied_from, is_good, is_replied, is_reply}
 use Rattle.delivery_laws.proofs.EndStatuses.{HasReply}
 use Rattle.bus_engine.proofs.ListedReplies.{AreGiven}
 use Rattle.trace_laws.proofs.Tests.{plus_one}

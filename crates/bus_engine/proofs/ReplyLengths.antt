@@ -26,10 +26,10 @@ use Rattle.disk_array.specs.Seats.{contents_of}
 use Rattle.disk_array.specs.Steps.{context_at}
 use Rattle.disk_array.specs.Units.{Array, UnitState, nexus_of, sense_of_nexus, unit_state_at}
 use Rattle.disk_unit.proofs.Parts.{length_bytes}
-use Rattle.target_units.specs.Absent.{absent_reply_by, data_or_refusal, inquiry_room, sense_room}
-use Rattle.target_units.specs.Rooms.{AreOfLines, IsOfLine}
-use Rattle.target_units.proofs.AbsentReplies.{replies}
-use Rattle.right_laws.proofs.WholeBlocks.{AreWhole, HasWhole}
+use Rattle.trace_laws.specs.target_units.specs.Absent.{absent_reply_by, data_or_refusal, inquiry_room, sense_room}
+use Rattle.trace_laws.specs.target_units.specs.Rooms.{AreOfLines, IsOfLine}
+use Rattle.trace_laws.specs.target_units.proofs.AbsentReplies.{replies}
+use Rattle.delivery_laws.specs.right_laws.proofs.WholeBlocks.{AreWhole, HasWhole}
 use Rattle.initiator.specs.Received.{data_room}
 
 -- What a command may give at the line of its unit.

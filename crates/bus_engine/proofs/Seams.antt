@@ -9,8 +9,8 @@ use Rattle.bus_due.specs.Allowed.{allowed}
 use Rattle.bus_due.specs.Faithful.{faithful}
 use Rattle.bus_due.specs.Next.{IsPrompt}
 use Rattle.bus_due.specs.Telling.{telling}
-use Rattle.scsi_device.specs.Heard.{heard}
-use Rattle.scsi_device.specs.Writes.{written}
+use Rattle.trace_laws.specs.scsi_device.specs.Heard.{heard}
+use Rattle.trace_laws.specs.scsi_device.specs.Writes.{written}
 use Rattle.bus_run.specs.Seams.{SeamsHold, is_own_pair, paired, seams}
 use Rattle.trace_laws.specs.Ends.{AreEnds, HasEnds}
 use Rattle.trace_laws.specs.RowAttendance.{IsAttended}

@@ -4,20 +4,20 @@ use Rattle.std.proofs.Common.{◌≡◌, Bool, true, false, List, [], ◌∷◌,
 use Rattle.std.specs.Prelude.{if◌then◌else◌}
 use Rattle.std.proofs.lemmas.Bool.{and_from}
 use Rattle.bus_trace.specs.declared.Row.{Row}
-use Rattle.msg_grammar.specs.declared.message.MsgOut.{MsgOut}
+use Rattle.bus_due.specs.msg_grammar.specs.declared.message.MsgOut.{MsgOut}
 use Rattle.scenario.specs.Value.{ScenarioValue}
 use Rattle.scenario.specs.Writing.{Obeys}
-use Rattle.bus_story.specs.BusState.{row_reading}
-use Rattle.bus_story.specs.CarriedBytes.{CarriedBytes}
-use Rattle.bus_story.specs.Links.{Link}
-use Rattle.bus_story.specs.TraceHistory.{is_parity_error}
+use Rattle.bus_due.specs.bus_story.specs.BusState.{row_reading}
+use Rattle.bus_due.specs.bus_story.specs.CarriedBytes.{CarriedBytes}
+use Rattle.bus_due.specs.bus_story.specs.Links.{Link}
+use Rattle.bus_due.specs.bus_story.specs.TraceHistory.{is_parity_error}
 use Rattle.bus_due.specs.Next.{IsPrompt}
 use Rattle.bus_due.specs.RunState.{RunState}
 use Rattle.bus_due.specs.RunSteps.{run_state}
 use Rattle.trace_laws.proofs.Whole.{Whole, standing_next, whole}
-use Rattle.right_laws.specs.Loads.{Load, UndoesLoads}
-use Rattle.right_laws.proofs.Carried.{same_is}
-use Rattle.right_laws.proofs.UndoneLoads.{load_asks}
+use Rattle.delivery_laws.specs.right_laws.specs.Loads.{Load, UndoesLoads}
+use Rattle.delivery_laws.specs.right_laws.proofs.Carried.{same_is}
+use Rattle.delivery_laws.specs.right_laws.proofs.UndoneLoads.{load_asks}
 use Rattle.delivery_laws.proofs.EndStatuses.{undo_loads}
 use Rattle.initiator.specs.Received.{has_bytes_of, undone_by, undoes_no_byte}
 

@@ -6,8 +6,8 @@ use Rattle.scenario.specs.declared.value.UnitDef.{UnitDef}
 use Rattle.scenario.specs.Value.{ScenarioValue}
 use Rattle.disk_array.specs.Contents.{Contents}
 use Rattle.bus_due.specs.Defs.{target_def_of}
-use Rattle.target_units.specs.Units.{UnitsState, unit_in, contents_in}
-use Rattle.bus_members.specs.Over.{AreUnitsIf}
+use Rattle.trace_laws.specs.target_units.specs.Units.{UnitsState, unit_in, contents_in}
+use Rattle.bus_engine.specs.Over.{AreUnitsIf}
 
 -- The target of each unit is a target of the scenario, as the rules of its text have it.
 abbrev pub have_targets : ScenarioValue → Bool

@@ -1,3 +1,6 @@
 pub mod Limits
 pub mod Disks
 pub mod Runs
+pub mod Members
+pub mod Answers
+pub mod Over

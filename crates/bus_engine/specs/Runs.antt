@@ -3,21 +3,21 @@ use Rattle.std.specs.Prelude.{ℕ, ◌≡◌, ◌<◌, ◌+◌, true, List, map,
 use Rattle.bus_trace.specs.declared.Row.{Row}
 use Rattle.bus_trace.specs.LineSet.{none}
 use Rattle.bus_trace.specs.Trace.{bus, last_time}
-use Rattle.bus_rules.specs.Lawful.{IsLawful}
+use Rattle.bus_due.specs.bus_rules.specs.Lawful.{IsLawful}
 use Rattle.scenario.specs.Value.{ScenarioValue}
 use Rattle.disk_array.specs.ArrayHistory.{array_after, disks_of}
-use Rattle.bus_story.specs.Outcomes as told
-use Rattle.bus_story.specs.Outcomes.{outcomes}
-use Rattle.bus_story.specs.Right.{all_carried}
-use Rattle.bus_story.specs.Samples.{expected_strikes, row_strikes}
-use Rattle.bus_story.specs.TraceHistory.{story, trace_history}
+use Rattle.bus_due.specs.bus_story.specs.Outcomes as told
+use Rattle.bus_due.specs.bus_story.specs.Outcomes.{outcomes}
+use Rattle.bus_due.specs.bus_story.specs.Right.{all_carried}
+use Rattle.bus_due.specs.bus_story.specs.Samples.{expected_strikes, row_strikes}
+use Rattle.bus_due.specs.bus_story.specs.TraceHistory.{story, trace_history}
 use Rattle.bus_due.specs.Next.{IsPrompt, IsEnded}
 use Rattle.bus_due.specs.Plain.{AreOfDevices}
-use Rattle.initiator.specs.declared.outcome.Outcome.{Outcome}
+use Rattle.run_record.specs.declared.outcome.Outcome.{Outcome}
 use Rattle.initiator.specs.Outcomes.{told_outcome}
 use Rattle.bus_run.specs.Runs.{AreEarly, IsLong}
 use Rattle.run_record.specs.Value.{RunValue}
-use Rattle.bus_transcript.specs.Events.{TellsHistory}
+use Rattle.transcript_laws.specs.bus_transcript.specs.Events.{TellsHistory}
 use Rattle.delivery_laws.specs.Delivery.{AreCaused, AreStoppedSenses, IsDelivered}
 use Rattle.bus_engine.specs.Limits.{row_limit, step_limit}
 

@@ -9,15 +9,15 @@ ghost use Rattle.scenario.specs.Value.{ScenarioValue};
 ghost use Rattle.scenario.specs.Writing.{Obeys};
 ghost use Rattle.cdb_codec.specs.Cdb.{command_of};
 ghost use Rattle.disk_array.specs.Execution.{range_of};
-ghost use Rattle.bus_story.specs.Budget.{runs_of, runs_at, data_runs, bytes_of_all, longest_need, runs_of_all, bytes_bound, runs_bound};
+ghost use Rattle.bus_due.specs.bus_story.specs.Budget.{runs_of, runs_at, data_runs, bytes_of_all, longest_need, runs_of_all, bytes_bound, runs_bound};
 ghost use Rattle.bus_engine.specs.Limits.{row_limit};
 ghost use Rattle.bus_due.specs.Tasks.{blocks_in};
 
 use bus_base::Dev;
 use cdb_codec::{Command, blocks_moved, from_cdb};
+use disk_target::the_scsi_device::scenarios_fit_the_bus;
+use disk_target::the_target_course::runs_in;
 use scenario::{CmdDef, Policy, Scenario, TargetDef, need, needs_are_bounded, target_line};
-use scsi_device::scenarios_fit_the_bus;
-use target_course::runs_in;
 
 /// No run has more rows.
 const ROW_LIMIT: u128 = 0xffff_ffff;

@@ -8,25 +8,25 @@ ghost use Rattle.scenario.specs.Value.{ScenarioValue};
 ghost use Rattle.disk_array.specs.Contents.{Contents};
 ghost use Rattle.disk_array.specs.Processes.{command_at};
 ghost use Rattle.disk_array.specs.Seats.{is_initiator};
-ghost use Rattle.bus_story.specs.Outcomes.{outcome_of, outcomes};
+ghost use Rattle.bus_due.specs.bus_story.specs.Outcomes.{outcome_of, outcomes};
 ghost use Rattle.bus_due.specs.RunSteps.{run_state};
-ghost use Rattle.scsi_device.specs.Lines.{FitsBus};
-ghost use Rattle.initiator.specs.declared.outcome.Outcome.{Outcome as OutcomeValue};
+ghost use Rattle.trace_laws.specs.scsi_device.specs.Lines.{FitsBus};
+ghost use Rattle.run_record.specs.declared.outcome.Outcome.{Outcome as OutcomeValue};
 ghost use Rattle.initiator.specs.Received.{undoes_no_byte};
 ghost use Rattle.run_record.specs.Value.{held_by};
-ghost use Rattle.bus_members.specs.Answers.{is_answered, are_answered};
-ghost use Rattle.bus_members.specs.Over.{IsPlaceOver, AreOver, AreUnitsIf};
+ghost use Rattle.bus_engine.specs.Answers.{is_answered, are_answered};
+ghost use Rattle.bus_engine.specs.Over.{IsPlaceOver, AreOver, AreUnitsIf};
 ghost use Rattle.bus_engine.specs.Disks.{AreUnitsByTarget, held_if, held_at, AreHeld, AreLinesApart, IsWithin};
 ghost use Rattle.bus_engine.specs.Runs.{told_reply};
 
+use crate::member::Member;
 use bus_base::{NoMemory, Ns};
-use bus_members::Member;
 use bus_trace::Row;
+use disk_target::the_target_units::Units;
 use disk_unit::SparseBlocks;
-use initiator::Outcome;
+use run_record::Outcome;
 use scenario::{CmdDef, UnitDef};
 use std::alloc::Global;
-use target_units::Units;
 
 /// The time of the last row, in ns, or 0.
 pub fn end_of(rows: &[Row]) -> Ns

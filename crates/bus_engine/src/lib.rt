@@ -2,18 +2,27 @@
 //!
 //! [`run`] makes the devices of a scenario, each initiator a [`Host`](initiator::Host) and each target a
 //! [`Target`](disk_target::Target), lets them do what is due ([`bus_run::run`]) until nothing is, and asks them then
-//! how the commands ended and what the disks hold. It stands on `bus_run`, `bus_members` and `run_record`, and on
-//! `bus_story` for the budget: a run may make so many steps, each of which asks one device.
+//! how the commands ended and what the disks hold. It stands on `bus_run`, `initiator`, `disk_target` and `run_record`,
+//! on `bus_story` for the budget (a run may make so many steps, each of which asks one device), and on the laws of
+//! prompt traces.
+//!
+//! `Member` puts the two kinds of device into one list, and meets [`Device`](bus_run::Device); `member_places` makes
+//! those of a scenario, each in the place of its ID. A `Member` is what it holds (`specs/Members.antt`, `IsMember`):
+//! all clauses of `Device` for each of its kinds.
 #![tactic(auto)]
 
 mod budget;
 mod finishing;
+mod member;
+mod places;
 mod running;
 
 pub use budget::most_rows;
 pub use bus_base::{Dev, Event, NoMemory, Ns, Octets, Steps};
 pub use bus_run::RunEnd;
 pub use bus_trace::{Kind, Lines, Row};
+pub use member::{Member, runs_end};
+pub use places::member_places;
 pub use run_record::{Outcome, Run, SparseBlocks};
 pub use running::run;
 pub use scenario::Scenario;

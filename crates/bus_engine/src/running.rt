@@ -7,43 +7,43 @@ ghost use Rattle.scenario.specs.Value.{ScenarioValue};
 ghost use Rattle.scenario.specs.Writing.{Obeys};
 ghost use Rattle.disk_array.specs.ArrayHistory.{array_after, disks_of};
 ghost use Rattle.disk_array.specs.SoundArray.{HasSeats};
-ghost use Rattle.bus_story.specs.Outcomes.{outcomes};
-ghost use Rattle.bus_story.specs.TraceHistory.{trace_history};
+ghost use Rattle.bus_due.specs.bus_story.specs.Outcomes.{outcomes};
+ghost use Rattle.bus_due.specs.bus_story.specs.TraceHistory.{trace_history};
 ghost use Rattle.bus_due.specs.Allowed.{allowed};
 ghost use Rattle.bus_due.specs.Plain.{IsPlain};
 ghost use Rattle.bus_due.specs.RunSteps.{run_state};
-ghost use Rattle.scsi_device.specs.Lines.{FitsBus};
+ghost use Rattle.trace_laws.specs.scsi_device.specs.Lines.{FitsBus};
 ghost use Rattle.run_record.specs.Value.{held_by};
 ghost use Rattle.bus_run.specs.declared.running.RunEnd.TheVariants.{Unfinished};
 ghost use Rattle.bus_run.specs.Places.{AreIn};
-ghost use Rattle.bus_members.specs.Answers.{are_answered};
-ghost use Rattle.bus_members.specs.Members.{IsMember};
-ghost use Rattle.bus_members.specs.Over.{AreOver};
+ghost use Rattle.bus_engine.specs.Answers.{are_answered};
+ghost use Rattle.bus_engine.specs.Members.{IsMember};
+ghost use Rattle.bus_engine.specs.Over.{AreOver};
 ghost use Rattle.bus_engine.specs.Disks.{IsWithin, have_targets};
 ghost use Rattle.bus_engine.specs.Limits.{step_limit};
 ghost use Rattle.bus_engine.specs.Runs.{told_reply, IsRunOf, IsUnfinished};
 
 use crate::budget::most_rows;
 use crate::finishing::{disks, end_of, replies, units_by_target};
+use crate::member::{Member, runs_end};
+use crate::places::member_places;
 use bus_base::{NoMemory, Steps};
 use bus_due::{kept_is_plain, wants_are_items};
-use bus_members::{Member, member_places, runs_end};
 use bus_run::{RunEnd, Trace, rows_tie_devices};
+use delivery_laws::the_progress_laws::ended_traces_are_quiet;
+use delivery_laws::the_right_laws::{fault_rows_are_of_the_scenario, prompt_traces_are_right};
 use delivery_laws::{
     outcomes_have_causes, senseless_checks_were_stopped, valid_commands_are_delivered,
 };
 use disk_array::arrays_are_sound;
+use disk_target::the_scsi_device::scenarios_fit_the_bus;
+use disk_target::the_target_units::units_hold_their_blocks;
 use disk_unit::SparseBlocks;
-use fault_laws::fault_rows_are_of_the_scenario;
 use initiator::endings_have_causes;
-use progress_laws::ended_traces_are_quiet;
-use right_laws::prompt_traces_are_right;
 use run_record::Run;
 use scenario::{Scenario, UnitDef};
-use scsi_device::scenarios_fit_the_bus;
 use std::alloc::Global;
 use std::sync::ledger::Ledger;
-use target_units::units_hold_their_blocks;
 use trace_laws::{
     connections_are_of_the_scenario, ends_know_what_rows_tell, prompt_traces_keep_the_books,
 };

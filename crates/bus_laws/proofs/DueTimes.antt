@@ -2,27 +2,27 @@
 use Rattle.std.proofs.Common.{ℕ, ◌≡◌, ◌<◌, ◌≤◌, ◌+◌, ◌*◌, ◌^◌, Bool, true, false, List, [], ◌∷◌, Option, Some, None, refl, sym, ap, subst, arith, length}
 use Rattle.std.specs.Prelude.{if◌then◌else◌, ◌==◌, nat_lt}
 use Rattle.std.specs.List.{find, AllByRecursion}
-use Rattle.bus_trace.specs.View.{AreTimesBefore}
-use Rattle.bus_trace.specs.declared.Row.{Row}
-use Rattle.bus_trace.specs.declared.line_times.LineTimes.{LineTimes}
-use Rattle.bus_trace.specs.declared.agreements.TransferTimes.{TransferTimes}
-use Rattle.bus_trace.specs.declared.connection.Connection.{Connection}
-use Rattle.bus_trace.specs.Agreements.{fast_times, slow_times, times_or_slow, times_of}
-use Rattle.bus_phases.specs.declared.dialogue.Dialogue.{Dialogue}
-use Rattle.bus_lines.specs.declared.stage.Stage.{Stage}
-use Rattle.bus_lines.specs.Handshakes.{Handshakes}
-use Rattle.bus_lines.specs.Timely.{IsBefore, IsStageBefore, AreHandshakesBefore}
-use Rattle.scenario.specs.declared.value.HostDef.{HostDef}
-use Rattle.scenario.specs.declared.value.TargetDef.{TargetDef}
-use Rattle.scenario.specs.Value.{ScenarioValue}
-use Rattle.scenario.specs.Writing.{Obeys}
-use Rattle.disk_array.specs.Units.{Array, RunningProcess, is_held, unit_state_at}
-use Rattle.disk_array.specs.Seats.{current_of, is_initiator}
-use Rattle.bus_story.specs.Samples.{latency_of}
-use Rattle.bus_reactions.specs.declared.due.Myself.{Myself}
-use Rattle.bus_reactions.specs.Linking.{sample_time}
-use Rattle.bus_dialogue.specs.Wants.{Ready, ready_in, first_ready, is_ready_before}
-use Rattle.bus_dialogue.specs.Ends.{lag_by, seek_by}
+use Rattle.bus_due.specs.bus_trace.specs.View.{AreTimesBefore}
+use Rattle.bus_due.specs.bus_trace.specs.declared.Row.{Row}
+use Rattle.bus_due.specs.bus_trace.specs.declared.line_times.LineTimes.{LineTimes}
+use Rattle.bus_due.specs.bus_trace.specs.declared.agreements.TransferTimes.{TransferTimes}
+use Rattle.bus_due.specs.bus_trace.specs.declared.connection.Connection.{Connection}
+use Rattle.bus_due.specs.bus_trace.specs.Agreements.{fast_times, slow_times, times_or_slow, times_of}
+use Rattle.bus_due.specs.bus_phases.specs.declared.dialogue.Dialogue.{Dialogue}
+use Rattle.bus_due.specs.bus_lines.specs.declared.stage.Stage.{Stage}
+use Rattle.bus_due.specs.bus_lines.specs.Handshakes.{Handshakes}
+use Rattle.bus_due.specs.bus_lines.specs.Timely.{IsBefore, IsStageBefore, AreHandshakesBefore}
+use Rattle.bus_due.specs.scenario.specs.declared.value.HostDef.{HostDef}
+use Rattle.bus_due.specs.scenario.specs.declared.value.TargetDef.{TargetDef}
+use Rattle.bus_due.specs.scenario.specs.Value.{ScenarioValue}
+use Rattle.bus_due.specs.scenario.specs.Writing.{Obeys}
+use Rattle.bus_due.specs.disk_array.specs.Units.{Array, RunningProcess, is_held, unit_state_at}
+use Rattle.bus_due.specs.disk_array.specs.Seats.{current_of, is_initiator}
+use Rattle.bus_due.specs.bus_story.specs.Samples.{latency_of}
+use Rattle.bus_due.specs.bus_reactions.specs.declared.due.Myself.{Myself}
+use Rattle.bus_due.specs.bus_reactions.specs.Linking.{sample_time}
+use Rattle.bus_due.specs.bus_dialogue.specs.Wants.{Ready, ready_in, first_ready, is_ready_before}
+use Rattle.bus_due.specs.bus_dialogue.specs.Ends.{lag_by, seek_by}
 use Rattle.bus_due.specs.Own.{Own, own_at}
 use Rattle.bus_due.specs.RunState.{RunState, bus_of, array_of, agreement_of}
 use Rattle.bus_due.specs.RunSteps.{run_state}
@@ -42,7 +42,7 @@ use Rattle.bus_laws.proofs.RowTimes.{ages_before, handshakes_before, stage_befor
 use Rattle.bus_laws.proofs.Periods.{period_is_byte}
 use Rattle.bus_laws.proofs.Limits.{latency_within}
 use Rattle.bus_laws.proofs.Prompt.{least_is}
-use Rattle.bus_lines.proofs.Times.{ComeBefore, last_before}
+use Rattle.bus_due.specs.bus_lines.proofs.Times.{ComeBefore, last_before}
 
 -- ---- ready units
 

@@ -1,19 +1,19 @@
 -- A row in an arbitration: a later entry, or the rise of SEL.
 use Rattle.std.proofs.Common.{◌⊎◌, inl, inr, ℕ, ◌≡◌, ◌≢◌, ◌<◌, ◌≤◌, ◌+◌, true, false, ◌∙◌, List, ◌∷◌, Some, None, refl, sym, ap, subst, arith}
 use Rattle.std.proofs.lemmas.Bool.{cases_eq}
-use Rattle.bus_trace.specs.LineSet.{LineSet, none, has_id_above}
-use Rattle.bus_trace.specs.declared.Row.{Row}
-use Rattle.bus_trace.specs.declared.Kind.TheVariants.{Drives}
-use Rattle.bus_trace.specs.Trace.{drives, bus, since_line}
-use Rattle.bus_trace.specs.declared.arbitration.Arbitration.{Arbitration}
-use Rattle.bus_trace.specs.Terms.{raised, raised_next}
-use Rattle.scenario.specs.Value.{ScenarioValue}
-use Rattle.bus_story.specs.TraceHistory.{aim_of}
-use Rattle.bus_story.specs.Samples.{latency_of}
-use Rattle.bus_reactions.specs.declared.due.Due.{Due}
-use Rattle.bus_lines.specs.declared.stage.Stage.TheVariants.{InArbitration, InCalling}
-use Rattle.bus_lines.specs.Stage.{stage}
-use Rattle.bus_reactions.specs.FreeBus.{contender_lines, later_entry_if}
+use Rattle.bus_due.specs.bus_trace.specs.LineSet.{LineSet, none, has_id_above}
+use Rattle.bus_due.specs.bus_trace.specs.declared.Row.{Row}
+use Rattle.bus_due.specs.bus_trace.specs.declared.Kind.TheVariants.{Drives}
+use Rattle.bus_due.specs.bus_trace.specs.Trace.{drives, bus, since_line}
+use Rattle.bus_due.specs.bus_trace.specs.declared.arbitration.Arbitration.{Arbitration}
+use Rattle.bus_due.specs.bus_trace.specs.Terms.{raised, raised_next}
+use Rattle.bus_due.specs.scenario.specs.Value.{ScenarioValue}
+use Rattle.bus_due.specs.bus_story.specs.TraceHistory.{aim_of}
+use Rattle.bus_due.specs.bus_story.specs.Samples.{latency_of}
+use Rattle.bus_due.specs.bus_reactions.specs.declared.due.Due.{Due}
+use Rattle.bus_due.specs.bus_lines.specs.declared.stage.Stage.TheVariants.{InArbitration, InCalling}
+use Rattle.bus_due.specs.bus_lines.specs.Stage.{stage}
+use Rattle.bus_due.specs.bus_reactions.specs.FreeBus.{contender_lines, later_entry_if}
 use Rattle.bus_due.specs.Wants.{want_time, callee}
 use Rattle.bus_due.specs.RunSteps.{run_state}
 use Rattle.bus_due.specs.Least.{IsLeast}

@@ -2,25 +2,25 @@
 use Rattle.std.proofs.Common.{inl, inr, ℕ, ◌≡◌, ◌<◌, ◌≤◌, Bool, true, false, ◌∙◌, List, [], ◌∷◌, Option, Some, None, refl, sym, ap, arith}
 use Rattle.std.specs.Prelude.{if◌then◌else◌}
 use Rattle.std.proofs.lemmas.Bool.{cases_eq}
-use Rattle.bus_base.specs.declared.Event.TheVariants as events
-use Rattle.bus_trace.specs.LineSet.{LineSet}
-use Rattle.bus_trace.proofs.Buses.{bus_on}
-use Rattle.bus_trace.specs.declared.Row.{Row}
-use Rattle.bus_trace.specs.declared.Kind.{Kind}
-use Rattle.bus_trace.specs.declared.Kind.TheVariants.{Drives, Fault}
-use Rattle.bus_trace.specs.Trace.{drives, bus}
-use Rattle.bus_trace.specs.declared.connection.Connection.{Connection}
-use Rattle.bus_trace.specs.declared.changes.Change.{Change}
-use Rattle.bus_trace.specs.Changes.{change_of, rises, falls}
-use Rattle.bus_trace.specs.Terms.{when, connection, connection_after}
-use Rattle.scenario.specs.Value.{ScenarioValue}
-use Rattle.bus_story.specs.BusState.{row_reading}
-use Rattle.bus_story.specs.Story.{by_reset, story_after_events}
-use Rattle.bus_story.specs.HistoryEvents.{link_events}
-use Rattle.bus_story.specs.TraceHistory.{story_on_bus}
-use Rattle.bus_story.specs.Samples.{latency_of}
-use Rattle.bus_story.proofs.StorySteps.{free_link, ends_link}
-use Rattle.bus_reactions.specs.declared.due.Due.{Due}
+use Rattle.bus_due.specs.bus_base.specs.declared.Event.TheVariants as events
+use Rattle.bus_due.specs.bus_trace.specs.LineSet.{LineSet}
+use Rattle.bus_due.specs.bus_trace.proofs.Buses.{bus_on}
+use Rattle.bus_due.specs.bus_trace.specs.declared.Row.{Row}
+use Rattle.bus_due.specs.bus_trace.specs.declared.Kind.{Kind}
+use Rattle.bus_due.specs.bus_trace.specs.declared.Kind.TheVariants.{Drives, Fault}
+use Rattle.bus_due.specs.bus_trace.specs.Trace.{drives, bus}
+use Rattle.bus_due.specs.bus_trace.specs.declared.connection.Connection.{Connection}
+use Rattle.bus_due.specs.bus_trace.specs.declared.changes.Change.{Change}
+use Rattle.bus_due.specs.bus_trace.specs.Changes.{change_of, rises, falls}
+use Rattle.bus_due.specs.bus_trace.specs.Terms.{when, connection, connection_after}
+use Rattle.bus_due.specs.scenario.specs.Value.{ScenarioValue}
+use Rattle.bus_due.specs.bus_story.specs.BusState.{row_reading}
+use Rattle.bus_due.specs.bus_story.specs.Story.{by_reset, story_after_events}
+use Rattle.bus_due.specs.bus_story.specs.HistoryEvents.{link_events}
+use Rattle.bus_due.specs.bus_story.specs.TraceHistory.{story_on_bus}
+use Rattle.bus_due.specs.bus_story.specs.Samples.{latency_of}
+use Rattle.bus_due.specs.bus_story.proofs.StorySteps.{free_link, ends_link}
+use Rattle.bus_due.specs.bus_reactions.specs.declared.due.Due.{Due}
 use Rattle.bus_due.specs.Own.{Own, own_of}
 use Rattle.bus_due.specs.RunSteps.{run_state}
 use Rattle.bus_due.specs.Due.{reset_from}
@@ -31,8 +31,8 @@ use Rattle.bus_due.proofs.Plains.{run_state_plain}
 use Rattle.bus_laws.specs.Reactions.{unreset_due, reset_due, reset_due_if}
 use Rattle.bus_laws.proofs.Rows.{drives_own}
 use Rattle.bus_laws.proofs.Apart.{change_plain}
-use Rattle.bus_reactions.specs.Reset.{rst_assertion}
-use Rattle.bus_trace.proofs.OneRow.{drives-other, drives-fault}
+use Rattle.bus_due.specs.bus_reactions.specs.Reset.{rst_assertion}
+use Rattle.bus_due.specs.bus_trace.proofs.OneRow.{drives-other, drives-fault}
 use Rattle.bus_laws.proofs.Resets.{comes_by_first, due_calm, own_reset_is, reset_after, own_other, released_own, own_fault}
 use Rattle.bus_laws.specs.Rows.{row_of_lines, row_of_fault}
 

@@ -2,21 +2,21 @@
 use Rattle.std.proofs.Common.{◌⊎◌, inl, inr, ℕ, ◌≡◌, ◌≢◌, ◌<◌, ◌≤◌, ◌+◌, Bool, true, false, not, ◌||◌, ◌&&◌, ◌==◌, ◌∙◌, List, ◌∷◌, Some, None, refl, sym, ap, subst, arith}
 use Rattle.std.specs.Prelude.{if◌then◌else◌}
 use Rattle.std.proofs.lemmas.Bool.{cases_eq, ne_eqb}
-use Rattle.bus_trace.specs.LineSet.{LineSet, none, same_set}
-use Rattle.bus_trace.specs.declared.Row.{Row}
-use Rattle.bus_trace.specs.declared.Kind.TheVariants.{Drives}
-use Rattle.bus_trace.specs.Trace.{drives, bus, since_line}
-use Rattle.bus_trace.proofs.Buses.{bus_one}
-use Rattle.bus_trace.specs.Terms.{call, drives_two_ids, new_calling}
-use Rattle.bus_rules.specs.Seen.{others_in_call, others_drive}
-use Rattle.scenario.specs.Value.{ScenarioValue}
-use Rattle.bus_story.specs.TraceHistory.{aim_of}
-use Rattle.bus_story.specs.Samples.{latency_of}
-use Rattle.bus_reactions.specs.declared.due.Due.{Due}
-use Rattle.bus_reactions.specs.Reactions.{due_at}
-use Rattle.bus_lines.specs.declared.stage.Stage.TheVariants.{InCalling}
-use Rattle.bus_lines.specs.Stage.{stage}
-use Rattle.bus_reactions.specs.FreeBus.{contender_lines}
+use Rattle.bus_due.specs.bus_trace.specs.LineSet.{LineSet, none, same_set}
+use Rattle.bus_due.specs.bus_trace.specs.declared.Row.{Row}
+use Rattle.bus_due.specs.bus_trace.specs.declared.Kind.TheVariants.{Drives}
+use Rattle.bus_due.specs.bus_trace.specs.Trace.{drives, bus, since_line}
+use Rattle.bus_due.specs.bus_trace.proofs.Buses.{bus_one}
+use Rattle.bus_due.specs.bus_trace.specs.Terms.{call, drives_two_ids, new_calling}
+use Rattle.bus_due.specs.bus_rules.specs.Seen.{others_in_call, others_drive}
+use Rattle.bus_due.specs.scenario.specs.Value.{ScenarioValue}
+use Rattle.bus_due.specs.bus_story.specs.TraceHistory.{aim_of}
+use Rattle.bus_due.specs.bus_story.specs.Samples.{latency_of}
+use Rattle.bus_due.specs.bus_reactions.specs.declared.due.Due.{Due}
+use Rattle.bus_due.specs.bus_reactions.specs.Reactions.{due_at}
+use Rattle.bus_due.specs.bus_lines.specs.declared.stage.Stage.TheVariants.{InCalling}
+use Rattle.bus_due.specs.bus_lines.specs.Stage.{stage}
+use Rattle.bus_due.specs.bus_reactions.specs.FreeBus.{contender_lines}
 use Rattle.bus_due.specs.Wants.{callee}
 use Rattle.bus_due.specs.RunSteps.{run_state}
 use Rattle.bus_due.specs.Least.{IsLeast}
@@ -36,8 +36,8 @@ use Rattle.bus_laws.proofs.FromArbitration.{lost_or}
 use Rattle.bus_laws.specs.Stages.{CalmStanding, HasShortLatencies, NextCalmRow, IsLoser, ArbitrationWon, with_both_ids, after_arbitration}
 use Rattle.bus_laws.specs.Rows.{Stands, row_of_lines}
 use Rattle.bus_laws.specs.Callings.{begun_call, both_ids, new_calling_at, won_call, won_bus}
-use Rattle.bus_base.proofs.Tests.{eq_self}
-use Rattle.disk_array.specs.Seats.{is_initiator}
+use Rattle.bus_due.specs.bus_base.proofs.Tests.{eq_self}
+use Rattle.bus_due.specs.disk_array.specs.Seats.{is_initiator}
 
 in_won : (s : ScenarioValue) (p : List Row) (c t0 : ℕ) → ArbitrationWon s p c t0 → stage p ≡ InCalling (won_call c t0)
 in_won s p c t0 h = stage_is p _ _ _ _ h.stands

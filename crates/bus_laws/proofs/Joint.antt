@@ -1,13 +1,13 @@
 -- What holds after the rows of a prompt trace.
 use Rattle.std.proofs.Common.{inl, inr, ℕ, ◌≡◌, ◌<◌, ◌≤◌, List, ◌∷◌, None, sym, subst, arith}
 use Rattle.std.proofs.lemmas.Bool.{cases_eq}
-use Rattle.bus_trace.specs.declared.Row.{Row}
-use Rattle.bus_trace.specs.declared.Kind.{Kind}
-use Rattle.bus_trace.specs.declared.Kind.TheVariants.{Drives, Fault}
-use Rattle.bus_trace.proofs.Ages.{since_le, since_line_le}
-use Rattle.bus_trace.specs.Terms.{connection}
-use Rattle.bus_rules.proofs.First.{row_none}
-use Rattle.scenario.specs.Value.{ScenarioValue}
+use Rattle.bus_due.specs.bus_trace.specs.declared.Row.{Row}
+use Rattle.bus_due.specs.bus_trace.specs.declared.Kind.{Kind}
+use Rattle.bus_due.specs.bus_trace.specs.declared.Kind.TheVariants.{Drives, Fault}
+use Rattle.bus_due.specs.bus_trace.proofs.Ages.{since_le, since_line_le}
+use Rattle.bus_due.specs.bus_trace.specs.Terms.{connection}
+use Rattle.bus_due.specs.bus_rules.proofs.First.{row_none}
+use Rattle.bus_due.specs.scenario.specs.Value.{ScenarioValue}
 use Rattle.bus_laws.specs.Reactions.{own_time}
 use Rattle.bus_laws.proofs.Rows.{own_time_own, own_time_other, own_time_fault}
 use Rattle.bus_laws.specs.Stages.{CalmStanding, NextCalmRow}

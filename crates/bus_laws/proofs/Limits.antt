@@ -3,15 +3,15 @@ use Rattle.std.proofs.Common.{ℕ, ◌≡◌, ◌≤◌, Bool, true, false, List
 use Rattle.std.specs.Prelude.{◌==◌, if◌then◌else◌}
 use Rattle.std.specs.List.{find, AllByRecursion}
 use Rattle.std.proofs.lemmas.Option.{same_Some}
-use Rattle.scenario.specs.declared.value.HostDef.{HostDef}
-use Rattle.scenario.specs.declared.value.TargetDef.{TargetDef}
-use Rattle.scenario.specs.Value.{ScenarioValue}
-use Rattle.scenario.specs.Writing.{Obeys}
-use Rattle.bus_story.specs.Samples.{host_latency, target_latency, latency_of}
+use Rattle.bus_due.specs.scenario.specs.declared.value.HostDef.{HostDef}
+use Rattle.bus_due.specs.scenario.specs.declared.value.TargetDef.{TargetDef}
+use Rattle.bus_due.specs.scenario.specs.Value.{ScenarioValue}
+use Rattle.bus_due.specs.scenario.specs.Writing.{Obeys}
+use Rattle.bus_due.specs.bus_story.specs.Samples.{host_latency, target_latency, latency_of}
 use Rattle.scsi_device.specs.Lines.{IsHostLine, IsTargetLine, FitsBus}
 use Rattle.scsi_device.proofs.FitLines.{obeys_fits}
 use Rattle.bus_laws.specs.Stages.{HasShortLatencies}
-use Rattle.bus_base.proofs.Tests.{none_number}
+use Rattle.bus_due.specs.bus_base.proofs.Tests.{none_number}
 
 host_found : (s : ScenarioValue) (hosts : List HostDef) (dev lat : ℕ) → AllByRecursion (IsHostLine s) hosts → host_latency (find (λ (h : HostDef). h.dev == dev) hosts) ≡ Some lat → lat ≤ 100
 host_found s [] dev lat a e = absurd (none_number lat e)

@@ -2,29 +2,29 @@
 use Rattle.std.proofs.Common.{ℕ, ◌<◌, ◌%◌, Bool, true, false, not, ◌&&◌, List, [], ◌∷◌, ◌++◌, Option, Some, None, arith}
 use Rattle.std.specs.Prelude.{if◌then◌else◌, ◌==◌, is_some}
 use Rattle.std.specs.List.{AllByRecursion}
-use Rattle.bus_trace.specs.declared.Row.{Row}
-use Rattle.bus_trace.specs.declared.agreements.Agreement.{Agreement}
-use Rattle.bus_trace.specs.declared.changes.Change.{Change}
-use Rattle.bus_trace.specs.declared.connection.Connection.{Connection}
-use Rattle.bus_trace.specs.Trace.{bus}
-use Rattle.bus_trace.specs.Changes.{change_of}
-use Rattle.bus_trace.specs.Terms.{connection, receiver_of}
-use Rattle.bus_trace.specs.Phases.{is_message_out, is_message_in, is_command, changes_phase}
-use Rattle.msg_grammar.specs.declared.message.Got.{Got}
-use Rattle.msg_grammar.specs.declared.message.Got.TheVariants.{Whole, More, Unknown}
-use Rattle.msg_grammar.specs.declared.message.MsgOut.{MsgOut}
-use Rattle.msg_grammar.specs.declared.message.MsgIn.{MsgIn}
-use Rattle.msg_grammar.specs.Grammar.{Form, alone, tagged, extended, reserved, got_after, got_by, got_tag, got_fields, got_code, got_offer, as_got}
-use Rattle.msg_grammar.specs.Messages.{form_out, form_in, got_out, got_in, is_of_eight}
-use Rattle.bus_phases.specs.declared.words.Word.{Word}
-use Rattle.bus_phases.specs.declared.words.Word.TheVariants as words
-use Rattle.bus_phases.specs.declared.words.End.{End}
-use Rattle.bus_phases.specs.declared.words.End.TheVariants as ends
-use Rattle.bus_phases.specs.declared.spoken.Spoken.{Spoken}
-use Rattle.bus_phases.specs.declared.spoken.Heard.{Heard}
-use Rattle.bus_phases.specs.declared.dialogue.Dialogue.{Dialogue}
-use Rattle.bus_phases.specs.Half.{left_of}
-use Rattle.bus_phases.specs.Dialogue.{word_out, word_in, spoken_with_word, is_of_other, void_or_now, heard_with_out, heard_with_command, void_with_byte, opened, heard_out, heard_in, fresh_bytes, fresh_heard, byte_out, heard_if_begun, byte_in, byte_crosses, phase_begins, dialogue_on, closed_agreement_by, dialogue_after, agreed, dialogue, asynchronous}
+use Rattle.bus_due.specs.bus_trace.specs.declared.Row.{Row}
+use Rattle.bus_due.specs.bus_trace.specs.declared.agreements.Agreement.{Agreement}
+use Rattle.bus_due.specs.bus_trace.specs.declared.changes.Change.{Change}
+use Rattle.bus_due.specs.bus_trace.specs.declared.connection.Connection.{Connection}
+use Rattle.bus_due.specs.bus_trace.specs.Trace.{bus}
+use Rattle.bus_due.specs.bus_trace.specs.Changes.{change_of}
+use Rattle.bus_due.specs.bus_trace.specs.Terms.{connection, receiver_of}
+use Rattle.bus_due.specs.bus_trace.specs.Phases.{is_message_out, is_message_in, is_command, changes_phase}
+use Rattle.bus_due.specs.msg_grammar.specs.declared.message.Got.{Got}
+use Rattle.bus_due.specs.msg_grammar.specs.declared.message.Got.TheVariants.{Whole, More, Unknown}
+use Rattle.bus_due.specs.msg_grammar.specs.declared.message.MsgOut.{MsgOut}
+use Rattle.bus_due.specs.msg_grammar.specs.declared.message.MsgIn.{MsgIn}
+use Rattle.bus_due.specs.msg_grammar.specs.Grammar.{Form, alone, tagged, extended, reserved, got_after, got_by, got_tag, got_fields, got_code, got_offer, as_got}
+use Rattle.bus_due.specs.msg_grammar.specs.Messages.{form_out, form_in, got_out, got_in, is_of_eight}
+use Rattle.bus_due.specs.bus_phases.specs.declared.words.Word.{Word}
+use Rattle.bus_due.specs.bus_phases.specs.declared.words.Word.TheVariants as words
+use Rattle.bus_due.specs.bus_phases.specs.declared.words.End.{End}
+use Rattle.bus_due.specs.bus_phases.specs.declared.words.End.TheVariants as ends
+use Rattle.bus_due.specs.bus_phases.specs.declared.spoken.Spoken.{Spoken}
+use Rattle.bus_due.specs.bus_phases.specs.declared.spoken.Heard.{Heard}
+use Rattle.bus_due.specs.bus_phases.specs.declared.dialogue.Dialogue.{Dialogue}
+use Rattle.bus_due.specs.bus_phases.specs.Half.{left_of}
+use Rattle.bus_due.specs.bus_phases.specs.Dialogue.{word_out, word_in, spoken_with_word, is_of_other, void_or_now, heard_with_out, heard_with_command, void_with_byte, opened, heard_out, heard_in, fresh_bytes, fresh_heard, byte_out, heard_if_begun, byte_in, byte_crosses, phase_begins, dialogue_on, closed_agreement_by, dialogue_after, agreed, dialogue, asynchronous}
 
 -- ---- messages
 

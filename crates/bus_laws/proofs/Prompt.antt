@@ -1,13 +1,13 @@
 -- The rows of a prompt trace while no connection stands.
 use Rattle.std.proofs.Common.{◌≡◌, false, List, [], ◌∷◌, Some, refl, sym, subst}
-use Rattle.bus_trace.specs.Trace.{bus}
-use Rattle.bus_trace.specs.declared.Kind.TheVariants.{Drives}
-use Rattle.bus_rules.specs.Reset.{only_rst}
+use Rattle.bus_due.specs.bus_trace.specs.Trace.{bus}
+use Rattle.bus_due.specs.bus_trace.specs.declared.Kind.TheVariants.{Drives}
+use Rattle.bus_due.specs.bus_rules.specs.Reset.{only_rst}
 use Rattle.bus_laws.specs.Rows.{row_of_lines}
 use Rattle.bus_laws.proofs.FromFree.{row_is}
 use Rattle.bus_laws.proofs.ResetSteps.{raises}
-use Rattle.bus_trace.specs.declared.Row.{Row}
-use Rattle.scenario.specs.Value.{ScenarioValue}
+use Rattle.bus_due.specs.bus_trace.specs.declared.Row.{Row}
+use Rattle.bus_due.specs.scenario.specs.Value.{ScenarioValue}
 use Rattle.bus_due.specs.Next.{due, next, IsPrompt}
 use Rattle.bus_due.specs.Least.{IsLeast}
 use Rattle.bus_due.proofs.Leasts.{least_some}

@@ -4,30 +4,30 @@ use Rattle.std.specs.Prelude.{nat_lt, if◌then◌else◌, min, ◌==◌}
 use Rattle.std.proofs.lemmas.Bool.{ltb-false, ne_eqb}
 use Rattle.std.proofs.lemmas.Bool.Decides.{nat_tests}
 use Rattle.std.proofs.lemmas.Option.{same_Some, none-some}
-use Rattle.bus_trace.specs.LineSet.{LineSet, none}
-use Rattle.bus_trace.specs.declared.Row.{Row}
-use Rattle.bus_trace.specs.declared.Kind.TheVariants.{Drives, Fault}
-use Rattle.bus_trace.specs.Trace.{drives}
-use Rattle.bus_trace.specs.Changes.{change_of, rises, falls}
-use Rattle.bus_trace.specs.Terms.{when}
-use Rattle.scenario.specs.declared.value.ResetDef.{ResetDef}
-use Rattle.scenario.specs.Value.{ScenarioValue}
-use Rattle.bus_story.specs.Samples.{latency_of}
-use Rattle.bus_reactions.specs.declared.due.Due.{Due}
-use Rattle.bus_reactions.specs.Reactions.{due_at, earlier_due, sooner_time, time_if}
-use Rattle.bus_reactions.specs.Reset.{rst_assertion, rst_release}
+use Rattle.bus_due.specs.bus_trace.specs.LineSet.{LineSet, none}
+use Rattle.bus_due.specs.bus_trace.specs.declared.Row.{Row}
+use Rattle.bus_due.specs.bus_trace.specs.declared.Kind.TheVariants.{Drives, Fault}
+use Rattle.bus_due.specs.bus_trace.specs.Trace.{drives}
+use Rattle.bus_due.specs.bus_trace.specs.Changes.{change_of, rises, falls}
+use Rattle.bus_due.specs.bus_trace.specs.Terms.{when}
+use Rattle.bus_due.specs.scenario.specs.declared.value.ResetDef.{ResetDef}
+use Rattle.bus_due.specs.scenario.specs.Value.{ScenarioValue}
+use Rattle.bus_due.specs.bus_story.specs.Samples.{latency_of}
+use Rattle.bus_due.specs.bus_reactions.specs.declared.due.Due.{Due}
+use Rattle.bus_due.specs.bus_reactions.specs.Reactions.{due_at, earlier_due, sooner_time, time_if}
+use Rattle.bus_due.specs.bus_reactions.specs.Reset.{rst_assertion, rst_release}
 use Rattle.bus_due.specs.Own.{Own, own_at, own_of, own_after, own_next}
 use Rattle.bus_due.specs.RunSteps.{run_state}
 use Rattle.bus_due.specs.Due.{self_of, is_reset_past, reset_from, calm_due, device_due, due_if}
 use Rattle.bus_due.specs.Next.{due}
 use Rattle.bus_due.specs.Plain.{AreOfDevices}
 use Rattle.bus_due.proofs.Plains.{run_state_plain}
-use Rattle.bus_rules.specs.Reset.{only_rst}
+use Rattle.bus_due.specs.bus_rules.specs.Reset.{only_rst}
 use Rattle.bus_laws.specs.Reactions.{unreset_due_if, unreset_due, reset_due_if, reset_due}
 use Rattle.bus_laws.proofs.Dues.{is_at}
 use Rattle.bus_laws.specs.Stages.{HasDevice}
 use Rattle.bus_laws.specs.Rows.{row_of_lines}
-use Rattle.bus_base.proofs.Tests.{eq_self, none_number}
+use Rattle.bus_due.specs.bus_base.proofs.Tests.{eq_self, none_number}
 use Rattle.bus_due.proofs.Leasts.{some_eq}
 
 -- ---- the first of two

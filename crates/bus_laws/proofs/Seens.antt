@@ -1,23 +1,23 @@
 -- What the rules see of a row of lines where no connection stands.
 use Rattle.std.proofs.Common.{ap, ℕ, ◌≡◌, Bool, false, not, List, [], ◌∷◌, ◌∙◌, refl, Option, None}
 use Rattle.std.specs.Prelude.{is_some}
-use Rattle.bus_trace.specs.LineSet.{LineSet, data_of}
-use Rattle.bus_trace.specs.declared.Row.{Row}
-use Rattle.bus_trace.specs.Trace.{drives, bus, last_time, since, since_line, line_times}
-use Rattle.bus_trace.specs.declared.changes.Change.{Change}
-use Rattle.bus_trace.specs.declared.arbitration.Arbitration.{Arbitration}
-use Rattle.bus_trace.specs.declared.selection.Call.{Call}
-use Rattle.bus_phases.specs.declared.reading.Reading.TheVariants as readings
-use Rattle.bus_rules.specs.declared.seen.Seen.{Seen}
-use Rattle.bus_trace.specs.Changes.{change_of}
-use Rattle.bus_trace.specs.Terms.{raised, call, connection, receiver}
-use Rattle.bus_phases.specs.declared.attention.Duty.TheVariants as duties
-use Rattle.bus_phases.specs.Phases.{pulses, pulses_after, no_pulses, turned, duty, duty_after, is_attention_held}
-use Rattle.bus_phases.specs.Dialogue.{dialogue, dialogue_after, agreed, opened, asynchronous, no_command}
-use Rattle.bus_phases.specs.Half.{is_nil}
-use Rattle.bus_phases.specs.Reading.{reading_of}
-use Rattle.bus_rules.specs.Seen.{seen, seen_with, others_in_call, id_since, drives_bsy, initiator_of, initiator_data, target_data}
-use Rattle.bus_rules.specs.Rules.{lowest_broken, broken_rule}
+use Rattle.bus_due.specs.bus_trace.specs.LineSet.{LineSet, data_of}
+use Rattle.bus_due.specs.bus_trace.specs.declared.Row.{Row}
+use Rattle.bus_due.specs.bus_trace.specs.Trace.{drives, bus, last_time, since, since_line, line_times}
+use Rattle.bus_due.specs.bus_trace.specs.declared.changes.Change.{Change}
+use Rattle.bus_due.specs.bus_trace.specs.declared.arbitration.Arbitration.{Arbitration}
+use Rattle.bus_due.specs.bus_trace.specs.declared.selection.Call.{Call}
+use Rattle.bus_due.specs.bus_phases.specs.declared.reading.Reading.TheVariants as readings
+use Rattle.bus_due.specs.bus_rules.specs.declared.seen.Seen.{Seen}
+use Rattle.bus_due.specs.bus_trace.specs.Changes.{change_of}
+use Rattle.bus_due.specs.bus_trace.specs.Terms.{raised, call, connection, receiver}
+use Rattle.bus_due.specs.bus_phases.specs.declared.attention.Duty.TheVariants as duties
+use Rattle.bus_due.specs.bus_phases.specs.Phases.{pulses, pulses_after, no_pulses, turned, duty, duty_after, is_attention_held}
+use Rattle.bus_due.specs.bus_phases.specs.Dialogue.{dialogue, dialogue_after, agreed, opened, asynchronous, no_command}
+use Rattle.bus_due.specs.bus_phases.specs.Half.{is_nil}
+use Rattle.bus_due.specs.bus_phases.specs.Reading.{reading_of}
+use Rattle.bus_due.specs.bus_rules.specs.Seen.{seen, seen_with, others_in_call, id_since, drives_bsy, initiator_of, initiator_data, target_data}
+use Rattle.bus_due.specs.bus_rules.specs.Rules.{lowest_broken, broken_rule}
 use Rattle.bus_laws.proofs.Rows.{change_is}
 use Rattle.bus_laws.specs.Rows.{Stands, change_to, row_of_lines}
 

@@ -2,21 +2,21 @@
 use Rattle.std.proofs.Common.{inl, inr, ℕ, ◌≡◌, ◌<◌, ◌≤◌, Bool, false, not, ◌&&◌, ◌∙◌, List, [], ◌∷◌, Option, Some, None, refl, sym, ap, subst, arith}
 use Rattle.std.specs.Prelude.{is_some}
 use Rattle.std.proofs.lemmas.Bool.{cases_eq}
-use Rattle.bus_trace.specs.LineSet.{LineSet}
-use Rattle.bus_trace.specs.View.{union_below}
-use Rattle.bus_trace.specs.declared.Row.{Row}
-use Rattle.bus_trace.specs.declared.arbitration.Arbitration.{Arbitration}
-use Rattle.bus_trace.specs.declared.selection.Call.{Call}
-use Rattle.bus_trace.specs.declared.connection.Connection.{Connection}
-use Rattle.bus_trace.specs.Trace.{bus, last_time}
-use Rattle.bus_trace.specs.Terms.{connection}
-use Rattle.bus_trace.proofs.Ages.{since_le, since_line_le}
-use Rattle.bus_trace.proofs.OneRow.{drives-other}
-use Rattle.scenario.specs.Value.{ScenarioValue}
-use Rattle.bus_reactions.specs.declared.due.Due.{Due}
-use Rattle.bus_rules.specs.Rules.{broken_rule}
-use Rattle.bus_rules.proofs.First.{row_none}
-use Rattle.bus_rules.specs.Reset.{only_rst}
+use Rattle.bus_due.specs.bus_trace.specs.LineSet.{LineSet}
+use Rattle.bus_due.specs.bus_trace.specs.View.{union_below}
+use Rattle.bus_due.specs.bus_trace.specs.declared.Row.{Row}
+use Rattle.bus_due.specs.bus_trace.specs.declared.arbitration.Arbitration.{Arbitration}
+use Rattle.bus_due.specs.bus_trace.specs.declared.selection.Call.{Call}
+use Rattle.bus_due.specs.bus_trace.specs.declared.connection.Connection.{Connection}
+use Rattle.bus_due.specs.bus_trace.specs.Trace.{bus, last_time}
+use Rattle.bus_due.specs.bus_trace.specs.Terms.{connection}
+use Rattle.bus_due.specs.bus_trace.proofs.Ages.{since_le, since_line_le}
+use Rattle.bus_due.specs.bus_trace.proofs.OneRow.{drives-other}
+use Rattle.bus_due.specs.scenario.specs.Value.{ScenarioValue}
+use Rattle.bus_due.specs.bus_reactions.specs.declared.due.Due.{Due}
+use Rattle.bus_due.specs.bus_rules.specs.Rules.{broken_rule}
+use Rattle.bus_due.specs.bus_rules.proofs.First.{row_none}
+use Rattle.bus_due.specs.bus_rules.specs.Reset.{only_rst}
 use Rattle.bus_due.specs.Next.{due}
 use Rattle.bus_due.specs.Least.{IsLeast}
 use Rattle.bus_due.specs.Plain.{AreOfDevices}

@@ -1,10 +1,10 @@
 -- Writes come whole, after each row of some runs. Written by tools/written_case.py.
 use Rattle.std.proofs.Common.{◌≡◌, true, [], refl}
 use lib.Count.{ones}
-use Rattle.bus_trace.specs.LineSet.{line_of}
-use Rattle.bus_trace.specs.View.{union_below}
-use Rattle.msg_grammar.specs.Messages.{form_out, form_in}
-use Rattle.scenario.specs.Needs.{need_of, sent_of}
+use Rattle.bus_due.specs.bus_trace.specs.LineSet.{line_of}
+use Rattle.bus_due.specs.bus_trace.specs.View.{union_below}
+use Rattle.bus_due.specs.msg_grammar.specs.Messages.{form_out, form_in}
+use Rattle.bus_due.specs.scenario.specs.Needs.{need_of, sent_of}
 use Rattle.bus_due.proofs.Seams.{onto}
 use Rattle.scsi_device.specs.Writes.{written}
 use Rattle.bus_laws.proofs.WrittenRuns.{all_written}

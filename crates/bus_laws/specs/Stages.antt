@@ -1,25 +1,25 @@
 -- What holds after the rows of a prompt trace, stage by stage, as long as no connection stands.
 use Rattle.std.specs.Prelude.{⊤, [], is_some, not, ◌&&◌, ℕ, ◌≡◌, ◌≢◌, ◌<◌, ◌≤◌, ◌+◌, ◌==◌, ◌⊎◌, Bool, true, false, List, ◌∷◌, Some, None}
 use Rattle.std.specs.Int.{bit_at}
-use Rattle.bus_trace.specs.LineSet.{LineSet, none, line_of}
-use Rattle.bus_trace.specs.declared.Row.{Row}
-use Rattle.bus_trace.specs.Trace.{drives, bus, last_time, since, since_line}
-use Rattle.bus_trace.specs.declared.arbitration.Arbitration.{Arbitration}
-use Rattle.bus_trace.specs.declared.selection.Call.{Call}
-use Rattle.bus_trace.specs.declared.selection.Calling.{Calling}
-use Rattle.bus_trace.specs.declared.connection.Connection.{Connection}
-use Rattle.bus_trace.specs.Terms.{raised, connection}
-use Rattle.bus_rules.specs.Lawful.{AreLawful}
-use Rattle.bus_rules.specs.Rules.{broken_rule}
-use Rattle.scenario.specs.Value.{ScenarioValue}
-use Rattle.bus_story.specs.Samples.{latency_of}
-use Rattle.bus_reactions.specs.declared.due.Due.{Due}
-use Rattle.bus_reactions.specs.FreeBus.{contender_lines}
+use Rattle.bus_due.specs.bus_trace.specs.LineSet.{LineSet, none, line_of}
+use Rattle.bus_due.specs.bus_trace.specs.declared.Row.{Row}
+use Rattle.bus_due.specs.bus_trace.specs.Trace.{drives, bus, last_time, since, since_line}
+use Rattle.bus_due.specs.bus_trace.specs.declared.arbitration.Arbitration.{Arbitration}
+use Rattle.bus_due.specs.bus_trace.specs.declared.selection.Call.{Call}
+use Rattle.bus_due.specs.bus_trace.specs.declared.selection.Calling.{Calling}
+use Rattle.bus_due.specs.bus_trace.specs.declared.connection.Connection.{Connection}
+use Rattle.bus_due.specs.bus_trace.specs.Terms.{raised, connection}
+use Rattle.bus_due.specs.bus_rules.specs.Lawful.{AreLawful}
+use Rattle.bus_due.specs.bus_rules.specs.Rules.{broken_rule}
+use Rattle.bus_due.specs.scenario.specs.Value.{ScenarioValue}
+use Rattle.bus_due.specs.bus_story.specs.Samples.{latency_of}
+use Rattle.bus_due.specs.bus_reactions.specs.declared.due.Due.{Due}
+use Rattle.bus_due.specs.bus_reactions.specs.FreeBus.{contender_lines}
 use Rattle.bus_due.specs.RunSteps.{run_state}
 use Rattle.bus_due.specs.Plain.{AreOfDevices}
 use Rattle.bus_laws.specs.Reactions.{own_time}
 use Rattle.bus_laws.specs.Reactions.{unreset_due}
-use Rattle.bus_rules.specs.Reset.{only_rst}
+use Rattle.bus_due.specs.bus_rules.specs.Reset.{only_rst}
 use Rattle.bus_due.specs.Own.{own_of}
 use Rattle.bus_due.specs.Next.{due}
 use Rattle.bus_laws.specs.Rows.{Stands}

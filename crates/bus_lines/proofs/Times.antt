@@ -18,7 +18,7 @@ use Rattle.bus_lines.specs.Handshakes.{Handshakes}
 use Rattle.bus_lines.specs.BusView.{BusViewValue, IsBusViewOf}
 use Rattle.bus_lines.specs.Timely.{IsTimely, IsBefore, IsArbitrationBefore, IsCallingBefore, IsCallBefore, IsConnectionBefore, AreHandshakesBefore}
 use Rattle.bus_lines.proofs.Early.{handshakes_before}
-use Rattle.bus_base.proofs.Tests.{if_less}
+use Rattle.bus_trace.specs.bus_base.proofs.Tests.{if_less}
 
 abbrev pub ComeBefore : ℕ → List Row → Type 0
 ComeBefore end rows = AllByRecursion (λ (row : Row). row.time < end) rows

@@ -2,7 +2,7 @@
 -- bounded, whatever the rows: counts stay at the last u64, and at most 255 requests are remembered as unanswered, since
 -- no REQ/ACK offset is higher (6.6.21).
 use Rattle.std.specs.Prelude.{ℕ, ◌==◌, Bool, true, false, not, List, [], ◌∷◌, ◌++◌, drop, length, Option, Some, None, nat_lt, if◌then◌else◌}
-use Rattle.bus_base.specs.Faults.{counted_on}
+use Rattle.bus_trace.specs.bus_base.specs.Faults.{counted_on}
 use Rattle.bus_trace.specs.declared.Row.{Row}
 use Rattle.bus_trace.specs.declared.changes.Change.{Change}
 use Rattle.bus_trace.specs.declared.connection.Connection.{Connection}

@@ -6,7 +6,7 @@ ghost use Rattle.bus_trace.specs.Terms.{connection, is_fault};
 ghost use Rattle.bus_lines.specs.Handshakes.{handshakes, handshakes_after, no_handshakes, asked, answered, strikes, strikes_last, first_of, room_by};
 
 use arrayvec::ArrayVec;
-use bus_base::Ns;
+use bus_trace::the_bus_base::Ns;
 use bus_trace::{Change, Connection, Kind, Row, changes_phase, rises};
 use std::marker::Model;
 

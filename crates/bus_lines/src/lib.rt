@@ -29,3 +29,7 @@ pub use handshakes::{Handshakes, Request};
 pub use laws::{few_requests_wait, views_are_timely};
 pub use stage::{Stage, call_stage};
 pub use view::{BusView, see_call};
+
+// Handed on to the crates above that list this one and not these.
+pub use bus_trace as the_bus_trace;
+pub use bus_trace::the_bus_base;

@@ -3,7 +3,7 @@ ghost use Rattle.std.specs.Prelude.{ℕ, ◌≡◌, Some};
 ghost use Rattle.bus_lines.specs.Stage.{call_stage};
 ghost use Rattle.bus_lines.specs.Timely.{IsCallBefore, IsStageBefore};
 
-use bus_base::Ns;
+use bus_trace::the_bus_base::Ns;
 use bus_trace::{Arbitration, Call, Calling, Connection};
 
 /// What goes on on the bus. RST goes before all else (6.2.2), and a connection before the rest; times are in ns.

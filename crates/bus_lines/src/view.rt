@@ -15,7 +15,7 @@ ghost use Rattle.bus_lines.specs.Timely.{IsTimely, IsConnectionBefore, IsStageBe
 use crate::effect::{RowEffect, no_effect};
 use crate::handshakes::Handshakes;
 use crate::stage::{Stage, call_stage};
-use bus_base::{Dev, Ns};
+use bus_trace::the_bus_base::{Dev, Ns};
 use bus_trace::{
     Arbitration, Call, Change, Connection, LineView, Lines, Row, arbitration_after, call_after,
     connection_after,

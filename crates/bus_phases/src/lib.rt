@@ -32,3 +32,7 @@ pub use raises::Raises;
 pub use reading::{Reading, reading_in, reading_out};
 pub use spoken::{CommandBytes, Heard, Spoken, asynchronous};
 pub use words::{End, Word, is_same_end, word_in, word_out};
+
+// Handed on to the crates above that list this one and not these.
+pub use bus_trace as the_bus_trace;
+pub use msg_grammar as the_msg_grammar;

@@ -2,11 +2,11 @@
 -- docs/bus.md and the lines of a trace have it, the latency as the last summand.
 use Rattle.std.proofs.Common.{ℕ, ◌≡◌, ◌+◌, Bool, true, false, List, [], ◌∷◌, Option, Some, None, refl}
 use lib.Count.{ones}
-use Rattle.bus_trace.specs.LineSet.{set_of}
-use Rattle.bus_trace.specs.View.{union_below}
-use Rattle.bus_trace.specs.declared.Row.{Row}
-use Rattle.bus_trace.specs.declared.Kind.TheVariants.{Drives, Fault}
-use Rattle.bus_trace.specs.declared.selection.Calling.{Calling}
+use Rattle.bus_lines.specs.bus_trace.specs.LineSet.{set_of}
+use Rattle.bus_lines.specs.bus_trace.specs.View.{union_below}
+use Rattle.bus_lines.specs.bus_trace.specs.declared.Row.{Row}
+use Rattle.bus_lines.specs.bus_trace.specs.declared.Kind.TheVariants.{Drives, Fault}
+use Rattle.bus_lines.specs.bus_trace.specs.declared.selection.Calling.{Calling}
 use Rattle.bus_reactions.specs.declared.due.Due.{Due}
 use Rattle.bus_reactions.specs.declared.due.Myself.{Myself}
 use Rattle.bus_reactions.specs.declared.due.Want.{Want}
@@ -15,13 +15,13 @@ use Rattle.bus_reactions.specs.declared.ends.Offering.{Offering}
 use Rattle.bus_reactions.specs.declared.ends.Answering.{Answering}
 use Rattle.bus_reactions.specs.declared.ends.Hand.TheVariants.{Initiator, Target}
 use Rattle.bus_lines.specs.declared.handshakes.Request.{Request}
-use Rattle.bus_trace.specs.declared.line_times.LineTimes.{LineTimes}
+use Rattle.bus_lines.specs.bus_trace.specs.declared.line_times.LineTimes.{LineTimes}
 use Rattle.bus_reactions.specs.declared.sight.Sight.{Sight}
 use Rattle.bus_lines.specs.declared.stage.Stage.{Stage}
 use Rattle.bus_lines.specs.declared.stage.Stage.TheVariants.{OnFreeBus, InArbitration, InCalling, InAnswer, InConnection, InReset}
 use Rattle.bus_lines.specs.Handshakes.{Handshakes, no_handshakes}
 use Rattle.bus_reactions.specs.Reactions.{due_at, sooner_time, time_if}
-use Rattle.bus_trace.specs.Trace.{no_times, line_times, times_after, phase_time, free_time}
+use Rattle.bus_lines.specs.bus_trace.specs.Trace.{no_times, line_times, times_after, phase_time, free_time}
 use Rattle.bus_reactions.specs.Sight.{sight}
 use Rattle.bus_reactions.specs.Linking.{link_due, sample_time}
 use Rattle.bus_reactions.specs.Reset.{with_reset}

@@ -1,9 +1,9 @@
 -- From the rise of SEL to its fall: selection and reselection (6.1.2 to 6.1.4).
 use Rattle.std.specs.Prelude.{ℕ, ◌+◌, Bool, true, false, not, ◌&&◌, ◌==◌, Option, Some, None, is_some, is_none, nat_lt, if◌then◌else◌}
-use Rattle.bus_trace.specs.declared.delays.TheConstants.{QUIET_TIME, TWO_DESKEW, BUS_SETTLE_DELAY, SELECTION_TIMEOUT_DELAY, SELECTION_ABORT_TIME}
-use Rattle.bus_trace.specs.LineSet.{LineSet, none, ids_set, byte_set}
-use Rattle.bus_trace.specs.declared.selection.Call.{Call}
-use Rattle.bus_trace.specs.declared.selection.Calling.{Calling}
+use Rattle.bus_lines.specs.bus_trace.specs.declared.delays.TheConstants.{QUIET_TIME, TWO_DESKEW, BUS_SETTLE_DELAY, SELECTION_TIMEOUT_DELAY, SELECTION_ABORT_TIME}
+use Rattle.bus_lines.specs.bus_trace.specs.LineSet.{LineSet, none, ids_set, byte_set}
+use Rattle.bus_lines.specs.bus_trace.specs.declared.selection.Call.{Call}
+use Rattle.bus_lines.specs.bus_trace.specs.declared.selection.Calling.{Calling}
 use Rattle.bus_reactions.specs.declared.due.Due.{Due}
 use Rattle.bus_reactions.specs.declared.due.Myself.{Myself}
 use Rattle.bus_reactions.specs.declared.due.Want.{Want}

@@ -1,6 +1,6 @@
 -- What an end of a connection does next. `begun` says that the first phase has begun.
 use Rattle.std.specs.Prelude.{ℕ, ◌+◌, Bool, true, false, not, ◌&&◌, ◌==◌, Option, None, if◌then◌else◌}
-use Rattle.bus_trace.specs.LineSet.{LineSet, none}
+use Rattle.bus_lines.specs.bus_trace.specs.LineSet.{LineSet, none}
 use Rattle.bus_reactions.specs.declared.due.Due.{Due}
 use Rattle.bus_reactions.specs.declared.due.Myself.{Myself}
 use Rattle.bus_reactions.specs.Reactions.{due_at, fault_or}

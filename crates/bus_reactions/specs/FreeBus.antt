@@ -1,8 +1,8 @@
 -- The free bus and arbitration (6.1.1, 6.1.2).
 use Rattle.std.specs.Prelude.{ℕ, ◌+◌, max, true, not, Option, Some, None, nat_le, if◌then◌else◌}
-use Rattle.bus_trace.specs.declared.delays.TheConstants.{ENTRY_DELAY, BUS_SET_DELAY, ARBITRATION_DELAY}
-use Rattle.bus_trace.specs.LineSet.{LineSet, id_set, has_id_above}
-use Rattle.bus_trace.specs.declared.arbitration.Arbitration.{Arbitration}
+use Rattle.bus_lines.specs.bus_trace.specs.declared.delays.TheConstants.{ENTRY_DELAY, BUS_SET_DELAY, ARBITRATION_DELAY}
+use Rattle.bus_lines.specs.bus_trace.specs.LineSet.{LineSet, id_set, has_id_above}
+use Rattle.bus_lines.specs.bus_trace.specs.declared.arbitration.Arbitration.{Arbitration}
 use Rattle.bus_reactions.specs.declared.due.Due.{Due}
 use Rattle.bus_reactions.specs.declared.due.Myself.{Myself}
 use Rattle.bus_reactions.specs.Reactions.{due_at, due_where}

@@ -1,9 +1,9 @@
 -- What the initiator of a connection does next by REQ and ACK: byte by byte (6.1.5.1, 6.1.9, 6.1.10), and by pulses
 -- under an offset and a period (6.1.5.2, 6.6.21).
 use Rattle.std.specs.Prelude.{ℕ, ◌+◌, max, Bool, true, false, not, ◌&&◌, ◌||◌, ◌==◌, length, Option, None, if◌then◌else◌}
-use Rattle.bus_trace.specs.declared.delays.TheConstants.{SET_UP_TIME, TWO_DESKEW}
-use Rattle.bus_trace.specs.LineSet.{LineSet, byte_set}
-use Rattle.bus_trace.specs.Phases.{is_message_out}
+use Rattle.bus_lines.specs.bus_trace.specs.declared.delays.TheConstants.{SET_UP_TIME, TWO_DESKEW}
+use Rattle.bus_lines.specs.bus_trace.specs.LineSet.{LineSet, byte_set}
+use Rattle.bus_lines.specs.bus_trace.specs.Phases.{is_message_out}
 use Rattle.bus_reactions.specs.declared.due.Due.{Due}
 use Rattle.bus_reactions.specs.declared.due.Myself.{Myself}
 use Rattle.bus_reactions.specs.Reactions.{due_at}

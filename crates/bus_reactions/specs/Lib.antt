@@ -7,3 +7,5 @@ pub mod Target
 pub mod Initiator
 pub mod Ends
 pub mod Reset
+-- Handed on to the crates above that list this one and not these.
+pub use Rattle.bus_lines

@@ -1,7 +1,7 @@
 -- What a device is due to do next, on its way to a connection and under RST.
 use Rattle.std.specs.Prelude.{ℕ, ◌+◌, Option, None}
-use Rattle.bus_trace.specs.declared.delays.TheConstants.{BUS_SETTLE_DELAY}
-use Rattle.bus_trace.specs.LineSet.{LineSet}
+use Rattle.bus_lines.specs.bus_trace.specs.declared.delays.TheConstants.{BUS_SETTLE_DELAY}
+use Rattle.bus_lines.specs.bus_trace.specs.LineSet.{LineSet}
 use Rattle.bus_reactions.specs.declared.due.Due.{Due}
 use Rattle.bus_reactions.specs.declared.due.Myself.{Myself}
 use Rattle.bus_reactions.specs.declared.due.Want.{Want}

@@ -1,7 +1,7 @@
 -- A reaction of a device: the row that it makes next, and when.
 use Rattle.std.specs.Prelude.{ℕ, ◌+◌, min, Bool, true, false, Option, Some, None, nat_lt, if◌then◌else◌}
-use Rattle.bus_trace.specs.LineSet.{LineSet, none, same_set}
-use Rattle.bus_trace.specs.declared.Kind.TheVariants.{Drives, Fault}
+use Rattle.bus_lines.specs.bus_trace.specs.LineSet.{LineSet, none, same_set}
+use Rattle.bus_lines.specs.bus_trace.specs.declared.Kind.TheVariants.{Drives, Fault}
 use Rattle.bus_reactions.specs.declared.due.Due.{Due}
 use Rattle.bus_reactions.specs.declared.due.Myself.{Myself}
 

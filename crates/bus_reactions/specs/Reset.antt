@@ -1,7 +1,7 @@
 -- RST, before everything else (6.2.2).
 use Rattle.std.specs.Prelude.{ℕ, ◌+◌, true, Option, Some, None, if◌then◌else◌}
-use Rattle.bus_trace.specs.declared.delays.TheConstants.{RESET_HOLD_TIME}
-use Rattle.bus_trace.specs.LineSet.{none}
+use Rattle.bus_lines.specs.bus_trace.specs.declared.delays.TheConstants.{RESET_HOLD_TIME}
+use Rattle.bus_lines.specs.bus_trace.specs.LineSet.{none}
 use Rattle.bus_reactions.specs.declared.due.Due.{Due}
 use Rattle.bus_reactions.specs.declared.due.Myself.{Myself}
 use Rattle.bus_reactions.specs.Reactions.{due_at, earlier_due}

@@ -1,15 +1,15 @@
 -- What the target of a connection does next by REQ and ACK: byte by byte, and the first byte of every phase (6.1.5.1,
 -- 6.1.9, 6.1.10); and by pulses under an offset and a period (6.1.5.2, 6.6.21).
 use Rattle.std.specs.Prelude.{ℕ, ◌+◌, max, Bool, true, false, not, ◌&&◌, ◌||◌, ◌==◌, length, Option, None, nat_lt, if◌then◌else◌}
-use Rattle.bus_trace.specs.declared.delays.TheConstants.{BUS_SETTLE_DELAY, TURN_DELAY, SET_UP_TIME}
-use Rattle.bus_trace.specs.LineSet.{LineSet, byte_set}
+use Rattle.bus_lines.specs.bus_trace.specs.declared.delays.TheConstants.{BUS_SETTLE_DELAY, TURN_DELAY, SET_UP_TIME}
+use Rattle.bus_lines.specs.bus_trace.specs.LineSet.{LineSet, byte_set}
 use Rattle.bus_reactions.specs.declared.due.Due.{Due}
 use Rattle.bus_reactions.specs.declared.due.Myself.{Myself}
 use Rattle.bus_reactions.specs.Reactions.{due_at}
 use Rattle.bus_reactions.specs.declared.sight.Sight.{Sight}
 use Rattle.bus_reactions.specs.declared.ends.Pace.{Pace}
 use Rattle.bus_reactions.specs.declared.ends.Offering.{Offering}
-use Rattle.bus_trace.specs.Trace.{phase_time}
+use Rattle.bus_lines.specs.bus_trace.specs.Trace.{phase_time}
 use Rattle.bus_lines.specs.Handshakes.{Handshakes, room_by}
 
 abbrev pub byte_bits : ℕ → ℕ

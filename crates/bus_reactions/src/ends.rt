@@ -1,7 +1,7 @@
 // What an end of a connection goes by: how bytes cross in the phase, and what it has to do in it.
 
-use bus_base::Ns;
-use bus_trace::{Lines, TransferTimes};
+use bus_lines::the_bus_base::Ns;
+use bus_lines::the_bus_trace::{Lines, TransferTimes};
 
 /// How bytes cross in the phase.
 #[derive(Clone, Copy)]

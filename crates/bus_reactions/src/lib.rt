@@ -18,3 +18,6 @@ mod sight;
 pub use due::{Due, Myself, Want, due_at};
 pub use ends::{Answering, Hand, Offering, Pace};
 pub use sight::{Sight, sight_of};
+
+// Handed on to the crates above that list this one and not these.
+pub use bus_lines as the_bus_lines;

@@ -1,14 +1,14 @@
 // What any device knows of the bus by its lines.
 
 ghost use Rattle.std.specs.Prelude.{ℕ, ◌≡◌, List};
-ghost use Rattle.bus_trace.specs.declared.Row.{Row};
-ghost use Rattle.bus_trace.specs.View.{AreTimesBefore};
+ghost use Rattle.bus_lines.specs.bus_trace.specs.declared.Row.{Row};
+ghost use Rattle.bus_lines.specs.bus_trace.specs.View.{AreTimesBefore};
 ghost use Rattle.bus_lines.specs.BusView.{IsBusViewOf};
 ghost use Rattle.bus_lines.specs.Timely.{IsTimely};
 ghost use Rattle.bus_reactions.specs.Sight.{sight};
 
+use bus_lines::the_bus_trace::{LineTimes, Lines};
 use bus_lines::{BusView, Stage};
-use bus_trace::{LineTimes, Lines};
 
 /// What any device knows of the bus by its lines.
 #[derive(Clone, Copy)]

@@ -34,7 +34,7 @@ use Rattle.bus_rules.specs.Connected.{keeps_sides, keeps_lines_of, keeps_data_di
 use Rattle.bus_rules.specs.Messages.{is_owed, is_none_or_all, is_unknown, is_opening, same_bool, opens_well, may_take}
 use Rattle.bus_rules.specs.Transfer.{crosses, is_pulsed, is_asynchronous_transfer, data_stand_since, changes_data, holds_still, is_after, pulses_well, last_crossing}
 use Rattle.bus_trace.specs.Agreements.{times_of}
-use Rattle.msg_grammar.specs.Messages.{got_out, got_in}
+use Rattle.bus_phases.specs.msg_grammar.specs.Messages.{got_out, got_in}
 use Rattle.bus_phases.specs.Reading.{reading_of, reading_out, reading_in}
 use Rattle.bus_rules.specs.Seen.{seen, seen_with, drives_bsy, initiator_of, initiator_data, target_data}
 use Rattle.bus_trace.specs.Changes.{change_of}

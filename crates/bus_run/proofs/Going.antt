@@ -6,11 +6,11 @@ use Rattle.bus_trace.specs.declared.Row.{Row}
 use Rattle.bus_trace.specs.Terms.{is_fault}
 use Rattle.scenario.specs.declared.value.FaultDef.{FaultDef}
 use Rattle.scenario.specs.Value.{ScenarioValue}
-use Rattle.bus_dialogue.specs.Observer.{ObserverValue, IsObserverOf}
+use Rattle.bus_due.specs.bus_dialogue.specs.Observer.{ObserverValue, IsObserverOf}
 use Rattle.bus_due.specs.Next.{next, IsPrompt}
 use Rattle.bus_due.specs.Plain.{AreOfDevices}
 use Rattle.bus_due.specs.RunSteps.{run_state}
-use Rattle.scsi_device.specs.Lines.{FitsBus}
+use Rattle.bus_laws.specs.scsi_device.specs.Lines.{FitsBus}
 use Rattle.bus_run.specs.Away.{IsAwayIf}
 use Rattle.bus_run.specs.Places.{AreIn}
 use Rattle.bus_run.specs.Runs.{AreEarly}

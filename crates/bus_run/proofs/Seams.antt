@@ -13,9 +13,9 @@ use Rattle.bus_due.specs.Defs.{host_of, target_def_of}
 use Rattle.bus_due.specs.Faithful.{faithful, is_faithful}
 use Rattle.bus_due.specs.RunSteps.{run_state}
 use Rattle.bus_due.specs.Telling.{telling, is_true_telling}
-use Rattle.scsi_device.specs.Heard.{heard, is_heard_after, instructions}
-use Rattle.scsi_device.specs.Lines.{IsHostLine, IsTargetLine}
-use Rattle.scsi_device.specs.Writes.{written, is_written, writers}
+use Rattle.bus_laws.specs.scsi_device.specs.Heard.{heard, is_heard_after, instructions}
+use Rattle.bus_laws.specs.scsi_device.specs.Lines.{IsHostLine, IsTargetLine}
+use Rattle.bus_laws.specs.scsi_device.specs.Writes.{written, is_written, writers}
 use Rattle.disk_target.specs.Attended.{attended, is_attended}
 use Rattle.bus_run.specs.Seams.{is_own_pair, paired, seams}
 use Rattle.bus_run.specs.Shown.{reading}

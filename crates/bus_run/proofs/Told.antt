@@ -3,13 +3,13 @@ use Rattle.std.proofs.Common.{inl, inr, ℕ, ◌≡◌, ◌≢◌, ◌<◌, ◌�
 use Rattle.std.specs.Prelude.{slice_index_or, nat_lt, ◌==◌, ◌||◌, if◌then◌else◌}
 use Rattle.std.proofs.lemmas.Bool.{cases_eq, lt-ltb}
 use Rattle.std.proofs.lemmas.Bool.Decides.{nat_tests}
-use Rattle.scsi_device.proofs.Finds.{some_is}
+use Rattle.bus_laws.specs.scsi_device.proofs.Finds.{some_is}
 use Rattle.bus_trace.specs.declared.Row.{Row}
 use Rattle.bus_trace.specs.declared.connection.Connection.{Connection}
 use Rattle.scenario.specs.Value.{ScenarioValue}
 use Rattle.bus_run.specs.Places.{IsIn, AreIn, rows_told, AreKnownBut}
 use Rattle.bus_base.proofs.Tests.{or_true, eq_self, nothing_below}
-use Rattle.bus_rules.specs.Order.{is_of_device}
+use Rattle.bus_due.specs.bus_rules.specs.Order.{is_of_device}
 
 below_more : (d dev : ℕ) → d ≢ dev → nat_lt d (dev + 1) ≡ nat_lt d dev
 below_more d dev ne = grind (arith, nat_tests)

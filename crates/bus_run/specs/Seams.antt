@@ -10,8 +10,8 @@ use Rattle.bus_due.specs.Faithful.{faithful}
 use Rattle.bus_due.specs.Telling.{telling}
 use Rattle.bus_due.specs.Allowed.{allowed}
 use Rattle.bus_due.specs.Next.{IsPrompt}
-use Rattle.scsi_device.specs.Heard.{heard}
-use Rattle.scsi_device.specs.Writes.{written}
+use Rattle.bus_laws.specs.scsi_device.specs.Heard.{heard}
+use Rattle.bus_laws.specs.scsi_device.specs.Writes.{written}
 use Rattle.disk_target.specs.Attended.{attended}
 
 -- The initiator of a connection is an initiator of the scenario, and its target is a target of it.

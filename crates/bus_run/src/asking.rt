@@ -7,12 +7,12 @@ ghost use Rattle.std.specs.Prelude.{◌≡◌, ◌<◌, ◌+◌, ◌^◌, ◌∷
 ghost use Rattle.bus_trace.specs.declared.Row.{Row};
 ghost use Rattle.bus_lines.specs.Timely.{IsTimely};
 ghost use Rattle.scenario.specs.Value.{ScenarioValue};
-ghost use Rattle.bus_dialogue.specs.Observer.{IsObserverOf};
+ghost use Rattle.bus_due.specs.bus_dialogue.specs.Observer.{IsObserverOf};
 ghost use Rattle.bus_due.specs.Next.{due, least, next};
 ghost use Rattle.bus_due.specs.Plain.{AreOfDevices};
 ghost use Rattle.bus_due.specs.PlainDue.{IsLinked};
 ghost use Rattle.bus_due.specs.RunSteps.{run_state};
-ghost use Rattle.scsi_device.specs.Told.{first_fault};
+ghost use Rattle.bus_laws.specs.scsi_device.specs.Told.{first_fault};
 ghost use Rattle.bus_run.specs.Away.{comes_first, sooner_row, is_end_if, due_besides, IsAway, IsAwayIf};
 ghost use Rattle.bus_run.specs.Places.{IsIn, AreIn};
 ghost use Rattle.bus_run.specs.Seen.{AreSeen};
@@ -22,11 +22,11 @@ use crate::away::Away;
 use crate::device::Device;
 use crate::standing::is_end;
 use bus_base::{Dev, Steps};
-use bus_dialogue::Observer;
+use bus_due::the_bus_dialogue::Observer;
 use bus_reactions::Due;
 use bus_trace::{Connection, Row};
+use disk_target::the_scsi_device::devices_know_enough;
 use scenario::FaultDef;
-use scsi_device::devices_know_enough;
 use std::sync::ledger::Ledger;
 
 // Whether a row comes before that of another device: at one time the higher ID goes first.

@@ -8,7 +8,7 @@ ghost use Rattle.scenario.specs.Value.{ScenarioValue};
 ghost use Rattle.bus_due.specs.Next.{due};
 ghost use Rattle.bus_due.specs.RunSteps.{run_state};
 ghost use Rattle.bus_due.specs.Telling.{target_events, initiator_events};
-ghost use Rattle.scsi_device.specs.Told.{first_fault};
+ghost use Rattle.bus_laws.specs.scsi_device.specs.Told.{first_fault};
 ghost use Rattle.bus_run.specs.Label.{process_known};
 ghost use Rattle.bus_run.specs.Seams.{seams};
 ghost use Rattle.bus_run.specs.Seen.{AreSeen};
@@ -17,7 +17,7 @@ ghost use Rattle.bus_run.specs.Standing.{IsKept, is_end};
 
 use crate::shown::Shown;
 use bus_base::{Event, ProcId};
-use bus_dialogue::Observer;
+use bus_due::the_bus_dialogue::Observer;
 use bus_reactions::Due;
 use bus_trace::Row;
 use scenario::FaultDef;

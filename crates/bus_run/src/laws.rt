@@ -10,9 +10,9 @@ ghost use Rattle.bus_due.specs.Allowed.{allowed};
 ghost use Rattle.bus_due.specs.Defs.{host_of, target_def_of};
 ghost use Rattle.bus_due.specs.Faithful.{faithful};
 ghost use Rattle.bus_due.specs.Telling.{telling};
-ghost use Rattle.scsi_device.specs.Heard.{heard};
-ghost use Rattle.scsi_device.specs.Lines.{IsHostLine, IsTargetLine};
-ghost use Rattle.scsi_device.specs.Writes.{written};
+ghost use Rattle.bus_laws.specs.scsi_device.specs.Heard.{heard};
+ghost use Rattle.bus_laws.specs.scsi_device.specs.Lines.{IsHostLine, IsTargetLine};
+ghost use Rattle.bus_laws.specs.scsi_device.specs.Writes.{written};
 ghost use Rattle.disk_target.specs.Attended.{attended};
 ghost use Rattle.bus_run.specs.Seams.{seams};
 

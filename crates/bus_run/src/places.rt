@@ -19,7 +19,7 @@ use crate::laws::rows_tie_devices;
 use crate::shown::Shown;
 use crate::standing::is_end;
 use bus_base::{Dev, Event, ProcId};
-use bus_dialogue::Observer;
+use bus_due::the_bus_dialogue::Observer;
 use bus_trace::{Connection, Row};
 
 /// What the device in this place shows with the last row, which the observer has seen and it has not. No device shows

@@ -1,6 +1,6 @@
 -- What each process has carried, where one of them carries on.
 use Rattle.std.proofs.Common.{◌∷◌, ◌∙◌, false, List, Some, Bool, refl, [], ◌≡◌, true, sym, None}
-use Rattle.bus_base.specs.declared.ProcId.{ProcId}
+use Rattle.bus_phases.specs.bus_base.specs.declared.ProcId.{ProcId}
 use Rattle.bus_story.specs.CarriedBytes.{CarriedBytes, carried_or_nothing, carried_at, with_carried, nothing_carried, carried_of}
 use Rattle.std.specs.Prelude.{if◌then◌else◌}
 use Rattle.disk_array.proofs.SeatReplies.{id_self}

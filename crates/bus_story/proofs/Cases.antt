@@ -1,10 +1,10 @@
 -- Whole runs, read off the rows of their traces and computed: the histories are those of the reports, which an
 -- independent simulator printed. Written by tools/story_case.py.
-use Rattle.bus_trace.specs.LineSet.{set_of, line_of}
-use Rattle.bus_trace.specs.View.{union_below}
-use Rattle.bus_trace.specs.declared.Row.{Row}
-use Rattle.bus_trace.specs.declared.Kind.TheVariants.{Drives, Fault}
-use Rattle.msg_grammar.specs.Messages.{form_out, form_in}
+use Rattle.bus_phases.specs.bus_trace.specs.LineSet.{set_of, line_of}
+use Rattle.bus_phases.specs.bus_trace.specs.View.{union_below}
+use Rattle.bus_phases.specs.bus_trace.specs.declared.Row.{Row}
+use Rattle.bus_phases.specs.bus_trace.specs.declared.Kind.TheVariants.{Drives, Fault}
+use Rattle.bus_phases.specs.msg_grammar.specs.Messages.{form_out, form_in}
 use Rattle.bus_story.specs.Story.{Story}
 use Rattle.bus_story.specs.TraceHistory.{story}
 use Rattle.bus_story.specs.Outcomes.{Outcome, outcomes, ended_good, ended_check, ended_full, ended_lost, ended_reset, ended_aborted}
@@ -13,16 +13,16 @@ use Rattle.bus_story.specs.Samples.{expected_strikes, row_strikes}
 use Rattle.std.proofs.Common.{ℕ, ◌≡◌, Bool, true, false, List, [], ◌∷◌, reverse, refl}
 use Rattle.std.specs.Prelude.{Option, Some, None}
 use lib.Count.{ones}
-use Rattle.bus_base.specs.declared.ProcId.{ProcId}
-use Rattle.bus_base.specs.declared.AbortKind.TheVariants as aborts
-use Rattle.bus_base.specs.declared.Event.{Event}
-use Rattle.bus_base.specs.declared.Event.TheVariants as events
-use Rattle.bus_base.specs.declared.events.Pick.TheVariants as picks
-use Rattle.scenario.specs.declared.value.Policy.TheVariants as policies
-use Rattle.scenario.specs.declared.value.Tag.TheVariants as tags
-use Rattle.scenario.specs.declared.value.Payload.TheVariants as payloads
-use Rattle.scenario.specs.Value.{ScenarioValue}
-use Rattle.scenario.specs.Needs.{need_of, sent_of}
+use Rattle.bus_phases.specs.bus_base.specs.declared.ProcId.{ProcId}
+use Rattle.bus_phases.specs.bus_base.specs.declared.AbortKind.TheVariants as aborts
+use Rattle.bus_phases.specs.bus_base.specs.declared.Event.{Event}
+use Rattle.bus_phases.specs.bus_base.specs.declared.Event.TheVariants as events
+use Rattle.bus_phases.specs.bus_base.specs.declared.events.Pick.TheVariants as picks
+use Rattle.disk_array.specs.scenario.specs.declared.value.Policy.TheVariants as policies
+use Rattle.disk_array.specs.scenario.specs.declared.value.Tag.TheVariants as tags
+use Rattle.disk_array.specs.scenario.specs.declared.value.Payload.TheVariants as payloads
+use Rattle.disk_array.specs.scenario.specs.Value.{ScenarioValue}
+use Rattle.disk_array.specs.scenario.specs.Needs.{need_of, sent_of}
 
 abbrev drive : ℕ → ℕ → ℕ → Row
 drive time dev lines = record { time = time; dev = dev; kind = Drives (set_of lines) }

@@ -1,19 +1,19 @@
 -- The budget, valid commands and room, computed on scenarios of one read of five blocks; and an agreement.
 use Rattle.std.proofs.Common.{ℕ, ◌≡◌, true, false, List, [], ◌∷◌, reverse, refl}
 use lib.Count.{ones}
-use Rattle.bus_base.specs.declared.events.Pick.TheVariants as picks
-use Rattle.scenario.specs.declared.value.CmdDef.{CmdDef}
-use Rattle.scenario.specs.declared.value.FaultDef.{FaultDef}
-use Rattle.scenario.specs.declared.value.ResetDef.{ResetDef}
-use Rattle.scenario.specs.declared.value.Policy.{Policy}
-use Rattle.scenario.specs.declared.value.Policy.TheVariants as policies
-use Rattle.scenario.specs.declared.value.Tag.TheVariants as tags
-use Rattle.scenario.specs.declared.value.Payload.TheVariants as payloads
-use Rattle.scenario.specs.Value.{ScenarioValue}
-use Rattle.scenario.specs.Needs.{need_of}
-use Rattle.bus_trace.specs.LineSet.{line_of}
-use Rattle.bus_trace.specs.View.{union_below}
-use Rattle.msg_grammar.specs.Messages.{form_out, form_in}
+use Rattle.bus_phases.specs.bus_base.specs.declared.events.Pick.TheVariants as picks
+use Rattle.disk_array.specs.scenario.specs.declared.value.CmdDef.{CmdDef}
+use Rattle.disk_array.specs.scenario.specs.declared.value.FaultDef.{FaultDef}
+use Rattle.disk_array.specs.scenario.specs.declared.value.ResetDef.{ResetDef}
+use Rattle.disk_array.specs.scenario.specs.declared.value.Policy.{Policy}
+use Rattle.disk_array.specs.scenario.specs.declared.value.Policy.TheVariants as policies
+use Rattle.disk_array.specs.scenario.specs.declared.value.Tag.TheVariants as tags
+use Rattle.disk_array.specs.scenario.specs.declared.value.Payload.TheVariants as payloads
+use Rattle.disk_array.specs.scenario.specs.Value.{ScenarioValue}
+use Rattle.disk_array.specs.scenario.specs.Needs.{need_of}
+use Rattle.bus_phases.specs.bus_trace.specs.LineSet.{line_of}
+use Rattle.bus_phases.specs.bus_trace.specs.View.{union_below}
+use Rattle.bus_phases.specs.msg_grammar.specs.Messages.{form_out, form_in}
 use Rattle.bus_story.specs.CurrentAgreement.{current_agreement}
 use Rattle.bus_story.proofs.Cases.{negotiation_run_rows}
 use Rattle.bus_story.specs.Budget.{budget}

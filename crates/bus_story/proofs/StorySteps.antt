@@ -1,30 +1,30 @@
 -- What one event, or one byte, leaves of what the story keeps: links, items and carried bytes.
-use Rattle.bus_base.specs.declared.Event.TheVariants as events
-use Rattle.bus_base.specs.declared.Event.{Event}
+use Rattle.bus_phases.specs.bus_base.specs.declared.Event.TheVariants as events
+use Rattle.bus_phases.specs.bus_base.specs.declared.Event.{Event}
 use Rattle.bus_story.specs.BusState.{RowReading}
 use Rattle.bus_story.specs.HistoryEvents.{carried_if}
 use Rattle.bus_story.specs.Items.{Item, abort, process, sense_item, is_open, count_item}
 use Rattle.bus_story.specs.Links.{Link, last_out, link_of}
 use Rattle.bus_story.specs.Story.{Story, story_after_events, Ending, by_abort, by_reset, is_aborted, is_sense_stopped, story_with_over, story_with_end, with_check, story_with_ends, story_after_event, story_with_end_if}
 use Rattle.bus_story.specs.TraceHistory.{aim_of, carried_after_byte_if, is_parity_error, story_after_byte, story_after_connection, story_after_out, story_with_carried, story_with_restored, story_with_sent, story_after_calling_by, story_with_try, story_without_answer, story_after_calling, retries_of, story_with_aim, is_counted, story_on_free_bus, story_after_fault, carried_after_fault_if}
-use Rattle.bus_trace.specs.declared.connection.Connection.{Connection}
-use Rattle.msg_grammar.specs.declared.message.MsgOut.{MsgOut}
-use Rattle.scenario.specs.Value.{ScenarioValue}
+use Rattle.bus_phases.specs.bus_trace.specs.declared.connection.Connection.{Connection}
+use Rattle.bus_phases.specs.msg_grammar.specs.declared.message.MsgOut.{MsgOut}
+use Rattle.disk_array.specs.scenario.specs.Value.{ScenarioValue}
 use Rattle.std.proofs.Common.{Bool, List, None, Option, Some, [], false, refl, true, ◌∙◌, ◌∷◌, ◌≡◌, ℕ, ◌+◌, not, ◌&&◌, ◌++◌, ◌==◌}
 use Rattle.std.specs.Prelude.{if◌then◌else◌, is_none, nat_lt}
 use Rattle.std.specs.List.{list_any}
-use Rattle.bus_base.specs.declared.ProcId.{ProcId}
-use Rattle.cdb_codec.specs.declared.status.TheConstants.{CHECK_CONDITION}
-use Rattle.scenario.specs.declared.value.CmdDef.{CmdDef}
+use Rattle.bus_phases.specs.bus_base.specs.declared.ProcId.{ProcId}
+use Rattle.disk_array.specs.cdb_codec.specs.declared.status.TheConstants.{CHECK_CONDITION}
+use Rattle.disk_array.specs.scenario.specs.declared.value.CmdDef.{CmdDef}
 use Rattle.bus_story.specs.CarriedBytes.{CarriedBytes, carried_after_message}
-use Rattle.bus_trace.specs.declared.selection.Calling.{Calling}
-use Rattle.bus_trace.specs.declared.selection.Call.{Call}
-use Rattle.bus_trace.specs.declared.Row.{Row}
-use Rattle.bus_trace.specs.Changes.{falls, rises}
-use Rattle.msg_grammar.specs.declared.message.MsgIn.{MsgIn}
-use Rattle.msg_grammar.specs.declared.message.MsgIn.TheVariants as to_initiator
-use Rattle.bus_trace.specs.declared.Kind.{Kind}
-use Rattle.bus_trace.specs.declared.Kind.TheVariants.{Fault, Drives}
+use Rattle.bus_phases.specs.bus_trace.specs.declared.selection.Calling.{Calling}
+use Rattle.bus_phases.specs.bus_trace.specs.declared.selection.Call.{Call}
+use Rattle.bus_phases.specs.bus_trace.specs.declared.Row.{Row}
+use Rattle.bus_phases.specs.bus_trace.specs.Changes.{falls, rises}
+use Rattle.bus_phases.specs.msg_grammar.specs.declared.message.MsgIn.{MsgIn}
+use Rattle.bus_phases.specs.msg_grammar.specs.declared.message.MsgIn.TheVariants as to_initiator
+use Rattle.bus_phases.specs.bus_trace.specs.declared.Kind.{Kind}
+use Rattle.bus_phases.specs.bus_trace.specs.declared.Kind.TheVariants.{Fault, Drives}
 
 pub ends_keep : (drops stops : CmdDef → Bool) (e : Ending) (n : ℕ) (commands : List CmdDef) (b : Story) → ((story_with_ends drops stops e n commands b).carried ≡ b.carried) × ((story_with_ends drops stops e n commands b).link ≡ b.link)
 ends_keep drops stops e n [] b = (refl, refl)

@@ -1,15 +1,15 @@
 -- The budget of a run: a bound on the steps of its devices that depends on the scenario alone.
 use Rattle.std.specs.Prelude.{ℕ, ◌+◌, ◌-◌, ◌*◌, ◌/◌, max, ◌==◌, List, [], ◌∷◌, length, Option, Some, None, Result, Ok, Err, nat_le, if◌then◌else◌}
 use Rattle.std.specs.List.{find}
-use Rattle.cdb_codec.specs.declared.command.Command.{Command}
-use Rattle.cdb_codec.specs.declared.command.CdbFault.{CdbFault}
-use Rattle.cdb_codec.specs.Cdb.{command_of}
-use Rattle.scenario.specs.declared.value.CmdDef.{CmdDef}
-use Rattle.scenario.specs.declared.value.TargetDef.{TargetDef}
-use Rattle.scenario.specs.declared.value.Policy.{Policy}
-use Rattle.scenario.specs.declared.value.Policy.TheVariants as policies
-use Rattle.scenario.specs.Value.{ScenarioValue}
-use Rattle.scenario.specs.Needs.{need_of}
+use Rattle.disk_array.specs.cdb_codec.specs.declared.command.Command.{Command}
+use Rattle.disk_array.specs.cdb_codec.specs.declared.command.CdbFault.{CdbFault}
+use Rattle.disk_array.specs.cdb_codec.specs.Cdb.{command_of}
+use Rattle.disk_array.specs.scenario.specs.declared.value.CmdDef.{CmdDef}
+use Rattle.disk_array.specs.scenario.specs.declared.value.TargetDef.{TargetDef}
+use Rattle.disk_array.specs.scenario.specs.declared.value.Policy.{Policy}
+use Rattle.disk_array.specs.scenario.specs.declared.value.Policy.TheVariants as policies
+use Rattle.disk_array.specs.scenario.specs.Value.{ScenarioValue}
+use Rattle.disk_array.specs.scenario.specs.Needs.{need_of}
 use Rattle.disk_array.specs.Execution.{range_of}
 
 -- ---- data runs: how often a command may come back to move data, by the policy of its target

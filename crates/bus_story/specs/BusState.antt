@@ -1,20 +1,20 @@
 -- The bus after some rows, and what a row does on it. The terms are those of `bus_rules`, kept from row to row.
 use Rattle.std.specs.Prelude.{◌%◌, Bool, true, false, List, [], ◌∷◌, ◌++◌, replicate, slice_set, Option, Some, None, is_some, if◌then◌else◌}
-use Rattle.bus_trace.specs.LineSet.{LineSet, none}
-use Rattle.bus_trace.specs.View.{driven_at, union_all}
-use Rattle.bus_trace.specs.Trace.{driven_after}
-use Rattle.bus_trace.specs.declared.Row.{Row}
-use Rattle.msg_grammar.specs.declared.message.Got.{Got}
-use Rattle.msg_grammar.specs.declared.message.Got.TheVariants.{Whole, More, Unknown}
-use Rattle.msg_grammar.specs.declared.message.MsgOut.{MsgOut}
-use Rattle.msg_grammar.specs.declared.message.MsgIn.{MsgIn}
-use Rattle.msg_grammar.specs.Messages.{got_out, got_in}
-use Rattle.bus_trace.specs.declared.changes.Change.{Change}
-use Rattle.bus_trace.specs.declared.selection.Call.{Call}
-use Rattle.bus_trace.specs.declared.connection.Connection.{Connection}
+use Rattle.bus_phases.specs.bus_trace.specs.LineSet.{LineSet, none}
+use Rattle.bus_phases.specs.bus_trace.specs.View.{driven_at, union_all}
+use Rattle.bus_phases.specs.bus_trace.specs.Trace.{driven_after}
+use Rattle.bus_phases.specs.bus_trace.specs.declared.Row.{Row}
+use Rattle.bus_phases.specs.msg_grammar.specs.declared.message.Got.{Got}
+use Rattle.bus_phases.specs.msg_grammar.specs.declared.message.Got.TheVariants.{Whole, More, Unknown}
+use Rattle.bus_phases.specs.msg_grammar.specs.declared.message.MsgOut.{MsgOut}
+use Rattle.bus_phases.specs.msg_grammar.specs.declared.message.MsgIn.{MsgIn}
+use Rattle.bus_phases.specs.msg_grammar.specs.Messages.{got_out, got_in}
+use Rattle.bus_phases.specs.bus_trace.specs.declared.changes.Change.{Change}
+use Rattle.bus_phases.specs.bus_trace.specs.declared.selection.Call.{Call}
+use Rattle.bus_phases.specs.bus_trace.specs.declared.connection.Connection.{Connection}
 use Rattle.bus_phases.specs.declared.dialogue.Dialogue.{Dialogue}
-use Rattle.bus_trace.specs.Terms.{call_after, connection_after, receiver_of}
-use Rattle.bus_trace.specs.Phases.{is_message_out, is_message_in}
+use Rattle.bus_phases.specs.bus_trace.specs.Terms.{call_after, connection_after, receiver_of}
+use Rattle.bus_phases.specs.bus_trace.specs.Phases.{is_message_out, is_message_in}
 use Rattle.bus_phases.specs.Dialogue.{asynchronous, opened, dialogue_after, fresh_bytes}
 use Rattle.bus_story.specs.PairAgreements.{PairAgreement, agreement_in, agreements_at_end}
 

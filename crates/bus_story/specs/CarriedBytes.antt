@@ -1,12 +1,12 @@
 -- What the bytes of a process carried: its command block, its data and its status, by its pointers (6.4, 6.6.19, 6.6.20).
 use Rattle.std.specs.Prelude.{ℕ, ◌+◌, Bool, true, false, not, ◌&&◌, ◌==◌, List, [], ◌∷◌, ◌++◌, length, slice_set, Option, Some, None, nat_lt, if◌then◌else◌}
-use Rattle.bus_base.specs.declared.ProcId.{ProcId}
-use Rattle.bus_trace.specs.LineSet.{LineSet}
-use Rattle.msg_grammar.specs.declared.message.MsgIn.{MsgIn}
-use Rattle.msg_grammar.specs.declared.message.MsgIn.TheVariants as to_initiator
-use Rattle.bus_trace.specs.Phases.{is_data, is_command}
-use Rattle.cdb_codec.specs.declared.sense.TheConstants.{PARITY_ERROR, INITIATOR_DETECTED_ERROR}
-use Rattle.cdb_codec.specs.Cdb.{has_group_len}
+use Rattle.bus_phases.specs.bus_base.specs.declared.ProcId.{ProcId}
+use Rattle.bus_phases.specs.bus_trace.specs.LineSet.{LineSet}
+use Rattle.bus_phases.specs.msg_grammar.specs.declared.message.MsgIn.{MsgIn}
+use Rattle.bus_phases.specs.msg_grammar.specs.declared.message.MsgIn.TheVariants as to_initiator
+use Rattle.bus_phases.specs.bus_trace.specs.Phases.{is_data, is_command}
+use Rattle.disk_array.specs.cdb_codec.specs.declared.sense.TheConstants.{PARITY_ERROR, INITIATOR_DETECTED_ERROR}
+use Rattle.disk_array.specs.cdb_codec.specs.Cdb.{has_group_len}
 use Rattle.disk_array.specs.Processes.{same_id}
 
 -- An area: the bytes by position, and the active and the saved pointer.

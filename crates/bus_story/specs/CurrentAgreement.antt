@@ -1,9 +1,9 @@
 -- The agreement of an initiator and a target on synchronous data transfer (6.6.21), by the rows so far.
 use Rattle.std.specs.Prelude.{ℕ, ◌&&◌, ◌==◌, List, Option, Some, None, if◌then◌else◌}
-use Rattle.bus_trace.specs.declared.agreements.Agreement.{Agreement}
-use Rattle.bus_trace.specs.declared.Row.{Row}
-use Rattle.bus_trace.specs.declared.connection.Connection.{Connection}
-use Rattle.bus_trace.specs.Terms.{connection}
+use Rattle.bus_phases.specs.bus_trace.specs.declared.agreements.Agreement.{Agreement}
+use Rattle.bus_phases.specs.bus_trace.specs.declared.Row.{Row}
+use Rattle.bus_phases.specs.bus_trace.specs.declared.connection.Connection.{Connection}
+use Rattle.bus_phases.specs.bus_trace.specs.Terms.{connection}
 use Rattle.bus_phases.specs.Dialogue.{agreed, dialogue}
 
 -- In the connection that stands, what its messages have said so far; else what earlier connections agreed.

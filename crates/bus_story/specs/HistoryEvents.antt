@@ -1,16 +1,16 @@
 -- The events that a row shows, by what is known before it.
 use Rattle.std.specs.Prelude.{ℕ, zero, suc, Bool, true, false, not, ◌&&◌, List, [], ◌∷◌, slice_index, Option, Some, None, is_some, if◌then◌else◌}
 use Rattle.std.specs.List.{list_any}
-use Rattle.bus_base.specs.declared.ProcId.{ProcId}
-use Rattle.bus_base.specs.declared.Event.{Event}
-use Rattle.bus_base.specs.declared.Event.TheVariants as events
-use Rattle.bus_trace.specs.LineSet.{LineSet}
-use Rattle.bus_trace.specs.declared.Row.{Row}
-use Rattle.bus_trace.specs.declared.changes.Change.{Change}
-use Rattle.bus_trace.specs.Changes.{rises}
-use Rattle.bus_trace.specs.Phases.{is_command, is_message_in, changes_phase}
-use Rattle.scenario.specs.declared.value.AbortDef.{AbortDef}
-use Rattle.scenario.specs.Value.{ScenarioValue}
+use Rattle.bus_phases.specs.bus_base.specs.declared.ProcId.{ProcId}
+use Rattle.bus_phases.specs.bus_base.specs.declared.Event.{Event}
+use Rattle.bus_phases.specs.bus_base.specs.declared.Event.TheVariants as events
+use Rattle.bus_phases.specs.bus_trace.specs.LineSet.{LineSet}
+use Rattle.bus_phases.specs.bus_trace.specs.declared.Row.{Row}
+use Rattle.bus_phases.specs.bus_trace.specs.declared.changes.Change.{Change}
+use Rattle.bus_phases.specs.bus_trace.specs.Changes.{rises}
+use Rattle.bus_phases.specs.bus_trace.specs.Phases.{is_command, is_message_in, changes_phase}
+use Rattle.disk_array.specs.scenario.specs.declared.value.AbortDef.{AbortDef}
+use Rattle.disk_array.specs.scenario.specs.Value.{ScenarioValue}
 use Rattle.disk_array.specs.ArrayHistory.{array_after}
 use Rattle.bus_story.specs.BusState.{RowReading}
 use Rattle.bus_story.specs.Items.{Item, process, abort}

@@ -1,11 +1,11 @@
 -- What an initiator sends next.
 use Rattle.std.specs.Prelude.{ℕ, ◌+◌, Bool, true, false, not, ◌&&◌, ◌||◌, ◌==◌, List, [], ◌∷◌, length, Option, Some, None, nat_le, nat_lt, if◌then◌else◌}
 use Rattle.std.specs.List.{list_any}
-use Rattle.bus_base.specs.declared.ProcId.{ProcId}
-use Rattle.scenario.specs.declared.value.HostDef.{HostDef}
-use Rattle.scenario.specs.declared.value.CmdDef.{CmdDef}
-use Rattle.scenario.specs.declared.value.AbortDef.{AbortDef}
-use Rattle.scenario.specs.Value.{ScenarioValue}
+use Rattle.bus_phases.specs.bus_base.specs.declared.ProcId.{ProcId}
+use Rattle.disk_array.specs.scenario.specs.declared.value.HostDef.{HostDef}
+use Rattle.disk_array.specs.scenario.specs.declared.value.CmdDef.{CmdDef}
+use Rattle.disk_array.specs.scenario.specs.declared.value.AbortDef.{AbortDef}
+use Rattle.disk_array.specs.scenario.specs.Value.{ScenarioValue}
 use Rattle.disk_array.specs.Processes.{command_at, same_id}
 use Rattle.disk_array.specs.Order.{tag_number}
 

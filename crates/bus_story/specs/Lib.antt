@@ -11,3 +11,8 @@ pub mod Samples
 pub mod Outcomes
 pub mod Right
 pub mod Budget
+-- Handed on to the crates above that list this one and not these.
+pub use Rattle.bus_phases.specs.bus_trace
+pub use Rattle.bus_phases.specs.msg_grammar
+pub use Rattle.bus_phases
+pub use Rattle.disk_array

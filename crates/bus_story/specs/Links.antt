@@ -1,11 +1,11 @@
 -- The connection that stands: to which process or abort it belongs, and what its last message was.
 use Rattle.std.specs.Prelude.{ℕ, ◌+◌, Bool, not, ◌&&◌, ◌==◌, List, [], ◌∷◌, Option, Some, None, if◌then◌else◌}
-use Rattle.scenario.specs.declared.value.CmdDef.{CmdDef}
-use Rattle.msg_grammar.specs.declared.message.MsgOut.{MsgOut}
-use Rattle.msg_grammar.specs.declared.message.MsgOut.TheVariants as to_target
-use Rattle.msg_grammar.specs.declared.message.MsgIn.{MsgIn}
-use Rattle.msg_grammar.specs.declared.message.MsgIn.TheVariants as to_initiator
-use Rattle.bus_trace.specs.declared.connection.Connection.{Connection}
+use Rattle.disk_array.specs.scenario.specs.declared.value.CmdDef.{CmdDef}
+use Rattle.bus_phases.specs.msg_grammar.specs.declared.message.MsgOut.{MsgOut}
+use Rattle.bus_phases.specs.msg_grammar.specs.declared.message.MsgOut.TheVariants as to_target
+use Rattle.bus_phases.specs.msg_grammar.specs.declared.message.MsgIn.{MsgIn}
+use Rattle.bus_phases.specs.msg_grammar.specs.declared.message.MsgIn.TheVariants as to_initiator
+use Rattle.bus_phases.specs.bus_trace.specs.declared.connection.Connection.{Connection}
 use Rattle.bus_story.specs.Items.{Item, Sent, has_item, command_item, sense_item, is_open}
 use Rattle.bus_story.specs.CarriedBytes.{CarriedBytes}
 use Rattle.disk_array.specs.Order.{same_number, tag_number}

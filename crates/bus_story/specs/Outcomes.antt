@@ -1,20 +1,20 @@
 -- How each command ended, as its initiator knows it; and which commands and scenarios must end well.
 use Rattle.std.specs.Prelude.{ℕ, ◌+◌, Bool, true, false, not, ◌&&◌, ◌||◌, ◌==◌, List, [], ◌∷◌, slice_index, Option, Some, None, Result, Ok, Err, nat_le, if◌then◌else◌}
 use Rattle.std.specs.List.{list_any}
-use Rattle.bus_base.specs.declared.ProcId.{ProcId}
-use Rattle.bus_base.specs.declared.Event.{Event}
-use Rattle.bus_base.specs.declared.Event.TheVariants as events
-use Rattle.cdb_codec.specs.declared.Sense.{Sense}
-use Rattle.cdb_codec.specs.declared.operation.TheConstants.{REQUEST_SENSE, INQUIRY}
-use Rattle.cdb_codec.specs.declared.status.TheConstants.{GOOD, QUEUE_FULL}
-use Rattle.cdb_codec.specs.declared.command.Command.{Command}
-use Rattle.cdb_codec.specs.declared.command.CdbFault.{CdbFault}
-use Rattle.cdb_codec.specs.Cdb.{command_of}
-use Rattle.scenario.specs.declared.value.HostDef.{HostDef}
-use Rattle.scenario.specs.declared.value.UnitDef.{UnitDef}
-use Rattle.scenario.specs.declared.value.CmdDef.{CmdDef}
-use Rattle.scenario.specs.Value.{ScenarioValue}
-use Rattle.scenario.specs.Lookups.{has_target, unit_of}
+use Rattle.bus_phases.specs.bus_base.specs.declared.ProcId.{ProcId}
+use Rattle.bus_phases.specs.bus_base.specs.declared.Event.{Event}
+use Rattle.bus_phases.specs.bus_base.specs.declared.Event.TheVariants as events
+use Rattle.disk_array.specs.cdb_codec.specs.declared.Sense.{Sense}
+use Rattle.disk_array.specs.cdb_codec.specs.declared.operation.TheConstants.{REQUEST_SENSE, INQUIRY}
+use Rattle.disk_array.specs.cdb_codec.specs.declared.status.TheConstants.{GOOD, QUEUE_FULL}
+use Rattle.disk_array.specs.cdb_codec.specs.declared.command.Command.{Command}
+use Rattle.disk_array.specs.cdb_codec.specs.declared.command.CdbFault.{CdbFault}
+use Rattle.disk_array.specs.cdb_codec.specs.Cdb.{command_of}
+use Rattle.disk_array.specs.scenario.specs.declared.value.HostDef.{HostDef}
+use Rattle.disk_array.specs.scenario.specs.declared.value.UnitDef.{UnitDef}
+use Rattle.disk_array.specs.scenario.specs.declared.value.CmdDef.{CmdDef}
+use Rattle.disk_array.specs.scenario.specs.Value.{ScenarioValue}
+use Rattle.disk_array.specs.scenario.specs.Lookups.{has_target, unit_of}
 use Rattle.disk_array.specs.Processes.{same_id}
 use Rattle.disk_array.specs.Execution.{Reply, is_opcode, range_of, is_good_range}
 use Rattle.disk_array.specs.ArrayHistory.{array_after, reply_of}

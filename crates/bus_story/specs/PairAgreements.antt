@@ -1,8 +1,8 @@
 -- The agreements on synchronous data transfer (6.6.21) from one connection to the next: a pair that is not named is
 -- asynchronous.
 use Rattle.std.specs.Prelude.{ℕ, Bool, ◌&&◌, ◌==◌, List, [], ◌∷◌, Option, Some, None, if◌then◌else◌}
-use Rattle.bus_trace.specs.declared.agreements.Agreement.{Agreement}
-use Rattle.bus_trace.specs.declared.connection.Connection.{Connection}
+use Rattle.bus_phases.specs.bus_trace.specs.declared.agreements.Agreement.{Agreement}
+use Rattle.bus_phases.specs.bus_trace.specs.declared.connection.Connection.{Connection}
 use Rattle.bus_phases.specs.declared.spoken.Spoken.{Spoken}
 use Rattle.bus_phases.specs.Dialogue.{asynchronous}
 

@@ -3,14 +3,14 @@
 -- own bytes.
 use Rattle.std.specs.Prelude.{ℕ, ◌≡◌, Bool, true, false, not, ◌&&◌, ◌||◌, ◌==◌, List, [], ◌∷◌, reverse, Option, Some, None, is_some, if◌then◌else◌}
 use Rattle.std.specs.List.{list_any}
-use Rattle.bus_base.specs.declared.ProcId.{ProcId}
-use Rattle.bus_base.specs.declared.Event.{Event}
-use Rattle.bus_base.specs.declared.Event.TheVariants as events
-use Rattle.bus_trace.specs.declared.Row.{Row}
-use Rattle.cdb_codec.specs.declared.status.TheConstants.{GOOD}
-use Rattle.cdb_codec.specs.Cdb.{command_of}
-use Rattle.scenario.specs.Value.{ScenarioValue}
-use Rattle.scenario.specs.Needs.{is_write}
+use Rattle.bus_phases.specs.bus_base.specs.declared.ProcId.{ProcId}
+use Rattle.bus_phases.specs.bus_base.specs.declared.Event.{Event}
+use Rattle.bus_phases.specs.bus_base.specs.declared.Event.TheVariants as events
+use Rattle.bus_phases.specs.bus_trace.specs.declared.Row.{Row}
+use Rattle.disk_array.specs.cdb_codec.specs.declared.status.TheConstants.{GOOD}
+use Rattle.disk_array.specs.cdb_codec.specs.Cdb.{command_of}
+use Rattle.disk_array.specs.scenario.specs.Value.{ScenarioValue}
+use Rattle.disk_array.specs.scenario.specs.Needs.{is_write}
 use Rattle.disk_array.specs.Processes.{Process, process_of, same_id}
 use Rattle.disk_array.specs.Contents.{Contents}
 use Rattle.disk_array.specs.Execution.{Reply}

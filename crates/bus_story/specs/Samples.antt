@@ -1,19 +1,19 @@
 -- What is sampled, where and when; and which samples the faults of a scenario strike.
 use Rattle.std.specs.Prelude.{ℕ, ◌+◌, Bool, ◌&&◌, ◌||◌, ◌==◌, List, [], ◌∷◌, Option, Some, None, is_none, nat_le, nat_lt, if◌then◌else◌}
 use Rattle.std.specs.List.{find}
-use Rattle.bus_trace.specs.declared.Row.{Row}
-use Rattle.bus_trace.specs.declared.Kind.{Kind}
-use Rattle.bus_trace.specs.declared.Kind.TheVariants.{Drives, Fault}
-use Rattle.bus_trace.specs.declared.changes.Change.{Change}
-use Rattle.bus_trace.specs.declared.delays.TheConstants.{BUS_SETTLE_DELAY}
-use Rattle.bus_trace.specs.declared.selection.Call.{Call}
-use Rattle.bus_trace.specs.declared.selection.Calling.{Calling}
-use Rattle.bus_trace.specs.Changes.{rises, falls, change_of}
-use Rattle.bus_trace.specs.Terms.{call, receiver}
-use Rattle.scenario.specs.declared.value.HostDef.{HostDef}
-use Rattle.scenario.specs.declared.value.TargetDef.{TargetDef}
-use Rattle.scenario.specs.declared.value.FaultDef.{FaultDef}
-use Rattle.scenario.specs.Value.{ScenarioValue}
+use Rattle.bus_phases.specs.bus_trace.specs.declared.Row.{Row}
+use Rattle.bus_phases.specs.bus_trace.specs.declared.Kind.{Kind}
+use Rattle.bus_phases.specs.bus_trace.specs.declared.Kind.TheVariants.{Drives, Fault}
+use Rattle.bus_phases.specs.bus_trace.specs.declared.changes.Change.{Change}
+use Rattle.bus_phases.specs.bus_trace.specs.declared.delays.TheConstants.{BUS_SETTLE_DELAY}
+use Rattle.bus_phases.specs.bus_trace.specs.declared.selection.Call.{Call}
+use Rattle.bus_phases.specs.bus_trace.specs.declared.selection.Calling.{Calling}
+use Rattle.bus_phases.specs.bus_trace.specs.Changes.{rises, falls, change_of}
+use Rattle.bus_phases.specs.bus_trace.specs.Terms.{call, receiver}
+use Rattle.disk_array.specs.scenario.specs.declared.value.HostDef.{HostDef}
+use Rattle.disk_array.specs.scenario.specs.declared.value.TargetDef.{TargetDef}
+use Rattle.disk_array.specs.scenario.specs.declared.value.FaultDef.{FaultDef}
+use Rattle.disk_array.specs.scenario.specs.Value.{ScenarioValue}
 
 -- A byte that crossed, at its receiver; or the IDs, at a called device.
 pub record Sample : Type 0 where

@@ -1,14 +1,14 @@
 -- What is known after some rows, and how an event ends what is open.
 use Rattle.std.specs.Prelude.{ℕ, ◌+◌, Bool, true, false, not, ◌&&◌, ◌||◌, ◌==◌, List, [], ◌∷◌, ◌++◌, replicate, Option, None, if◌then◌else◌}
 use Rattle.std.specs.List.{list_any}
-use Rattle.bus_base.specs.declared.ProcId.{ProcId}
-use Rattle.bus_base.specs.declared.AbortKind.{AbortKind}
-use Rattle.bus_base.specs.declared.AbortKind.TheVariants as aborts
-use Rattle.bus_base.specs.declared.Event.{Event}
-use Rattle.bus_base.specs.declared.Event.TheVariants as events
-use Rattle.cdb_codec.specs.declared.status.TheConstants.{CHECK_CONDITION}
-use Rattle.scenario.specs.declared.value.CmdDef.{CmdDef}
-use Rattle.scenario.specs.Value.{ScenarioValue}
+use Rattle.bus_phases.specs.bus_base.specs.declared.ProcId.{ProcId}
+use Rattle.bus_phases.specs.bus_base.specs.declared.AbortKind.{AbortKind}
+use Rattle.bus_phases.specs.bus_base.specs.declared.AbortKind.TheVariants as aborts
+use Rattle.bus_phases.specs.bus_base.specs.declared.Event.{Event}
+use Rattle.bus_phases.specs.bus_base.specs.declared.Event.TheVariants as events
+use Rattle.disk_array.specs.cdb_codec.specs.declared.status.TheConstants.{CHECK_CONDITION}
+use Rattle.disk_array.specs.scenario.specs.declared.value.CmdDef.{CmdDef}
+use Rattle.disk_array.specs.scenario.specs.Value.{ScenarioValue}
 use Rattle.disk_array.specs.Steps.{has_tag}
 use Rattle.bus_story.specs.BusState.{BusState, quiet_bus}
 use Rattle.bus_story.specs.Items.{Item, process, Sent, sense_item, is_open}

@@ -1,20 +1,20 @@
 -- What the rows of a scenario's trace tell: its history, and what each process carried. Each row tells by the rows
 -- before it; nothing is asked of a device.
 use Rattle.std.specs.Prelude.{ℕ, zero, suc, ◌%◌, Bool, true, false, not, ◌&&◌, ◌==◌, List, [], ◌∷◌, ◌++◌, slice_set, Option, Some, None, is_some, is_none, nat_lt, if◌then◌else◌}
-use Rattle.bus_base.specs.declared.Event.{Event}
-use Rattle.bus_trace.specs.declared.Row.{Row}
-use Rattle.bus_trace.specs.declared.Kind.{Kind}
-use Rattle.bus_trace.specs.declared.Kind.TheVariants.{Drives, Fault}
-use Rattle.bus_trace.specs.declared.changes.Change.{Change}
-use Rattle.bus_trace.specs.declared.selection.Call.{Call}
-use Rattle.bus_trace.specs.declared.selection.Calling.{Calling}
-use Rattle.bus_trace.specs.declared.connection.Connection.{Connection}
-use Rattle.bus_trace.specs.Changes.{rises, falls}
-use Rattle.msg_grammar.specs.declared.message.MsgOut.{MsgOut}
-use Rattle.msg_grammar.specs.declared.message.MsgOut.TheVariants as to_target
-use Rattle.msg_grammar.specs.declared.message.MsgIn.{MsgIn}
-use Rattle.scenario.specs.declared.value.HostDef.{HostDef}
-use Rattle.scenario.specs.Value.{ScenarioValue}
+use Rattle.bus_phases.specs.bus_base.specs.declared.Event.{Event}
+use Rattle.bus_phases.specs.bus_trace.specs.declared.Row.{Row}
+use Rattle.bus_phases.specs.bus_trace.specs.declared.Kind.{Kind}
+use Rattle.bus_phases.specs.bus_trace.specs.declared.Kind.TheVariants.{Drives, Fault}
+use Rattle.bus_phases.specs.bus_trace.specs.declared.changes.Change.{Change}
+use Rattle.bus_phases.specs.bus_trace.specs.declared.selection.Call.{Call}
+use Rattle.bus_phases.specs.bus_trace.specs.declared.selection.Calling.{Calling}
+use Rattle.bus_phases.specs.bus_trace.specs.declared.connection.Connection.{Connection}
+use Rattle.bus_phases.specs.bus_trace.specs.Changes.{rises, falls}
+use Rattle.bus_phases.specs.msg_grammar.specs.declared.message.MsgOut.{MsgOut}
+use Rattle.bus_phases.specs.msg_grammar.specs.declared.message.MsgOut.TheVariants as to_target
+use Rattle.bus_phases.specs.msg_grammar.specs.declared.message.MsgIn.{MsgIn}
+use Rattle.disk_array.specs.scenario.specs.declared.value.HostDef.{HostDef}
+use Rattle.disk_array.specs.scenario.specs.Value.{ScenarioValue}
 use Rattle.bus_story.specs.BusState.{BusState, RowReading, row_reading, bus_state_after}
 use Rattle.bus_story.specs.Items.{Item, process, abort, count_item, item_at}
 use Rattle.bus_story.specs.Links.{Link, link_of, last_out, last_in, link_after_name}

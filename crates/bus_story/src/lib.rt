@@ -13,8 +13,8 @@
 mod messages;
 
 ghost use Rattle.std.specs.Prelude.{◌≡◌, List, [], ◌∷◌, ◌++◌};
-ghost use Rattle.bus_trace.specs.declared.Row.{Row};
-ghost use Rattle.scenario.specs.Value.{ScenarioValue};
+ghost use Rattle.bus_phases.specs.bus_trace.specs.declared.Row.{Row};
+ghost use Rattle.disk_array.specs.scenario.specs.Value.{ScenarioValue};
 ghost use Rattle.bus_story.specs.Story.{empty_story};
 ghost use Rattle.bus_story.specs.TraceHistory.{story, story_after, row_events, trace_history};
 
@@ -39,3 +39,7 @@ pub fn rows_carry()
     ensures { (s : ScenarioValue) (rows others : List Row) → rows ≡ others
         → (story s rows).carried ≡ (story s others).carried }
 {}
+
+// Handed on to the crates above that list this one and not these.
+pub use bus_phases as the_bus_phases;
+pub use bus_phases::{the_bus_trace, the_msg_grammar};

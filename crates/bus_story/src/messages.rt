@@ -1,14 +1,14 @@
 //! The message that a byte makes whole.
 ghost use Rattle.std.specs.Prelude.{◌≡◌};
-ghost use Rattle.msg_grammar.specs.declared.message.Got.{Got};
+ghost use Rattle.bus_phases.specs.msg_grammar.specs.declared.message.Got.{Got};
 ghost use Rattle.bus_phases.specs.Dialogue.{fresh_bytes};
 ghost use Rattle.bus_story.specs.BusState.{whole_out, whole_in, message_out, message_in};
 ghost use Rattle.bus_story.specs.CarriedBytes.{is_status_phase};
 ghost use Rattle.bus_story.specs.TraceHistory.{is_parity_error};
 
+use bus_phases::the_bus_trace::{Change, Lines, is_message_in, is_message_out};
+use bus_phases::the_msg_grammar::{Got, MsgIn, MsgOut};
 use bus_phases::{Dialogue, Half};
-use bus_trace::{Change, Lines, is_message_in, is_message_out};
-use msg_grammar::{Got, MsgIn, MsgOut};
 
 fn whole_out(got: Got<MsgOut>) -> Option<MsgOut>
     ensures { result ≡ whole_out got }

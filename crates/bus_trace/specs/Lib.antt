@@ -7,3 +7,5 @@ pub mod OfTrace
 pub mod Changes
 pub mod Terms
 pub mod Phases
+-- Handed on to the crates above that list this one and not these.
+pub use Rattle.bus_base

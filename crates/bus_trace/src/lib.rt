@@ -57,3 +57,6 @@ pub use phases::{changes_phase, is_command, is_data, is_message_in, is_message_o
 pub use rows::{Kind, Row};
 pub use scsi_id::ScsiId;
 pub use selection::{Call, Calling, call_after, drives_two_ids, is_fault, when};
+
+// Handed on to the crates above that list this one and not these.
+pub use bus_base as the_bus_base;

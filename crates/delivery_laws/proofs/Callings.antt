@@ -6,46 +6,46 @@ use Rattle.std.specs.List.{list_any}
 use Rattle.std.proofs.lemmas.Bool.{cases_eq, eqb-true}
 use Rattle.std.proofs.lemmas.Bool.Decides.{nat_tests}
 use Rattle.std.proofs.lemmas.Option.{same_Some}
-use Rattle.bus_base.specs.declared.Event.{Event}
-use Rattle.bus_base.specs.declared.Event.TheVariants as events
-use Rattle.cdb_codec.specs.declared.status.TheConstants.{CHECK_CONDITION}
-use Rattle.bus_base.proofs.Tests.{wrong, wrong', and_false, and_first, and_second, none_between}
-use Rattle.bus_trace.specs.LineSet.{LineSet, none, union}
-use Rattle.bus_trace.specs.declared.Row.{Row}
-use Rattle.bus_trace.specs.declared.Kind.{Kind}
-use Rattle.bus_trace.specs.declared.Kind.TheVariants.{Drives}
-use Rattle.bus_trace.specs.declared.changes.Change.{Change}
-use Rattle.bus_trace.specs.declared.connection.Connection.{Connection}
-use Rattle.bus_trace.specs.declared.selection.Call.{Call}
-use Rattle.bus_trace.specs.declared.selection.Calling.{Calling}
-use Rattle.bus_trace.specs.Changes.{change_of, rises, falls}
-use Rattle.bus_trace.specs.Terms.{call, calling_after, caller_goes_on, called_goes_on, connection, drives_two_ids, is_fault, new_calling, when}
-use Rattle.bus_trace.specs.Trace.{bus, drives, driven_after, line_times}
-use Rattle.bus_trace.proofs.Buses.{bus_on}
-use Rattle.bus_trace.proofs.OneRow.{drives-other}
-use Rattle.bus_trace.proofs.Sets.{same_set-eq}
-use Rattle.bus_lines.specs.declared.stage.Stage.TheVariants.{InCalling}
-use Rattle.bus_lines.specs.Stage.{stage}
-use Rattle.bus_rules.specs.Reset.{only_rst}
-use Rattle.bus_rules.specs.Rules.{broken_rule}
-use Rattle.bus_rules.proofs.First.{row_none}
-use Rattle.scenario.specs.declared.value.CmdDef.{CmdDef}
-use Rattle.scenario.specs.Lookups.{has_target}
-use Rattle.scenario.specs.Value.{ScenarioValue}
-use Rattle.scenario.specs.Writing.{Obeys}
-use Rattle.disk_array.specs.Processes.{command_at, process_if}
-use Rattle.bus_story.specs.BusState.{RowReading, row_reading}
-use Rattle.bus_story.specs.HistoryEvents.{row_events_by}
-use Rattle.bus_story.specs.Items.{Item, process, abort, same_item, count_item, is_open, command_id, command_item, sense_item}
-use Rattle.bus_story.specs.Links.{link_of}
-use Rattle.bus_story.specs.Samples.{latency_of}
-use Rattle.bus_story.specs.Outcomes.{ending_of}
-use Rattle.bus_story.specs.Story.{Story, Ending, by_status, by_abort, by_reset, unanswered, story_with_over, story_with_end, story_with_ends, is_aborted, is_sense_stopped, story_after_event, story_after_events, story_with_end_if}
-use Rattle.bus_story.specs.TraceHistory.{aim_of, is_arbitration_entry, retries_of, story_after_calling, story_after_calling_by, story_after_connection, story_by_change, story_on_bus, story_on_free_bus, story_with_aim, story_with_restored, story_with_sent, story_with_try, story_without_answer}
-use Rattle.bus_story.proofs.StorySteps.{events_aims, restored_aims, sent_aims}
-use Rattle.bus_reactions.specs.declared.due.Due.{Due}
-use Rattle.bus_dialogue.specs.PhaseBytes.{one_if}
-use Rattle.bus_books.proofs.Aims.{connected_aims}
+use Rattle.bus_due.specs.bus_base.specs.declared.Event.{Event}
+use Rattle.bus_due.specs.bus_base.specs.declared.Event.TheVariants as events
+use Rattle.bus_due.specs.cdb_codec.specs.declared.status.TheConstants.{CHECK_CONDITION}
+use Rattle.bus_due.specs.bus_base.proofs.Tests.{wrong, wrong', and_false, and_first, and_second, none_between}
+use Rattle.bus_due.specs.bus_trace.specs.LineSet.{LineSet, none, union}
+use Rattle.bus_due.specs.bus_trace.specs.declared.Row.{Row}
+use Rattle.bus_due.specs.bus_trace.specs.declared.Kind.{Kind}
+use Rattle.bus_due.specs.bus_trace.specs.declared.Kind.TheVariants.{Drives}
+use Rattle.bus_due.specs.bus_trace.specs.declared.changes.Change.{Change}
+use Rattle.bus_due.specs.bus_trace.specs.declared.connection.Connection.{Connection}
+use Rattle.bus_due.specs.bus_trace.specs.declared.selection.Call.{Call}
+use Rattle.bus_due.specs.bus_trace.specs.declared.selection.Calling.{Calling}
+use Rattle.bus_due.specs.bus_trace.specs.Changes.{change_of, rises, falls}
+use Rattle.bus_due.specs.bus_trace.specs.Terms.{call, calling_after, caller_goes_on, called_goes_on, connection, drives_two_ids, is_fault, new_calling, when}
+use Rattle.bus_due.specs.bus_trace.specs.Trace.{bus, drives, driven_after, line_times}
+use Rattle.bus_due.specs.bus_trace.proofs.Buses.{bus_on}
+use Rattle.bus_due.specs.bus_trace.proofs.OneRow.{drives-other}
+use Rattle.bus_due.specs.bus_trace.proofs.Sets.{same_set-eq}
+use Rattle.bus_due.specs.bus_lines.specs.declared.stage.Stage.TheVariants.{InCalling}
+use Rattle.bus_due.specs.bus_lines.specs.Stage.{stage}
+use Rattle.bus_due.specs.bus_rules.specs.Reset.{only_rst}
+use Rattle.bus_due.specs.bus_rules.specs.Rules.{broken_rule}
+use Rattle.bus_due.specs.bus_rules.proofs.First.{row_none}
+use Rattle.bus_due.specs.scenario.specs.declared.value.CmdDef.{CmdDef}
+use Rattle.bus_due.specs.scenario.specs.Lookups.{has_target}
+use Rattle.bus_due.specs.scenario.specs.Value.{ScenarioValue}
+use Rattle.bus_due.specs.scenario.specs.Writing.{Obeys}
+use Rattle.bus_due.specs.disk_array.specs.Processes.{command_at, process_if}
+use Rattle.bus_due.specs.bus_story.specs.BusState.{RowReading, row_reading}
+use Rattle.bus_due.specs.bus_story.specs.HistoryEvents.{row_events_by}
+use Rattle.bus_due.specs.bus_story.specs.Items.{Item, process, abort, same_item, count_item, is_open, command_id, command_item, sense_item}
+use Rattle.bus_due.specs.bus_story.specs.Links.{link_of}
+use Rattle.bus_due.specs.bus_story.specs.Samples.{latency_of}
+use Rattle.bus_due.specs.bus_story.specs.Outcomes.{ending_of}
+use Rattle.bus_due.specs.bus_story.specs.Story.{Story, Ending, by_status, by_abort, by_reset, unanswered, story_with_over, story_with_end, story_with_ends, is_aborted, is_sense_stopped, story_after_event, story_after_events, story_with_end_if}
+use Rattle.bus_due.specs.bus_story.specs.TraceHistory.{aim_of, is_arbitration_entry, retries_of, story_after_calling, story_after_calling_by, story_after_connection, story_by_change, story_on_bus, story_on_free_bus, story_with_aim, story_with_restored, story_with_sent, story_with_try, story_without_answer}
+use Rattle.bus_due.specs.bus_story.proofs.StorySteps.{events_aims, restored_aims, sent_aims}
+use Rattle.bus_due.specs.bus_reactions.specs.declared.due.Due.{Due}
+use Rattle.bus_due.specs.bus_dialogue.specs.PhaseBytes.{one_if}
+use Rattle.trace_laws.specs.bus_books.proofs.Aims.{connected_aims}
 use Rattle.bus_due.specs.Least.{IsLeast}
 use Rattle.bus_due.specs.Next.{due, IsPrompt}
 use Rattle.bus_due.specs.Plain.{AreOfDevices, IsPlain}
@@ -53,19 +53,19 @@ use Rattle.bus_due.specs.RunState.{RunState}
 use Rattle.bus_due.specs.RunSteps.{run_state}
 use Rattle.bus_due.specs.Wants.{initiator_if, ready_of, target_if, target_of}
 use Rattle.bus_due.proofs.Plains.{run_state_plain}
-use Rattle.bus_laws.specs.Callings.{answer_lines, begun_call, calling_lines, awaiting_call, both_ids, won_call}
-use Rattle.bus_laws.specs.Reactions.{own_time, unreset_due}
-use Rattle.bus_laws.specs.Rows.{row_of_lines}
-use Rattle.bus_laws.specs.Stages.{HasShortLatencies, CalmStanding, BusStage, on_free_bus, in_arbitration, after_arbitration, with_both_ids, awaiting_answer, after_withdrawal, after_answer, after_takeover, in_reset, in_connection, AwaitsAnswer, Calls}
-use Rattle.bus_laws.proofs.Apart.{change_plain}
-use Rattle.bus_laws.proofs.CallDues.{asks_due, answers_due, waits_due, flip_at}
-use Rattle.bus_laws.proofs.Dues.{is_there, is_at}
-use Rattle.bus_laws.proofs.FromCalling.{answer_exists, ids_not_zero}
-use Rattle.bus_laws.proofs.Limits.{obeys_latencies}
-use Rattle.bus_laws.proofs.Prompt.{least_is}
-use Rattle.bus_laws.proofs.Rows.{drives_own, stage_is}
-use Rattle.bus_laws.proofs.Together.{reset_or_calm, by_reset, by_calm}
-use Rattle.link_laws.proofs.Traces.{sides_are}
+use Rattle.trace_laws.specs.bus_laws.specs.Callings.{answer_lines, begun_call, calling_lines, awaiting_call, both_ids, won_call}
+use Rattle.trace_laws.specs.bus_laws.specs.Reactions.{own_time, unreset_due}
+use Rattle.trace_laws.specs.bus_laws.specs.Rows.{row_of_lines}
+use Rattle.trace_laws.specs.bus_laws.specs.Stages.{HasShortLatencies, CalmStanding, BusStage, on_free_bus, in_arbitration, after_arbitration, with_both_ids, awaiting_answer, after_withdrawal, after_answer, after_takeover, in_reset, in_connection, AwaitsAnswer, Calls}
+use Rattle.trace_laws.specs.bus_laws.proofs.Apart.{change_plain}
+use Rattle.trace_laws.specs.bus_laws.proofs.CallDues.{asks_due, answers_due, waits_due, flip_at}
+use Rattle.trace_laws.specs.bus_laws.proofs.Dues.{is_there, is_at}
+use Rattle.trace_laws.specs.bus_laws.proofs.FromCalling.{answer_exists, ids_not_zero}
+use Rattle.trace_laws.specs.bus_laws.proofs.Limits.{obeys_latencies}
+use Rattle.trace_laws.specs.bus_laws.proofs.Prompt.{least_is}
+use Rattle.trace_laws.specs.bus_laws.proofs.Rows.{drives_own, stage_is}
+use Rattle.trace_laws.specs.bus_laws.proofs.Together.{reset_or_calm, by_reset, by_calm}
+use Rattle.trace_laws.specs.link_laws.proofs.Traces.{sides_are}
 use Rattle.trace_laws.proofs.Called.{IsDueCall, sel_of_call}
 use Rattle.trace_laws.proofs.FirstRows.{quiet_sel, under_rst}
 use Rattle.trace_laws.proofs.Impossible.{none_some}
@@ -74,8 +74,8 @@ use Rattle.trace_laws.proofs.OpenCommands.{item_is}
 use Rattle.trace_laws.proofs.PointerWaits.{connection_sent}
 use Rattle.trace_laws.proofs.UnderRst.{quiet_at_end}
 use Rattle.trace_laws.proofs.Whole.{whole}
-use Rattle.fault_laws.proofs.Calls.{Follows, calling_follows, GoesOn, call_goes}
-use Rattle.fault_laws.proofs.Moments.{apart_of, linked_of, reset_of}
+use Rattle.right_laws.proofs.Calls.{Follows, calling_follows, GoesOn, call_goes}
+use Rattle.right_laws.proofs.Moments.{apart_of, linked_of, reset_of}
 use Rattle.progress_laws.proofs.Rooms.{target_there}
 use Rattle.delivery_laws.specs.Delivery.{is_selecting, is_for_item, is_call_for, is_calling_fault, calling_faults}
 

@@ -3,57 +3,57 @@ use Rattle.std.proofs.Common.{ℕ, ◌≡◌, Bool, true, false, not, ◌&&◌, 
 use Rattle.std.specs.Prelude.{if◌then◌else◌, is_some}
 use Rattle.std.specs.List.{list_all, list_any}
 use Rattle.std.proofs.lemmas.Bool.{and_from}
-use Rattle.bus_base.specs.declared.Event.{Event}
-use Rattle.bus_base.specs.declared.Event.TheVariants as events
-use Rattle.bus_base.proofs.Tests.{wrong, wrong', and_false, and_first, and_second}
-use Rattle.bus_trace.specs.LineSet.{LineSet, none}
-use Rattle.bus_trace.specs.View.{union_below}
-use Rattle.bus_trace.specs.declared.Row.{Row}
-use Rattle.bus_trace.specs.declared.changes.Change.{Change}
-use Rattle.bus_trace.specs.declared.connection.Connection.{Connection}
-use Rattle.bus_trace.specs.Changes.{rises}
-use Rattle.bus_trace.specs.Phases.{changes_phase, is_command}
-use Rattle.bus_trace.specs.Trace.{bus}
-use Rattle.scenario.specs.declared.value.AbortDef.{AbortDef}
-use Rattle.scenario.specs.declared.value.ResetDef.{ResetDef}
-use Rattle.scenario.specs.Value.{ScenarioValue}
-use Rattle.scenario.specs.Writing.{Obeys}
-use Rattle.disk_array.specs.ArrayHistory.{array_after}
-use Rattle.bus_story.specs.BusState.{RowReading, row_reading}
-use Rattle.bus_story.specs.CarriedBytes.{CarriedBytes, is_whole_block, is_status_phase}
-use Rattle.bus_story.specs.HistoryEvents.{abort_line_at, abort_line_events, bus_free_events, carried_if, end_events, is_completion, is_refuse, item_abort_events, item_loss_events, link_events, phase_events, queue_events, row_events_by, status_event, status_events}
-use Rattle.bus_story.specs.Items.{Item, process, abort}
-use Rattle.bus_story.specs.Links.{Link, LastMessage, plain, complete, disconnect, abortive}
-use Rattle.bus_story.specs.Samples.{latency_of}
-use Rattle.bus_story.specs.Story.{Story}
-use Rattle.bus_reactions.specs.Reset.{rst_assertion}
+use Rattle.bus_due.specs.bus_base.specs.declared.Event.{Event}
+use Rattle.bus_due.specs.bus_base.specs.declared.Event.TheVariants as events
+use Rattle.bus_due.specs.bus_base.proofs.Tests.{wrong, wrong', and_false, and_first, and_second}
+use Rattle.bus_due.specs.bus_trace.specs.LineSet.{LineSet, none}
+use Rattle.bus_due.specs.bus_trace.specs.View.{union_below}
+use Rattle.bus_due.specs.bus_trace.specs.declared.Row.{Row}
+use Rattle.bus_due.specs.bus_trace.specs.declared.changes.Change.{Change}
+use Rattle.bus_due.specs.bus_trace.specs.declared.connection.Connection.{Connection}
+use Rattle.bus_due.specs.bus_trace.specs.Changes.{rises}
+use Rattle.bus_due.specs.bus_trace.specs.Phases.{changes_phase, is_command}
+use Rattle.bus_due.specs.bus_trace.specs.Trace.{bus}
+use Rattle.bus_due.specs.scenario.specs.declared.value.AbortDef.{AbortDef}
+use Rattle.bus_due.specs.scenario.specs.declared.value.ResetDef.{ResetDef}
+use Rattle.bus_due.specs.scenario.specs.Value.{ScenarioValue}
+use Rattle.bus_due.specs.scenario.specs.Writing.{Obeys}
+use Rattle.bus_due.specs.disk_array.specs.ArrayHistory.{array_after}
+use Rattle.bus_due.specs.bus_story.specs.BusState.{RowReading, row_reading}
+use Rattle.bus_due.specs.bus_story.specs.CarriedBytes.{CarriedBytes, is_whole_block, is_status_phase}
+use Rattle.bus_due.specs.bus_story.specs.HistoryEvents.{abort_line_at, abort_line_events, bus_free_events, carried_if, end_events, is_completion, is_refuse, item_abort_events, item_loss_events, link_events, phase_events, queue_events, row_events_by, status_event, status_events}
+use Rattle.bus_due.specs.bus_story.specs.Items.{Item, process, abort}
+use Rattle.bus_due.specs.bus_story.specs.Links.{Link, LastMessage, plain, complete, disconnect, abortive}
+use Rattle.bus_due.specs.bus_story.specs.Samples.{latency_of}
+use Rattle.bus_due.specs.bus_story.specs.Story.{Story}
+use Rattle.bus_due.specs.bus_reactions.specs.Reset.{rst_assertion}
 use Rattle.bus_due.specs.Due.{reset_from}
 use Rattle.bus_due.specs.Least.{IsLeast}
 use Rattle.bus_due.specs.Next.{due, IsPrompt}
 use Rattle.bus_due.specs.Own.{own_of}
 use Rattle.bus_due.specs.RunState.{RunState}
 use Rattle.bus_due.specs.RunSteps.{run_state}
-use Rattle.scsi_device.proofs.FitLines.{obeys_fits}
-use Rattle.bus_laws.specs.Reactions.{reset_due, reset_due_if, unreset_due}
-use Rattle.bus_laws.specs.Stages.{HasShortLatencies, CalmStanding, BusStage, on_free_bus, in_arbitration, after_arbitration, with_both_ids, awaiting_answer, after_withdrawal, after_answer, after_takeover, in_reset, in_connection, is_connected}
-use Rattle.bus_laws.proofs.Apart.{change_plain}
-use Rattle.bus_laws.proofs.FromAnswer.{from_withdrawn, from_answered, from_resumed}
-use Rattle.bus_laws.proofs.FromArbitration.{from_arbitration}
-use Rattle.bus_laws.proofs.FromCalling.{from_calls, from_asking}
-use Rattle.bus_laws.proofs.FromFree.{from_free}
-use Rattle.bus_laws.proofs.FromWon.{from_won}
-use Rattle.bus_laws.proofs.Limits.{obeys_latencies}
-use Rattle.bus_laws.proofs.Prompt.{least_is}
-use Rattle.link_laws.specs.Books.{KeepsBooksIn}
-use Rattle.link_laws.specs.LinkStages.{AnyStage, apart, linked}
-use Rattle.link_laws.proofs.FromLink.{from_link}
-use Rattle.link_laws.proofs.PhaseEnds.{AfterLink, goes_on, frees}
-use Rattle.link_laws.proofs.RunLengths.{runs_are_short}
-use Rattle.link_laws.proofs.Traces.{link_calm}
+use Rattle.trace_laws.specs.scsi_device.proofs.FitLines.{obeys_fits}
+use Rattle.trace_laws.specs.bus_laws.specs.Reactions.{reset_due, reset_due_if, unreset_due}
+use Rattle.trace_laws.specs.bus_laws.specs.Stages.{HasShortLatencies, CalmStanding, BusStage, on_free_bus, in_arbitration, after_arbitration, with_both_ids, awaiting_answer, after_withdrawal, after_answer, after_takeover, in_reset, in_connection, is_connected}
+use Rattle.trace_laws.specs.bus_laws.proofs.Apart.{change_plain}
+use Rattle.trace_laws.specs.bus_laws.proofs.FromAnswer.{from_withdrawn, from_answered, from_resumed}
+use Rattle.trace_laws.specs.bus_laws.proofs.FromArbitration.{from_arbitration}
+use Rattle.trace_laws.specs.bus_laws.proofs.FromCalling.{from_calls, from_asking}
+use Rattle.trace_laws.specs.bus_laws.proofs.FromFree.{from_free}
+use Rattle.trace_laws.specs.bus_laws.proofs.FromWon.{from_won}
+use Rattle.trace_laws.specs.bus_laws.proofs.Limits.{obeys_latencies}
+use Rattle.trace_laws.specs.bus_laws.proofs.Prompt.{least_is}
+use Rattle.trace_laws.specs.link_laws.specs.Books.{KeepsBooksIn}
+use Rattle.trace_laws.specs.link_laws.specs.LinkStages.{AnyStage, apart, linked}
+use Rattle.trace_laws.specs.link_laws.proofs.FromLink.{from_link}
+use Rattle.trace_laws.specs.link_laws.proofs.PhaseEnds.{AfterLink, goes_on, frees}
+use Rattle.trace_laws.specs.link_laws.proofs.RunLengths.{runs_are_short}
+use Rattle.trace_laws.specs.link_laws.proofs.Traces.{link_calm}
 use Rattle.trace_laws.proofs.Impossible.{none_some}
 use Rattle.trace_laws.proofs.Joint.{Stood}
 use Rattle.trace_laws.proofs.Whole.{whole}
-use Rattle.fault_laws.proofs.ResetSamples.{CalmRow, resets, reacts, calm_row}
+use Rattle.right_laws.proofs.ResetSamples.{CalmRow, resets, reacts, calm_row}
 use Rattle.delivery_laws.specs.Delivery.{is_calm_event}
 
 -- ---- no row drives RST

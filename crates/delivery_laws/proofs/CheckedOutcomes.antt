@@ -3,35 +3,35 @@
 use Rattle.std.proofs.Common.{◌⊎◌, inl, inr, ℕ, ◌≡◌, Bool, true, false, ◌||◌, ◌∙◌, List, [], Option, Some, None, refl, sym, ap, subst}
 use Rattle.std.specs.Prelude.{◌==◌, is_some, nat_le, nat_lt}
 use Rattle.std.specs.List.{list_all}
-use Rattle.bus_base.specs.declared.Event.{Event}
-use Rattle.bus_base.specs.declared.Event.TheVariants as events
-use Rattle.bus_base.specs.declared.ProcId.{ProcId}
+use Rattle.bus_due.specs.bus_base.specs.declared.Event.{Event}
+use Rattle.bus_due.specs.bus_base.specs.declared.Event.TheVariants as events
+use Rattle.bus_due.specs.bus_base.specs.declared.ProcId.{ProcId}
 use Rattle.std.proofs.lemmas.Option.{same_Some}
-use Rattle.bus_base.proofs.Tests.{and_first, wrong, wrong'}
-use Rattle.bus_trace.specs.declared.Row.{Row}
-use Rattle.cdb_codec.specs.declared.Sense.{Sense}
-use Rattle.cdb_codec.specs.declared.status.TheConstants.{CHECK_CONDITION}
-use Rattle.scenario.specs.declared.value.CmdDef.{CmdDef}
-use Rattle.scenario.specs.Lookups.{has_target}
-use Rattle.scenario.specs.Value.{ScenarioValue}
-use Rattle.scenario.specs.Writing.{Obeys}
-use Rattle.disk_array.specs.ArrayHistory.{array_after, reply_in, reply_of}
-use Rattle.disk_array.specs.Execution.{Reply, check_condition}
-use Rattle.disk_array.specs.Processes.{command_at, process_by, process_if, same_id}
-use Rattle.disk_array.specs.Units.{Array}
-use Rattle.bus_story.specs.Items.{command_id, command_item, sense_id}
-use Rattle.bus_story.specs.Outcomes.{ended_check, ended_unanswered, ending_of, is_valid, outcome_by_status, outcome_if, outcome_of, sense_of_end}
-use Rattle.bus_story.specs.Story.{Ending, Story, by_abort, by_loss, by_reset, by_status, unanswered}
-use Rattle.bus_story.specs.TraceHistory.{retries_of, story}
-use Rattle.bus_dialogue.specs.NextPhase.{recovery_limit}
+use Rattle.bus_due.specs.bus_base.proofs.Tests.{and_first, wrong, wrong'}
+use Rattle.bus_due.specs.bus_trace.specs.declared.Row.{Row}
+use Rattle.bus_due.specs.cdb_codec.specs.declared.Sense.{Sense}
+use Rattle.bus_due.specs.cdb_codec.specs.declared.status.TheConstants.{CHECK_CONDITION}
+use Rattle.bus_due.specs.scenario.specs.declared.value.CmdDef.{CmdDef}
+use Rattle.bus_due.specs.scenario.specs.Lookups.{has_target}
+use Rattle.bus_due.specs.scenario.specs.Value.{ScenarioValue}
+use Rattle.bus_due.specs.scenario.specs.Writing.{Obeys}
+use Rattle.bus_due.specs.disk_array.specs.ArrayHistory.{array_after, reply_in, reply_of}
+use Rattle.bus_due.specs.disk_array.specs.Execution.{Reply, check_condition}
+use Rattle.bus_due.specs.disk_array.specs.Processes.{command_at, process_by, process_if, same_id}
+use Rattle.bus_due.specs.disk_array.specs.Units.{Array}
+use Rattle.bus_due.specs.bus_story.specs.Items.{command_id, command_item, sense_id}
+use Rattle.bus_due.specs.bus_story.specs.Outcomes.{ended_check, ended_unanswered, ending_of, is_valid, outcome_by_status, outcome_if, outcome_of, sense_of_end}
+use Rattle.bus_due.specs.bus_story.specs.Story.{Ending, Story, by_abort, by_loss, by_reset, by_status, unanswered}
+use Rattle.bus_due.specs.bus_story.specs.TraceHistory.{retries_of, story}
+use Rattle.bus_due.specs.bus_dialogue.specs.NextPhase.{recovery_limit}
 use Rattle.bus_due.specs.Defs.{target_def_of}
 use Rattle.bus_due.specs.Next.{IsEnded, IsPrompt}
 use Rattle.bus_due.specs.RunState.{RunState, array_of}
 use Rattle.bus_due.specs.RunSteps.{run_state}
 use Rattle.bus_due.specs.Telling.{same_event}
 use Rattle.bus_due.proofs.Plains.{prompt_plain}
-use Rattle.ending_causes.specs.FullQueues.{has_event}
-use Rattle.ending_causes.specs.WrongParity.{fault_rows}
+use Rattle.trace_laws.specs.bus_books.specs.FullQueues.{has_event}
+use Rattle.trace_laws.specs.bus_books.specs.WrongParity.{fault_rows}
 use Rattle.initiator.specs.Causes.{has_bus_reset, has_loss, has_sense_abort, has_sense_stop, has_status, is_bus_reset, is_command_abort, is_loss_of, is_sense_abort, is_status_of}
 use Rattle.progress_laws.proofs.Entries.{WantsAreItems}
 use Rattle.right_laws.proofs.Right.{all_joined}

@@ -2,21 +2,21 @@
 use Rattle.std.proofs.Common.{ℕ, inl, inr, ◌≡◌, ◌⊎◌, Bool, true, false, ◌||◌, ◌∙◌, List, [], ◌∷◌, ◌++◌, refl, ap}
 use Rattle.std.specs.Prelude.{if◌then◌else◌, ◌==◌}
 use Rattle.std.specs.List.{list_any}
-use Rattle.bus_base.specs.declared.Event.{Event}
-use Rattle.bus_base.specs.declared.Event.TheVariants as events
-use Rattle.bus_base.specs.declared.ProcId.{ProcId}
-use Rattle.bus_base.proofs.Tests.{and_first, and_second, eq_self, wrong'}
-use Rattle.bus_trace.specs.declared.Row.{Row}
-use Rattle.cdb_codec.specs.declared.status.TheConstants.{CHECK_CONDITION}
-use Rattle.scenario.specs.Value.{ScenarioValue}
-use Rattle.disk_array.specs.Processes.{same_id}
-use Rattle.bus_story.specs.BusState.{RowReading, row_reading}
-use Rattle.bus_story.specs.HistoryEvents.{row_events_by}
-use Rattle.bus_story.specs.Items.{Sent, command_id}
-use Rattle.bus_story.specs.Story.{Story, by_status, story_after_event, story_after_events, story_with_end, with_check}
-use Rattle.bus_story.specs.TraceHistory.{story_by_change}
+use Rattle.bus_due.specs.bus_base.specs.declared.Event.{Event}
+use Rattle.bus_due.specs.bus_base.specs.declared.Event.TheVariants as events
+use Rattle.bus_due.specs.bus_base.specs.declared.ProcId.{ProcId}
+use Rattle.bus_due.specs.bus_base.proofs.Tests.{and_first, and_second, eq_self, wrong'}
+use Rattle.bus_due.specs.bus_trace.specs.declared.Row.{Row}
+use Rattle.bus_due.specs.cdb_codec.specs.declared.status.TheConstants.{CHECK_CONDITION}
+use Rattle.bus_due.specs.scenario.specs.Value.{ScenarioValue}
+use Rattle.bus_due.specs.disk_array.specs.Processes.{same_id}
+use Rattle.bus_due.specs.bus_story.specs.BusState.{RowReading, row_reading}
+use Rattle.bus_due.specs.bus_story.specs.HistoryEvents.{row_events_by}
+use Rattle.bus_due.specs.bus_story.specs.Items.{Sent, command_id}
+use Rattle.bus_due.specs.bus_story.specs.Story.{Story, by_status, story_after_event, story_after_events, story_with_end, with_check}
+use Rattle.bus_due.specs.bus_story.specs.TraceHistory.{story_by_change}
 use Rattle.bus_due.specs.RunSteps.{run_state}
-use Rattle.bus_books.proofs.Lookups.{id_is}
+use Rattle.trace_laws.specs.bus_books.proofs.Lookups.{id_is}
 use Rattle.trace_laws.proofs.OverItems.{events_grow}
 use Rattle.progress_laws.proofs.OwedRows.{changed}
 use Rattle.initiator.specs.Causes.{has_status, is_status_of}

@@ -5,14 +5,14 @@ use Rattle.std.specs.Prelude.{if◌then◌else◌, ◌==◌, ⊤}
 use Rattle.std.proofs.lemmas.Bool.{and_from, eqb-true}
 use Rattle.std.proofs.lemmas.Bool.Decides.{nat_tests}
 use Rattle.std.proofs.lemmas.Option.{same_Some}
-use Rattle.bus_base.proofs.Tests.{and_first, and_second, eq_self, plus_none, wrong'}
-use Rattle.scenario.specs.declared.value.CmdDef.{CmdDef}
-use Rattle.scenario.specs.declared.value.HostDef.{HostDef}
-use Rattle.disk_array.specs.Processes.{Process, command_at, same_bool, same_id}
-use Rattle.disk_array.specs.Seats.{is_initiator}
-use Rattle.bus_story.specs.Items.{Sent, is_open, open_from, open_limit_of}
-use Rattle.bus_story.specs.Outcomes.{most_open}
-use Rattle.bus_dialogue.specs.PhaseBytes.{one_if}
+use Rattle.bus_due.specs.bus_base.proofs.Tests.{and_first, and_second, eq_self, plus_none, wrong'}
+use Rattle.bus_due.specs.scenario.specs.declared.value.CmdDef.{CmdDef}
+use Rattle.bus_due.specs.scenario.specs.declared.value.HostDef.{HostDef}
+use Rattle.bus_due.specs.disk_array.specs.Processes.{Process, command_at, same_bool, same_id}
+use Rattle.bus_due.specs.disk_array.specs.Seats.{is_initiator}
+use Rattle.bus_due.specs.bus_story.specs.Items.{Sent, is_open, open_from, open_limit_of}
+use Rattle.bus_due.specs.bus_story.specs.Outcomes.{most_open}
+use Rattle.bus_due.specs.bus_dialogue.specs.PhaseBytes.{one_if}
 use Rattle.trace_laws.specs.ItemFacts.{AllP}
 use Rattle.trace_laws.proofs.Impossible.{none_some}
 use Rattle.trace_laws.proofs.Tests.{plus_one}

@@ -5,25 +5,25 @@ use Rattle.std.specs.List.{find, list_all, list_any}
 use Rattle.std.proofs.lemmas.Bool.{and_parts, or_left, or_right, and_from}
 use Rattle.std.proofs.lemmas.Bool.Decides.{nat_tests}
 use Rattle.std.proofs.Math.Nat.{min-le_left, min-le_right}
-use Rattle.bus_base.specs.declared.Event.{Event}
-use Rattle.bus_base.specs.declared.Event.TheVariants as events
-use Rattle.bus_base.specs.declared.ProcId.{ProcId}
-use Rattle.bus_base.proofs.Tests.{and_first, eq_self, plus_none, wrong, wrong'}
-use Rattle.bus_trace.specs.declared.Row.{Row}
-use Rattle.cdb_codec.specs.declared.status.TheConstants.{GOOD}
-use Rattle.scenario.specs.declared.value.CmdDef.{CmdDef}
-use Rattle.scenario.specs.declared.value.TargetDef.{TargetDef}
-use Rattle.scenario.specs.Lookups.{has_target}
-use Rattle.scenario.specs.Value.{ScenarioValue}
-use Rattle.scenario.specs.Writing.{Obeys}
-use Rattle.disk_array.specs.ArrayHistory.{array_after}
-use Rattle.disk_array.specs.Processes.{Process, command_at, process_by, process_if, process_of, same_id}
-use Rattle.disk_array.specs.Units.{Array}
-use Rattle.bus_story.specs.Items.{command_id, command_item}
-use Rattle.bus_story.specs.Outcomes.{Outcome, ending_of, is_valid, is_sound_command, outcome_by_status, outcome_if, outcome_of, outcomes, outcomes_from}
-use Rattle.bus_story.specs.Story.{Ending, Story, by_abort, by_loss, by_reset, by_status, unanswered}
-use Rattle.bus_story.specs.TraceHistory.{retries_of, story}
-use Rattle.bus_dialogue.specs.NextPhase.{recovery_limit}
+use Rattle.bus_due.specs.bus_base.specs.declared.Event.{Event}
+use Rattle.bus_due.specs.bus_base.specs.declared.Event.TheVariants as events
+use Rattle.bus_due.specs.bus_base.specs.declared.ProcId.{ProcId}
+use Rattle.bus_due.specs.bus_base.proofs.Tests.{and_first, eq_self, plus_none, wrong, wrong'}
+use Rattle.bus_due.specs.bus_trace.specs.declared.Row.{Row}
+use Rattle.bus_due.specs.cdb_codec.specs.declared.status.TheConstants.{GOOD}
+use Rattle.bus_due.specs.scenario.specs.declared.value.CmdDef.{CmdDef}
+use Rattle.bus_due.specs.scenario.specs.declared.value.TargetDef.{TargetDef}
+use Rattle.bus_due.specs.scenario.specs.Lookups.{has_target}
+use Rattle.bus_due.specs.scenario.specs.Value.{ScenarioValue}
+use Rattle.bus_due.specs.scenario.specs.Writing.{Obeys}
+use Rattle.bus_due.specs.disk_array.specs.ArrayHistory.{array_after}
+use Rattle.bus_due.specs.disk_array.specs.Processes.{Process, command_at, process_by, process_if, process_of, same_id}
+use Rattle.bus_due.specs.disk_array.specs.Units.{Array}
+use Rattle.bus_due.specs.bus_story.specs.Items.{command_id, command_item}
+use Rattle.bus_due.specs.bus_story.specs.Outcomes.{Outcome, ending_of, is_valid, is_sound_command, outcome_by_status, outcome_if, outcome_of, outcomes, outcomes_from}
+use Rattle.bus_due.specs.bus_story.specs.Story.{Ending, Story, by_abort, by_loss, by_reset, by_status, unanswered}
+use Rattle.bus_due.specs.bus_story.specs.TraceHistory.{retries_of, story}
+use Rattle.bus_due.specs.bus_dialogue.specs.NextPhase.{recovery_limit}
 use Rattle.bus_due.specs.Defs.{target_def_of}
 use Rattle.bus_due.specs.Goals.{is_good}
 use Rattle.bus_due.specs.Next.{IsPrompt, IsEnded}
@@ -32,9 +32,9 @@ use Rattle.bus_due.specs.RunState.{RunState, array_of, or_start}
 use Rattle.bus_due.specs.RunSteps.{run_state}
 use Rattle.bus_due.specs.Telling.{same_event}
 use Rattle.bus_due.proofs.Plains.{prompt_plain}
-use Rattle.cdb_codec.specs.Cdb.{command_of}
-use Rattle.ending_causes.specs.FullQueues.{has_event}
-use Rattle.ending_causes.specs.WrongParity.{fault_rows, has_more_faults}
+use Rattle.bus_due.specs.cdb_codec.specs.Cdb.{command_of}
+use Rattle.trace_laws.specs.bus_books.specs.FullQueues.{has_event}
+use Rattle.trace_laws.specs.bus_books.specs.WrongParity.{fault_rows, has_more_faults}
 use Rattle.trace_laws.proofs.Impossible.{none_some}
 use Rattle.trace_laws.proofs.Tests.{plus_one}
 use Rattle.trace_laws.proofs.Whole.{Whole, whole}

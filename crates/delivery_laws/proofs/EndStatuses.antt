@@ -2,20 +2,20 @@
 use Rattle.std.proofs.Common.{ℕ, ◌≡◌, Bool, true, false, ◌||◌, List, [], ◌∷◌, Option, Some, None, refl, subst}
 use Rattle.std.specs.Prelude.{◌==◌}
 use Rattle.std.proofs.lemmas.Bool.{eqb-true}
-use Rattle.bus_base.specs.declared.Event.{Event}
-use Rattle.bus_base.specs.declared.Event.TheVariants as events
-use Rattle.bus_base.specs.declared.ProcId.{ProcId}
-use Rattle.bus_base.proofs.Tests.{and_first, and_second, wrong'}
-use Rattle.bus_trace.specs.declared.Row.{Row}
-use Rattle.scenario.specs.Value.{ScenarioValue}
-use Rattle.scenario.specs.Writing.{Obeys}
-use Rattle.disk_array.specs.ArrayHistory.{reply_in}
-use Rattle.disk_array.specs.Execution.{Reply}
-use Rattle.disk_array.specs.Processes.{same_id}
+use Rattle.bus_due.specs.bus_base.specs.declared.Event.{Event}
+use Rattle.bus_due.specs.bus_base.specs.declared.Event.TheVariants as events
+use Rattle.bus_due.specs.bus_base.specs.declared.ProcId.{ProcId}
+use Rattle.bus_due.specs.bus_base.proofs.Tests.{and_first, and_second, wrong'}
+use Rattle.bus_due.specs.bus_trace.specs.declared.Row.{Row}
+use Rattle.bus_due.specs.scenario.specs.Value.{ScenarioValue}
+use Rattle.bus_due.specs.scenario.specs.Writing.{Obeys}
+use Rattle.bus_due.specs.disk_array.specs.ArrayHistory.{reply_in}
+use Rattle.bus_due.specs.disk_array.specs.Execution.{Reply}
+use Rattle.bus_due.specs.disk_array.specs.Processes.{same_id}
 use Rattle.bus_due.specs.Next.{IsPrompt}
 use Rattle.bus_due.specs.RunState.{RunState, array_of, carried_here}
 use Rattle.bus_due.specs.RunSteps.{run_state}
-use Rattle.bus_books.proofs.Lookups.{id_is}
+use Rattle.trace_laws.specs.bus_books.proofs.Lookups.{id_is}
 use Rattle.trace_laws.specs.Statuses.{IsStatusIn, IsStatusOf}
 use Rattle.right_laws.specs.Open.{OnEvents}
 use Rattle.right_laws.specs.Runs.{HasEnded, IsEnded}

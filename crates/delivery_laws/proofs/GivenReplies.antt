@@ -3,24 +3,24 @@ use Rattle.std.proofs.Common.{◌≡◌, Bool, true, false, not, ◌&&◌, ◌||
 use Rattle.std.specs.Prelude.{if◌then◌else◌, ◌==◌, is_none, is_some}
 use Rattle.std.proofs.lemmas.Bool.{and_from, or_left, or_right}
 use Rattle.std.proofs.lemmas.Option.{same_Some}
-use Rattle.bus_base.specs.declared.Event.{Event}
-use Rattle.bus_base.specs.declared.Event.TheVariants as events
-use Rattle.bus_base.specs.declared.ProcId.{ProcId}
-use Rattle.bus_base.proofs.Tests.{eq_self}
-use Rattle.scenario.specs.Value.{ScenarioValue}
-use Rattle.scenario.specs.Writing.{Obeys}
-use Rattle.disk_array.specs.ArrayHistory.{array_after, array_step, reply_in}
-use Rattle.disk_array.specs.Execution.{Reply, aborted_reply, queue_full}
-use Rattle.disk_array.specs.Processes.{process_of, same_id}
-use Rattle.disk_array.specs.SoundArray.{IsSound}
-use Rattle.disk_array.specs.Steps as Steps
-use Rattle.disk_array.specs.Units.{Array, RunningProcess, guest_at, is_held, unit_state_at}
-use Rattle.disk_array.proofs.ArrayReplies.{abort_lists, end_lists, fail_lists, loss_lists, reset_lists, took}
-use Rattle.disk_array.proofs.SoundArrays.{history_sound}
-use Rattle.bus_books.proofs.Lookups.{id_is, self_id}
+use Rattle.bus_due.specs.bus_base.specs.declared.Event.{Event}
+use Rattle.bus_due.specs.bus_base.specs.declared.Event.TheVariants as events
+use Rattle.bus_due.specs.bus_base.specs.declared.ProcId.{ProcId}
+use Rattle.bus_due.specs.bus_base.proofs.Tests.{eq_self}
+use Rattle.bus_due.specs.scenario.specs.Value.{ScenarioValue}
+use Rattle.bus_due.specs.scenario.specs.Writing.{Obeys}
+use Rattle.bus_due.specs.disk_array.specs.ArrayHistory.{array_after, array_step, reply_in}
+use Rattle.bus_due.specs.disk_array.specs.Execution.{Reply, aborted_reply, queue_full}
+use Rattle.bus_due.specs.disk_array.specs.Processes.{process_of, same_id}
+use Rattle.bus_due.specs.disk_array.specs.SoundArray.{IsSound}
+use Rattle.bus_due.specs.disk_array.specs.Steps as Steps
+use Rattle.bus_due.specs.disk_array.specs.Units.{Array, RunningProcess, guest_at, is_held, unit_state_at}
+use Rattle.bus_due.specs.disk_array.proofs.ArrayReplies.{abort_lists, end_lists, fail_lists, loss_lists, reset_lists, took}
+use Rattle.bus_due.specs.disk_array.proofs.SoundArrays.{history_sound}
+use Rattle.trace_laws.specs.bus_books.proofs.Lookups.{id_is, self_id}
 use Rattle.bus_due.specs.Telling.{same_event}
-use Rattle.ending_causes.specs.FullQueues.{has_event}
-use Rattle.scsi_device.proofs.FitLines.{obeys_fits, seats_are}
+use Rattle.trace_laws.specs.bus_books.specs.FullQueues.{has_event}
+use Rattle.trace_laws.specs.scsi_device.proofs.FitLines.{obeys_fits, seats_are}
 use Rattle.trace_laws.proofs.Impossible.{none_some}
 use Rattle.trace_laws.proofs.ListedReplies.{accepted, refused as lists_refused, running_id, settles}
 use Rattle.trace_laws.proofs.OtherProcesses.{executed, reply_at}

@@ -3,31 +3,31 @@ use Rattle.std.proofs.Common.{ℕ, ◌≡◌, Bool, true, false, not, ◌&&◌, 
 use Rattle.std.specs.Prelude.{if◌then◌else◌, ◌==◌, is_some, slice_index}
 use Rattle.std.specs.List.{list_all}
 use Rattle.std.proofs.lemmas.Option.{same_Some}
-use Rattle.bus_base.specs.declared.Event.{Event}
-use Rattle.bus_base.specs.declared.Event.TheVariants as events
-use Rattle.bus_base.proofs.Tests.{and_second, wrong, wrong'}
-use Rattle.cdb_codec.specs.Cdb.{command_of, sized_of, fields_of, has_group_len}
-use Rattle.cdb_codec.specs.Operations.{operation_of}
-use Rattle.cdb_codec.specs.declared.command.CdbFault.{CdbFault}
-use Rattle.cdb_codec.specs.declared.command.CdbFault.TheVariants as faults
-use Rattle.cdb_codec.specs.declared.command.Command.{Command}
-use Rattle.cdb_codec.specs.declared.command.Command.TheVariants as commands
-use Rattle.cdb_codec.specs.declared.operation.Operation.{Operation}
-use Rattle.cdb_codec.specs.declared.operation.Operation.TheVariants as operations
-use Rattle.cdb_codec.specs.declared.operation.TheConstants.{INQUIRY, READ_10, READ_6, READ_CAPACITY, REQUEST_SENSE, TEST_UNIT_READY, WRITE_10, WRITE_6}
-use Rattle.scenario.specs.declared.value.CmdDef.{CmdDef}
-use Rattle.scenario.specs.declared.value.UnitDef.{UnitDef}
-use Rattle.scenario.specs.Lookups.{has_target, unit_of}
-use Rattle.scenario.specs.Value.{ScenarioValue}
-use Rattle.scenario.specs.Writing.{Obeys}
-use Rattle.disk_array.specs.Execution.{CommandContext, Reply, attention_execution, cdb_execution, check_condition, command_execution, execution, block_out_of_range, is_good_range, is_opcode, is_request_sense, needs_unit, range_of, range_execution, reply_execution, unit_not_supported}
-use Rattle.disk_array.specs.Processes.{command_at, process_by, process_if}
-use Rattle.disk_array.specs.Steps as Steps
-use Rattle.disk_array.specs.Units.{Array, Nexus, UnitState, nexus_of, unit_state_at}
-use Rattle.bus_story.specs.Items.{command_id}
-use Rattle.bus_story.specs.Outcomes.{fits_unit, is_sound_command, is_valid}
-use Rattle.target_units.specs.Rooms.{AreOfLines, IsOfLine}
-use Rattle.target_units.proofs.Rooms.{lines_always}
+use Rattle.bus_due.specs.bus_base.specs.declared.Event.{Event}
+use Rattle.bus_due.specs.bus_base.specs.declared.Event.TheVariants as events
+use Rattle.bus_due.specs.bus_base.proofs.Tests.{and_second, wrong, wrong'}
+use Rattle.bus_due.specs.cdb_codec.specs.Cdb.{command_of, sized_of, fields_of, has_group_len}
+use Rattle.bus_due.specs.cdb_codec.specs.Operations.{operation_of}
+use Rattle.bus_due.specs.cdb_codec.specs.declared.command.CdbFault.{CdbFault}
+use Rattle.bus_due.specs.cdb_codec.specs.declared.command.CdbFault.TheVariants as faults
+use Rattle.bus_due.specs.cdb_codec.specs.declared.command.Command.{Command}
+use Rattle.bus_due.specs.cdb_codec.specs.declared.command.Command.TheVariants as commands
+use Rattle.bus_due.specs.cdb_codec.specs.declared.operation.Operation.{Operation}
+use Rattle.bus_due.specs.cdb_codec.specs.declared.operation.Operation.TheVariants as operations
+use Rattle.bus_due.specs.cdb_codec.specs.declared.operation.TheConstants.{INQUIRY, READ_10, READ_6, READ_CAPACITY, REQUEST_SENSE, TEST_UNIT_READY, WRITE_10, WRITE_6}
+use Rattle.bus_due.specs.scenario.specs.declared.value.CmdDef.{CmdDef}
+use Rattle.bus_due.specs.scenario.specs.declared.value.UnitDef.{UnitDef}
+use Rattle.bus_due.specs.scenario.specs.Lookups.{has_target, unit_of}
+use Rattle.bus_due.specs.scenario.specs.Value.{ScenarioValue}
+use Rattle.bus_due.specs.scenario.specs.Writing.{Obeys}
+use Rattle.bus_due.specs.disk_array.specs.Execution.{CommandContext, Reply, attention_execution, cdb_execution, check_condition, command_execution, execution, block_out_of_range, is_good_range, is_opcode, is_request_sense, needs_unit, range_of, range_execution, reply_execution, unit_not_supported}
+use Rattle.bus_due.specs.disk_array.specs.Processes.{command_at, process_by, process_if}
+use Rattle.bus_due.specs.disk_array.specs.Steps as Steps
+use Rattle.bus_due.specs.disk_array.specs.Units.{Array, Nexus, UnitState, nexus_of, unit_state_at}
+use Rattle.bus_due.specs.bus_story.specs.Items.{command_id}
+use Rattle.bus_due.specs.bus_story.specs.Outcomes.{fits_unit, is_sound_command, is_valid}
+use Rattle.trace_laws.specs.target_units.specs.Rooms.{AreOfLines, IsOfLine}
+use Rattle.trace_laws.specs.target_units.proofs.Rooms.{lines_always}
 use Rattle.delivery_laws.specs.Delivery.{HasRun, checked_sense, fault_sense, is_calm_event}
 use Rattle.delivery_laws.proofs.ValidReplies.{calm_context, fair_after}
 

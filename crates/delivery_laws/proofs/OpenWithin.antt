@@ -5,30 +5,30 @@ use Rattle.std.specs.List.{list_any}
 use Rattle.std.proofs.lemmas.Bool.{and_from, eqb-true}
 use Rattle.std.proofs.lemmas.Bool.Decides.{nat_tests}
 use Rattle.std.proofs.lemmas.Option.{same_Some}
-use Rattle.bus_base.specs.declared.Event.{Event}
-use Rattle.bus_base.specs.declared.ProcId.{ProcId}
-use Rattle.bus_base.proofs.Tests.{and_first, and_second, eq_self, wrong, wrong'}
-use Rattle.bus_trace.specs.declared.Row.{Row}
-use Rattle.bus_trace.specs.declared.connection.Connection.{Connection}
-use Rattle.bus_trace.specs.Terms.{connection, connection_after}
-use Rattle.bus_trace.specs.Trace.{bus}
-use Rattle.scenario.specs.declared.value.CmdDef.{CmdDef}
-use Rattle.scenario.specs.Value.{ScenarioValue}
-use Rattle.scenario.specs.Writing.{Obeys}
-use Rattle.disk_array.specs.Processes.{command_at}
-use Rattle.bus_story.specs.BusState.{RowReading, row_reading}
-use Rattle.bus_story.specs.HistoryEvents.{row_events_by}
-use Rattle.bus_story.specs.Items.{Item, Sent, process, abort, command_item, is_clash, is_open, may_send, open_from, open_limit_of}
-use Rattle.bus_story.specs.Story.{Story, story_after_events}
-use Rattle.bus_story.specs.TraceHistory.{aim_of, story_by_change}
+use Rattle.bus_due.specs.bus_base.specs.declared.Event.{Event}
+use Rattle.bus_due.specs.bus_base.specs.declared.ProcId.{ProcId}
+use Rattle.bus_due.specs.bus_base.proofs.Tests.{and_first, and_second, eq_self, wrong, wrong'}
+use Rattle.bus_due.specs.bus_trace.specs.declared.Row.{Row}
+use Rattle.bus_due.specs.bus_trace.specs.declared.connection.Connection.{Connection}
+use Rattle.bus_due.specs.bus_trace.specs.Terms.{connection, connection_after}
+use Rattle.bus_due.specs.bus_trace.specs.Trace.{bus}
+use Rattle.bus_due.specs.scenario.specs.declared.value.CmdDef.{CmdDef}
+use Rattle.bus_due.specs.scenario.specs.Value.{ScenarioValue}
+use Rattle.bus_due.specs.scenario.specs.Writing.{Obeys}
+use Rattle.bus_due.specs.disk_array.specs.Processes.{command_at}
+use Rattle.bus_due.specs.bus_story.specs.BusState.{RowReading, row_reading}
+use Rattle.bus_due.specs.bus_story.specs.HistoryEvents.{row_events_by}
+use Rattle.bus_due.specs.bus_story.specs.Items.{Item, Sent, process, abort, command_item, is_clash, is_open, may_send, open_from, open_limit_of}
+use Rattle.bus_due.specs.bus_story.specs.Story.{Story, story_after_events}
+use Rattle.bus_due.specs.bus_story.specs.TraceHistory.{aim_of, story_by_change}
 use Rattle.bus_due.specs.Least.{IsLeast}
 use Rattle.bus_due.specs.Next.{due, IsPrompt}
 use Rattle.bus_due.specs.Plain.{IsPlain}
 use Rattle.bus_due.specs.RunState.{RunState}
 use Rattle.bus_due.specs.RunSteps.{run_state}
 use Rattle.bus_due.proofs.Plains.{run_state_plain}
-use Rattle.bus_laws.proofs.Apart.{change_plain}
-use Rattle.bus_laws.proofs.Prompt.{least_is}
+use Rattle.trace_laws.specs.bus_laws.proofs.Apart.{change_plain}
+use Rattle.trace_laws.specs.bus_laws.proofs.Prompt.{least_is}
 use Rattle.trace_laws.specs.ItemFacts.{IsNext, is_abort, is_sense, is_command}
 use Rattle.trace_laws.proofs.FreshItems.{calm_before}
 use Rattle.trace_laws.proofs.Impossible.{none_some}
@@ -199,7 +199,7 @@ none_open s dev = less_again (count_from (is_open_of (run_state s []).story.sent
 
     none : (n : ℕ) (commands : List CmdDef) → count_from (is_open_of (run_state s []).story.sent dev) n commands ≤ 0
     none n [] = omega arith
-    none n (c ∷ commands) = at_none _ (count_from (is_open_of (run_state s []).story.sent dev) (n + 1) commands) (ap Rattle.bus_dialogue.specs.PhaseBytes.one_if (off (c.host == dev))) (none (n + 1) commands)
+    none n (c ∷ commands) = at_none _ (count_from (is_open_of (run_state s []).story.sent dev) (n + 1) commands) (ap Rattle.bus_due.specs.bus_dialogue.specs.PhaseBytes.one_if (off (c.host == dev))) (none (n + 1) commands)
 
 pub open_within : (s : ScenarioValue) (p : List Row) → Obeys s → IsPrompt s p → IsWithin s (run_state s p).story.sent
 open_within s [] o prompt = none_open s

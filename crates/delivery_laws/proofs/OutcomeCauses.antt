@@ -3,30 +3,30 @@ use Rattle.std.proofs.Common.{ℕ, ◌≡◌, ◌⊎◌, inl, inr, ◌≤◌, �
 use Rattle.std.specs.Prelude.{if◌then◌else◌, ◌==◌, nat_lt}
 use Rattle.std.proofs.lemmas.Bool.{eqb-true}
 use Rattle.std.proofs.lemmas.Bool.Decides.{nat_tests}
-use Rattle.bus_base.specs.declared.Event.{Event}
-use Rattle.bus_base.specs.declared.Event.TheVariants as events
-use Rattle.bus_base.specs.declared.ProcId.{ProcId}
-use Rattle.bus_base.proofs.Tests.{wrong, wrong'}
-use Rattle.bus_trace.specs.declared.Row.{Row}
-use Rattle.cdb_codec.specs.declared.status.TheConstants.{GOOD, QUEUE_FULL}
-use Rattle.scenario.specs.declared.value.CmdDef.{CmdDef}
-use Rattle.scenario.specs.Lookups.{has_target}
-use Rattle.scenario.specs.Value.{ScenarioValue}
-use Rattle.scenario.specs.Writing.{Obeys}
-use Rattle.disk_array.specs.Processes.{command_at, process_by, process_if}
-use Rattle.bus_story.specs.Items.{command_id, command_item}
-use Rattle.bus_story.specs.Outcomes.{Outcome, ended_good, ended_check, ended_full, ended_unanswered, ended_lost, ended_reset, ended_aborted, ending_of, outcome_by_status, outcome_if, outcome_of}
-use Rattle.bus_story.specs.Story.{Ending, Story, by_abort, by_loss, by_reset, by_status, unanswered}
-use Rattle.bus_story.specs.TraceHistory.{retries_of, story}
-use Rattle.bus_dialogue.specs.NextPhase.{recovery_limit}
+use Rattle.bus_due.specs.bus_base.specs.declared.Event.{Event}
+use Rattle.bus_due.specs.bus_base.specs.declared.Event.TheVariants as events
+use Rattle.bus_due.specs.bus_base.specs.declared.ProcId.{ProcId}
+use Rattle.bus_due.specs.bus_base.proofs.Tests.{wrong, wrong'}
+use Rattle.bus_due.specs.bus_trace.specs.declared.Row.{Row}
+use Rattle.bus_due.specs.cdb_codec.specs.declared.status.TheConstants.{GOOD, QUEUE_FULL}
+use Rattle.bus_due.specs.scenario.specs.declared.value.CmdDef.{CmdDef}
+use Rattle.bus_due.specs.scenario.specs.Lookups.{has_target}
+use Rattle.bus_due.specs.scenario.specs.Value.{ScenarioValue}
+use Rattle.bus_due.specs.scenario.specs.Writing.{Obeys}
+use Rattle.bus_due.specs.disk_array.specs.Processes.{command_at, process_by, process_if}
+use Rattle.bus_due.specs.bus_story.specs.Items.{command_id, command_item}
+use Rattle.bus_due.specs.bus_story.specs.Outcomes.{Outcome, ended_good, ended_check, ended_full, ended_unanswered, ended_lost, ended_reset, ended_aborted, ending_of, outcome_by_status, outcome_if, outcome_of}
+use Rattle.bus_due.specs.bus_story.specs.Story.{Ending, Story, by_abort, by_loss, by_reset, by_status, unanswered}
+use Rattle.bus_due.specs.bus_story.specs.TraceHistory.{retries_of, story}
+use Rattle.bus_due.specs.bus_dialogue.specs.NextPhase.{recovery_limit}
 use Rattle.bus_due.specs.Allowed.{allowed}
 use Rattle.bus_due.specs.Defs.{target_def_of}
 use Rattle.bus_due.specs.Next.{IsPrompt}
 use Rattle.bus_due.specs.RunSteps.{run_state}
 use Rattle.bus_due.specs.Telling.{same_event}
 use Rattle.bus_due.proofs.Plains.{prompt_plain}
-use Rattle.ending_causes.specs.FullQueues.{has_event, was_refused}
-use Rattle.ending_causes.specs.WrongParity.{fault_rows}
+use Rattle.trace_laws.specs.bus_books.specs.FullQueues.{has_event, was_refused}
+use Rattle.trace_laws.specs.bus_books.specs.WrongParity.{fault_rows}
 use Rattle.trace_laws.proofs.Whole.{whole}
 use Rattle.initiator.specs.Causes.{has_bus_reset, has_command_abort, is_loss_of, is_status_of}
 use Rattle.delivery_laws.specs.Delivery.{calling_faults, command_faults, fault_limit}
@@ -57,11 +57,11 @@ is_full (Some ended_full) = true
 is_full _ = false
 
 -- A status gives none of these.
-by_none : {A : Type 0} (s : ScenarioValue) (h : List Event) (n status : ℕ) (f : Option Outcome → Bool) → ((bytes : List ℕ) → f (Some (ended_good bytes)) ≡ false) → f (Some ended_full) ≡ false → ((o : Option Rattle.cdb_codec.specs.declared.Sense.Sense) → f (Some (ended_check o)) ≡ false)
+by_none : {A : Type 0} (s : ScenarioValue) (h : List Event) (n status : ℕ) (f : Option Outcome → Bool) → ((bytes : List ℕ) → f (Some (ended_good bytes)) ≡ false) → f (Some ended_full) ≡ false → ((o : Option Rattle.bus_due.specs.cdb_codec.specs.declared.Sense.Sense) → f (Some (ended_check o)) ≡ false)
     → f (Some (outcome_by_status s h n status)) ≡ true → A
 by_none s h n status f good full check e = go (status == GOOD) (status == QUEUE_FULL) _ _ e
   where
-    go : {A : Type 0} (q r : Bool) (bytes : List ℕ) (o : Option Rattle.cdb_codec.specs.declared.Sense.Sense) → f (Some (if q then ended_good bytes else if r then ended_full else ended_check o)) ≡ true → A
+    go : {A : Type 0} (q r : Bool) (bytes : List ℕ) (o : Option Rattle.bus_due.specs.cdb_codec.specs.declared.Sense.Sense) → f (Some (if q then ended_good bytes else if r then ended_full else ended_check o)) ≡ true → A
     go true r bytes o z = wrong (sym z ∙ good bytes)
     go false true bytes o z = wrong (sym z ∙ full)
     go false false bytes o z = wrong (sym z ∙ check o)
@@ -102,7 +102,7 @@ by_full : (s : ScenarioValue) (h : List Event) (n : ℕ) (o : Option Ending) →
 by_full s h n None e = wrong' e
 by_full s h n (Some (by_status status)) e = go (status == GOOD) (status == QUEUE_FULL) refl _ _ e
   where
-    go : (q r : Bool) → (status == QUEUE_FULL) ≡ r → (bytes : List ℕ) (o : Option Rattle.cdb_codec.specs.declared.Sense.Sense) → is_full (Some (if q then ended_good bytes else if r then ended_full else ended_check o)) ≡ true → Some (by_status status) ≡ Some (by_status QUEUE_FULL)
+    go : (q r : Bool) → (status == QUEUE_FULL) ≡ r → (bytes : List ℕ) (o : Option Rattle.bus_due.specs.cdb_codec.specs.declared.Sense.Sense) → is_full (Some (if q then ended_good bytes else if r then ended_full else ended_check o)) ≡ true → Some (by_status status) ≡ Some (by_status QUEUE_FULL)
     go true r w bytes o z = wrong' z
     go false true w bytes o z = λ i. Some (by_status (eqb-true status QUEUE_FULL w i))
     go false false w bytes o z = wrong' z

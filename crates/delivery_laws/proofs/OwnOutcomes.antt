@@ -2,29 +2,29 @@
 use Rattle.std.proofs.Common.{ℕ, ◌≡◌, Bool, true, false, not, ◌||◌, ◌∙◌, List, Option, Some, None, refl, sym, ap}
 use Rattle.std.specs.Prelude.{if◌then◌else◌, ◌==◌}
 use Rattle.std.proofs.lemmas.Option.{same_Some}
-use Rattle.bus_base.specs.declared.Event.{Event}
-use Rattle.bus_base.specs.declared.Event.TheVariants as events
-use Rattle.bus_base.proofs.Tests.{and_second, wrong}
-use Rattle.bus_trace.specs.declared.Row.{Row}
-use Rattle.cdb_codec.specs.declared.Sense.{Sense}
-use Rattle.cdb_codec.specs.declared.sense.TheConstants.{ABORTED_COMMAND}
-use Rattle.cdb_codec.specs.declared.status.TheConstants.{CHECK_CONDITION, GOOD, QUEUE_FULL}
-use Rattle.scenario.specs.Value.{ScenarioValue}
-use Rattle.scenario.specs.Writing.{Obeys}
-use Rattle.disk_array.specs.ArrayHistory.{array_after, reply_in, reply_of}
-use Rattle.disk_array.specs.Execution.{Reply}
-use Rattle.disk_array.specs.Units.{Array}
-use Rattle.bus_story.specs.Items.{command_id, sense_id}
-use Rattle.bus_story.specs.Outcomes.{Outcome, ended_check, ended_full, ended_good, ending_of, has_end, outcome_if, outcome_of, reply_bytes, reply_bytes_if, sense_in, sense_of_end}
-use Rattle.bus_story.specs.Story.{Ending, Story, by_abort, by_loss, by_reset, by_status, unanswered}
-use Rattle.bus_story.specs.TraceHistory.{story}
+use Rattle.bus_due.specs.bus_base.specs.declared.Event.{Event}
+use Rattle.bus_due.specs.bus_base.specs.declared.Event.TheVariants as events
+use Rattle.bus_due.specs.bus_base.proofs.Tests.{and_second, wrong}
+use Rattle.bus_due.specs.bus_trace.specs.declared.Row.{Row}
+use Rattle.bus_due.specs.cdb_codec.specs.declared.Sense.{Sense}
+use Rattle.bus_due.specs.cdb_codec.specs.declared.sense.TheConstants.{ABORTED_COMMAND}
+use Rattle.bus_due.specs.cdb_codec.specs.declared.status.TheConstants.{CHECK_CONDITION, GOOD, QUEUE_FULL}
+use Rattle.bus_due.specs.scenario.specs.Value.{ScenarioValue}
+use Rattle.bus_due.specs.scenario.specs.Writing.{Obeys}
+use Rattle.bus_due.specs.disk_array.specs.ArrayHistory.{array_after, reply_in, reply_of}
+use Rattle.bus_due.specs.disk_array.specs.Execution.{Reply}
+use Rattle.bus_due.specs.disk_array.specs.Units.{Array}
+use Rattle.bus_due.specs.bus_story.specs.Items.{command_id, sense_id}
+use Rattle.bus_due.specs.bus_story.specs.Outcomes.{Outcome, ended_check, ended_full, ended_good, ending_of, has_end, outcome_if, outcome_of, reply_bytes, reply_bytes_if, sense_in, sense_of_end}
+use Rattle.bus_due.specs.bus_story.specs.Story.{Ending, Story, by_abort, by_loss, by_reset, by_status, unanswered}
+use Rattle.bus_due.specs.bus_story.specs.TraceHistory.{story}
 use Rattle.bus_due.specs.Next.{IsPrompt}
 use Rattle.bus_due.specs.Plain.{IsPlain}
 use Rattle.bus_due.specs.RunState.{RunState, array_of, or_start}
 use Rattle.bus_due.specs.RunSteps.{run_state}
 use Rattle.bus_due.proofs.Plains.{prompt_plain}
-use Rattle.bus_base.specs.declared.ProcId.{ProcId}
-use Rattle.ending_causes.specs.FullQueues.{has_cause, has_event, was_refused}
+use Rattle.bus_due.specs.bus_base.specs.declared.ProcId.{ProcId}
+use Rattle.trace_laws.specs.bus_books.specs.FullQueues.{has_cause, has_event, was_refused}
 use Rattle.trace_laws.proofs.Impossible.{none_some}
 use Rattle.trace_laws.proofs.Whole.{whole}
 use Rattle.delivery_laws.specs.Delivery.{IsGiven, IsOwnSense, RanSo, failed, ran, refused}

@@ -4,55 +4,55 @@ use Rattle.std.specs.Prelude.{if◌then◌else◌, ◌==◌, is_some, ⊤}
 use Rattle.std.specs.List.{list_any}
 use Rattle.std.proofs.lemmas.Bool.{and_parts}
 use Rattle.std.proofs.lemmas.Option.{same_Some}
-use Rattle.bus_base.specs.declared.Event.{Event}
-use Rattle.bus_base.specs.declared.Event.TheVariants as events
-use Rattle.bus_base.specs.declared.ProcId.{ProcId}
-use Rattle.bus_base.proofs.Tests.{wrong, wrong'}
-use Rattle.bus_lines.specs.Handshakes.{Handshakes}
-use Rattle.bus_trace.specs.declared.Row.{Row}
-use Rattle.bus_trace.specs.declared.changes.Change.{Change}
-use Rattle.bus_trace.specs.declared.connection.Connection.{Connection}
-use Rattle.bus_trace.specs.Changes.{rises}
-use Rattle.bus_trace.specs.Phases.{changes_phase, is_command}
-use Rattle.bus_trace.specs.Terms.{connection, connection_after}
-use Rattle.scenario.specs.declared.value.AbortDef.{AbortDef}
-use Rattle.scenario.specs.Value.{ScenarioValue}
-use Rattle.scenario.specs.Writing.{Obeys}
-use Rattle.disk_array.specs.ArrayHistory.{array_after, array_step, reply_in}
-use Rattle.disk_array.specs.Execution.{Reply}
-use Rattle.disk_array.specs.Processes.{Process, process_of, same_id}
-use Rattle.disk_array.proofs.SoundArrays.{id_is}
-use Rattle.disk_array.specs.SoundArray.{HasSeats, IsSound}
-use Rattle.disk_array.specs.Steps as Steps
-use Rattle.disk_array.specs.Steps.{running_process}
-use Rattle.disk_array.specs.Units.{Array, RunningProcess, guest_at, without_reply}
-use Rattle.bus_story.specs.BusState.{RowReading, row_reading}
-use Rattle.bus_story.specs.CarriedBytes.{CarriedBytes, is_status_phase, is_whole_block}
-use Rattle.bus_story.specs.HistoryEvents.{abort_line_at, abort_line_events, bus_free_events, carried_if, end_events, is_completion, is_refuse, item_abort_events, item_loss_events, link_events, phase_events, row_events_by, status_event, status_events}
-use Rattle.bus_story.specs.Items.{Item, Sent, abort, command_item, has_item, process}
-use Rattle.bus_story.specs.Links.{LastMessage, Link, abortive, complete, disconnect, plain}
-use Rattle.bus_story.specs.Story.{Story, story_after_event, story_after_events}
-use Rattle.bus_story.specs.TraceHistory.{story_by_change}
-use Rattle.bus_dialogue.specs.declared.exchange.Cause.{Cause}
-use Rattle.bus_dialogue.specs.declared.exchange.Cause.TheVariants as causes
-use Rattle.bus_dialogue.specs.declared.exchange.Messages.{Messages}
-use Rattle.bus_dialogue.specs.declared.exchange.Next.{Next}
-use Rattle.bus_dialogue.specs.declared.exchange.Next.TheVariants as nexts
-use Rattle.bus_dialogue.specs.declared.exchange.Phase.{Phase}
-use Rattle.bus_dialogue.specs.declared.exchange.Phase.TheVariants as phases
-use Rattle.bus_dialogue.specs.declared.exchange.Plan.{Plan}
-use Rattle.bus_dialogue.specs.NextPhase.{phase_of}
+use Rattle.bus_due.specs.bus_base.specs.declared.Event.{Event}
+use Rattle.bus_due.specs.bus_base.specs.declared.Event.TheVariants as events
+use Rattle.bus_due.specs.bus_base.specs.declared.ProcId.{ProcId}
+use Rattle.bus_due.specs.bus_base.proofs.Tests.{wrong, wrong'}
+use Rattle.bus_due.specs.bus_lines.specs.Handshakes.{Handshakes}
+use Rattle.bus_due.specs.bus_trace.specs.declared.Row.{Row}
+use Rattle.bus_due.specs.bus_trace.specs.declared.changes.Change.{Change}
+use Rattle.bus_due.specs.bus_trace.specs.declared.connection.Connection.{Connection}
+use Rattle.bus_due.specs.bus_trace.specs.Changes.{rises}
+use Rattle.bus_due.specs.bus_trace.specs.Phases.{changes_phase, is_command}
+use Rattle.bus_due.specs.bus_trace.specs.Terms.{connection, connection_after}
+use Rattle.bus_due.specs.scenario.specs.declared.value.AbortDef.{AbortDef}
+use Rattle.bus_due.specs.scenario.specs.Value.{ScenarioValue}
+use Rattle.bus_due.specs.scenario.specs.Writing.{Obeys}
+use Rattle.bus_due.specs.disk_array.specs.ArrayHistory.{array_after, array_step, reply_in}
+use Rattle.bus_due.specs.disk_array.specs.Execution.{Reply}
+use Rattle.bus_due.specs.disk_array.specs.Processes.{Process, process_of, same_id}
+use Rattle.bus_due.specs.disk_array.proofs.SoundArrays.{id_is}
+use Rattle.bus_due.specs.disk_array.specs.SoundArray.{HasSeats, IsSound}
+use Rattle.bus_due.specs.disk_array.specs.Steps as Steps
+use Rattle.bus_due.specs.disk_array.specs.Steps.{running_process}
+use Rattle.bus_due.specs.disk_array.specs.Units.{Array, RunningProcess, guest_at, without_reply}
+use Rattle.bus_due.specs.bus_story.specs.BusState.{RowReading, row_reading}
+use Rattle.bus_due.specs.bus_story.specs.CarriedBytes.{CarriedBytes, is_status_phase, is_whole_block}
+use Rattle.bus_due.specs.bus_story.specs.HistoryEvents.{abort_line_at, abort_line_events, bus_free_events, carried_if, end_events, is_completion, is_refuse, item_abort_events, item_loss_events, link_events, phase_events, row_events_by, status_event, status_events}
+use Rattle.bus_due.specs.bus_story.specs.Items.{Item, Sent, abort, command_item, has_item, process}
+use Rattle.bus_due.specs.bus_story.specs.Links.{LastMessage, Link, abortive, complete, disconnect, plain}
+use Rattle.bus_due.specs.bus_story.specs.Story.{Story, story_after_event, story_after_events}
+use Rattle.bus_due.specs.bus_story.specs.TraceHistory.{story_by_change}
+use Rattle.bus_due.specs.bus_dialogue.specs.declared.exchange.Cause.{Cause}
+use Rattle.bus_due.specs.bus_dialogue.specs.declared.exchange.Cause.TheVariants as causes
+use Rattle.bus_due.specs.bus_dialogue.specs.declared.exchange.Messages.{Messages}
+use Rattle.bus_due.specs.bus_dialogue.specs.declared.exchange.Next.{Next}
+use Rattle.bus_due.specs.bus_dialogue.specs.declared.exchange.Next.TheVariants as nexts
+use Rattle.bus_due.specs.bus_dialogue.specs.declared.exchange.Phase.{Phase}
+use Rattle.bus_due.specs.bus_dialogue.specs.declared.exchange.Phase.TheVariants as phases
+use Rattle.bus_due.specs.bus_dialogue.specs.declared.exchange.Plan.{Plan}
+use Rattle.bus_due.specs.bus_dialogue.specs.NextPhase.{phase_of}
 use Rattle.bus_due.specs.Next.{IsPrompt}
 use Rattle.bus_due.specs.Plain.{IsPlain}
 use Rattle.bus_due.specs.RunState.{RunState, array_of, bus_of, carried_here, or_start, process_item}
 use Rattle.bus_due.specs.RunSteps.{array_after_events, run_state, served_after}
 use Rattle.bus_due.proofs.Plains.{run_state_plain}
-use Rattle.scsi_device.proofs.FitLines.{obeys_fits, seats_are}
-use Rattle.bus_books.specs.Hearing.{is_in_phase}
-use Rattle.bus_books.specs.Traces.{RowOf, apart, begins, ends, goes_on, under_reset}
-use Rattle.bus_books.proofs.Lookups.{self_id}
-use Rattle.bus_laws.proofs.Apart.{change_plain}
-use Rattle.bus_laws.proofs.Prompt.{least_is}
+use Rattle.trace_laws.specs.scsi_device.proofs.FitLines.{obeys_fits, seats_are}
+use Rattle.trace_laws.specs.bus_books.specs.Hearing.{is_in_phase}
+use Rattle.trace_laws.specs.bus_books.specs.Traces.{RowOf, apart, begins, ends, goes_on, under_reset}
+use Rattle.trace_laws.specs.bus_books.proofs.Lookups.{self_id}
+use Rattle.trace_laws.specs.bus_laws.proofs.Apart.{change_plain}
+use Rattle.trace_laws.specs.bus_laws.proofs.Prompt.{least_is}
 use Rattle.trace_laws.specs.DataPointers.{is_marked}
 use Rattle.trace_laws.specs.ItemFacts.{IsChecked}
 use Rattle.trace_laws.specs.Places.{AnsweredOpen, Closes, IsAtRest, IsAway, IsTaken, IsUnanswered, IsUntouched, OnGuests, PlacedAsked, PlacedBefore, PlacedIf, PlacedIn, RunsOpen, completes, disconnects}
@@ -229,7 +229,7 @@ row_tells s p row v = go d.change.after.rst refl
         g : GoesSo s k row
         g = goes l id e f calm stands
 
-        change : d.change ≡ Rattle.bus_trace.specs.Changes.change_of p row
+        change : d.change ≡ Rattle.bus_due.specs.bus_trace.specs.Changes.change_of p row
         change = change_plain s row p w.stood.standing.devices v.lt
 
         reads : d.next ≡ connection (row ∷ p)
@@ -304,8 +304,7 @@ row_tells s p row v = go d.change.after.rst refl
             told : (is_status_phase d.change.after && not c.shown && not c.refused && not (list_any (λ x. is_refuse x) arrived)) ≡ true → (o : Option ℕ) → (a : Array) → array_after_events s k.array arrived ≡ Some a
                 → Tells (story_after_events s b arrived).sent a (status_event c.id o)
             told q None a z =
-                let two = parts (is_status_phase d.change.after) c.shown c.refused (list_any (λ x. is_refuse x) arrived) q in
-                (
+                let two = parts (is_status_phase d.change.after) c.shown c.refused (list_any (λ x. is_refuse x) arrived) q in (
                   ap (λ (x : List (ProcId × Reply)). reply_in x c.id) (same a z) ∙ none_yet two.1,
                   λ y. ap (λ (x : Sent). is_owed x c.id.command) still
                       ∙ owes c.id y (serves l c.id e item calm stands) (opens l c.id e item calm stands two.0),

@@ -5,33 +5,33 @@ use Rattle.std.specs.Prelude.{if◌then◌else◌, ◌==◌, is_none, is_some, n
 use Rattle.std.specs.List.{list_any}
 use Rattle.std.proofs.lemmas.Bool.{eqb-true}
 use Rattle.std.proofs.lemmas.Option.{same_Some}
-use Rattle.bus_base.specs.declared.AbortKind.{AbortKind}
-use Rattle.bus_base.specs.declared.AbortKind.TheVariants as aborts
-use Rattle.bus_base.specs.declared.Event.{Event}
-use Rattle.bus_base.specs.declared.Event.TheVariants as events
-use Rattle.bus_base.specs.declared.ProcId.{ProcId}
-use Rattle.bus_base.proofs.Tests.{wrong, wrong'}
-use Rattle.cdb_codec.specs.Cdb.{command_of}
-use Rattle.cdb_codec.specs.declared.Sense.{Sense}
-use Rattle.cdb_codec.specs.declared.sense.TheConstants.{ABORTED_COMMAND}
-use Rattle.cdb_codec.specs.declared.status.TheConstants.{CHECK_CONDITION, GOOD}
-use Rattle.scenario.specs.declared.value.CmdDef.{CmdDef}
-use Rattle.scenario.specs.declared.value.HostDef.{HostDef}
-use Rattle.scenario.specs.Value.{ScenarioValue}
-use Rattle.disk_array.specs.ArrayHistory.{reply_in}
-use Rattle.disk_array.specs.Execution.{CommandContext, Execution, Reply, attention_execution, check_condition, commands_cleared, execution, is_request_sense, needs_unit, queue_full, reply_execution, returned_sense, sense_of, unit_not_supported}
-use Rattle.disk_array.specs.Processes.{Process, command_at, process_of, same_id, sense_block}
-use Rattle.disk_array.specs.SoundArray.{IsSound}
-use Rattle.disk_array.specs.Steps as Steps
-use Rattle.disk_array.specs.Steps.{running_process}
-use Rattle.disk_array.specs.Units.{Array, Nexus, RunningProcess, UnitState, guest_at, is_held, nexus_of, nexuses_without, same_nexus, sense_of_nexus, senses_without, unit_state_at, with_unit}
-use Rattle.disk_array.proofs.SeatLookups.{same_nexus_is, sense_put_at, senses_without_at}
-use Rattle.bus_story.specs.Items.{Sent, command_id, has_item, process, sense_id, sense_item}
-use Rattle.bus_story.specs.Outcomes.{sense_in}
-use Rattle.bus_story.specs.Story.{Ending, Story, by_abort, by_reset, by_status, is_aborted, is_sense_stopped, story_after_event, story_with_end, story_with_ends}
-use Rattle.bus_story.proofs.StorySteps.{ends_checks}
-use Rattle.bus_books.proofs.Lookups.{id_is}
-use Rattle.ending_causes.proofs.Senses.{self_nexus}
+use Rattle.bus_due.specs.bus_base.specs.declared.AbortKind.{AbortKind}
+use Rattle.bus_due.specs.bus_base.specs.declared.AbortKind.TheVariants as aborts
+use Rattle.bus_due.specs.bus_base.specs.declared.Event.{Event}
+use Rattle.bus_due.specs.bus_base.specs.declared.Event.TheVariants as events
+use Rattle.bus_due.specs.bus_base.specs.declared.ProcId.{ProcId}
+use Rattle.bus_due.specs.bus_base.proofs.Tests.{wrong, wrong'}
+use Rattle.bus_due.specs.cdb_codec.specs.Cdb.{command_of}
+use Rattle.bus_due.specs.cdb_codec.specs.declared.Sense.{Sense}
+use Rattle.bus_due.specs.cdb_codec.specs.declared.sense.TheConstants.{ABORTED_COMMAND}
+use Rattle.bus_due.specs.cdb_codec.specs.declared.status.TheConstants.{CHECK_CONDITION, GOOD}
+use Rattle.bus_due.specs.scenario.specs.declared.value.CmdDef.{CmdDef}
+use Rattle.bus_due.specs.scenario.specs.declared.value.HostDef.{HostDef}
+use Rattle.bus_due.specs.scenario.specs.Value.{ScenarioValue}
+use Rattle.bus_due.specs.disk_array.specs.ArrayHistory.{reply_in}
+use Rattle.bus_due.specs.disk_array.specs.Execution.{CommandContext, Execution, Reply, attention_execution, check_condition, commands_cleared, execution, is_request_sense, needs_unit, queue_full, reply_execution, returned_sense, sense_of, unit_not_supported}
+use Rattle.bus_due.specs.disk_array.specs.Processes.{Process, command_at, process_of, same_id, sense_block}
+use Rattle.bus_due.specs.disk_array.specs.SoundArray.{IsSound}
+use Rattle.bus_due.specs.disk_array.specs.Steps as Steps
+use Rattle.bus_due.specs.disk_array.specs.Steps.{running_process}
+use Rattle.bus_due.specs.disk_array.specs.Units.{Array, Nexus, RunningProcess, UnitState, guest_at, is_held, nexus_of, nexuses_without, same_nexus, sense_of_nexus, senses_without, unit_state_at, with_unit}
+use Rattle.bus_due.specs.disk_array.proofs.SeatLookups.{same_nexus_is, sense_put_at, senses_without_at}
+use Rattle.bus_due.specs.bus_story.specs.Items.{Sent, command_id, has_item, process, sense_id, sense_item}
+use Rattle.bus_due.specs.bus_story.specs.Outcomes.{sense_in}
+use Rattle.bus_due.specs.bus_story.specs.Story.{Ending, Story, by_abort, by_reset, by_status, is_aborted, is_sense_stopped, story_after_event, story_with_end, story_with_ends}
+use Rattle.bus_due.specs.bus_story.proofs.StorySteps.{ends_checks}
+use Rattle.trace_laws.specs.bus_books.proofs.Lookups.{id_is}
+use Rattle.trace_laws.specs.bus_books.proofs.Senses.{self_nexus}
 use Rattle.trace_laws.specs.ItemFacts.{AreChecked}
 use Rattle.trace_laws.proofs.Impossible.{none_some}
 use Rattle.trace_laws.proofs.ListedReplies.{running_id}
@@ -519,7 +519,7 @@ event_own s b a (events.Refuse id) sound checked debts well tells h =
     command_more s b.sent a.senses a.replies p.id queue_full (ap (reply_in a.replies) own ∙ tells) (ap (λ (x : ProcId). x.sense) own ∙ refused_plain s id p e f) h)
   where
     process_own : (p : Process) → process_of s id ≡ Some p → id ≡ p.id
-    process_own p e = sym (Rattle.disk_array.proofs.SoundArrays.id_is s id p e)
+    process_own p e = sym (Rattle.bus_due.specs.disk_array.proofs.SoundArrays.id_is s id p e)
 event_own s b a (events.Run id) sound checked debts well tells h =
     run (OwnSenses s b.sent) a (is_some (guest_at a.guests id)) (running_process a id) (λ r e. ran s b.sent a id r sound tells e h)
 event_own s b a (events.Fail id code) sound checked debts well tells h =

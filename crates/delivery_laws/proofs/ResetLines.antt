@@ -5,48 +5,48 @@ use Rattle.std.specs.List.{AllByRecursion, find, list_all, list_any}
 use Rattle.std.proofs.lemmas.Bool.{and_from, eqb-true, eq-eqb, or_left, or_right}
 use Rattle.std.proofs.lemmas.Bool.Decides.{nat_tests}
 use Rattle.std.proofs.lemmas.Option.{same_Some}
-use Rattle.bus_base.proofs.Tests.{eq_self, wrong, wrong'}
-use Rattle.bus_trace.specs.LineSet.{LineSet, none}
-use Rattle.bus_trace.specs.declared.Kind.{Kind}
-use Rattle.bus_trace.specs.declared.Kind.TheVariants.{Drives, Fault}
-use Rattle.bus_trace.specs.declared.Row.{Row}
-use Rattle.bus_trace.specs.Changes.{rises, falls, change_of}
-use Rattle.bus_trace.specs.Terms.{when}
-use Rattle.bus_trace.specs.Trace.{bus, drives, driven_after}
-use Rattle.scenario.specs.declared.value.ResetDef.{ResetDef}
-use Rattle.scenario.specs.Value.{ScenarioValue}
-use Rattle.scenario.specs.Writing.{Obeys}
-use Rattle.scenario.specs.declared.value.HostDef.{HostDef}
-use Rattle.scenario.specs.declared.value.TargetDef.{TargetDef}
-use Rattle.scsi_device.specs.Lines.{FitsBus, IsHostLine, IsTargetLine}
-use Rattle.bus_story.specs.Samples.{host_latency, latency_of, target_latency}
-use Rattle.bus_reactions.specs.declared.due.Due.{Due}
-use Rattle.bus_reactions.specs.Reactions.{earlier_due, sooner_time, time_if}
-use Rattle.bus_reactions.specs.Reset.{rst_assertion}
+use Rattle.bus_due.specs.bus_base.proofs.Tests.{eq_self, wrong, wrong'}
+use Rattle.bus_due.specs.bus_trace.specs.LineSet.{LineSet, none}
+use Rattle.bus_due.specs.bus_trace.specs.declared.Kind.{Kind}
+use Rattle.bus_due.specs.bus_trace.specs.declared.Kind.TheVariants.{Drives, Fault}
+use Rattle.bus_due.specs.bus_trace.specs.declared.Row.{Row}
+use Rattle.bus_due.specs.bus_trace.specs.Changes.{rises, falls, change_of}
+use Rattle.bus_due.specs.bus_trace.specs.Terms.{when}
+use Rattle.bus_due.specs.bus_trace.specs.Trace.{bus, drives, driven_after}
+use Rattle.bus_due.specs.scenario.specs.declared.value.ResetDef.{ResetDef}
+use Rattle.bus_due.specs.scenario.specs.Value.{ScenarioValue}
+use Rattle.bus_due.specs.scenario.specs.Writing.{Obeys}
+use Rattle.bus_due.specs.scenario.specs.declared.value.HostDef.{HostDef}
+use Rattle.bus_due.specs.scenario.specs.declared.value.TargetDef.{TargetDef}
+use Rattle.trace_laws.specs.scsi_device.specs.Lines.{FitsBus, IsHostLine, IsTargetLine}
+use Rattle.bus_due.specs.bus_story.specs.Samples.{host_latency, latency_of, target_latency}
+use Rattle.bus_due.specs.bus_reactions.specs.declared.due.Due.{Due}
+use Rattle.bus_due.specs.bus_reactions.specs.Reactions.{earlier_due, sooner_time, time_if}
+use Rattle.bus_due.specs.bus_reactions.specs.Reset.{rst_assertion}
 use Rattle.bus_due.specs.Due.{is_reset_past, reset_from}
 use Rattle.bus_due.specs.Least.{IsLeast}
 use Rattle.bus_due.specs.Next.{IsEnded, IsPrompt, due}
 use Rattle.bus_due.specs.Own.{Own, own_after, own_of}
 use Rattle.bus_due.specs.Plain.{AreOfDevices}
 use Rattle.bus_due.proofs.Leasts.{least_none}
-use Rattle.bus_laws.specs.Reactions.{reset_due, reset_due_if, unreset_due}
-use Rattle.bus_laws.specs.Stages.{CalmStanding, HasShortLatencies}
-use Rattle.bus_laws.proofs.Dues.{is_at}
-use Rattle.bus_laws.proofs.FromReset.{off_at}
-use Rattle.bus_laws.proofs.Limits.{obeys_latencies}
-use Rattle.bus_laws.proofs.Prompt.{least_is}
-use Rattle.bus_laws.proofs.Resets.{due_calm, due_holding, due_there, own_reset_is}
-use Rattle.bus_laws.proofs.Rows.{drives_own}
-use Rattle.link_laws.specs.LinkStages.{AnyStage, apart, linked}
-use Rattle.link_laws.proofs.FromLink.{from_link}
-use Rattle.link_laws.proofs.RunLengths.{runs_are_short}
-use Rattle.scsi_device.proofs.FitLines.{obeys_fits}
+use Rattle.trace_laws.specs.bus_laws.specs.Reactions.{reset_due, reset_due_if, unreset_due}
+use Rattle.trace_laws.specs.bus_laws.specs.Stages.{CalmStanding, HasShortLatencies}
+use Rattle.trace_laws.specs.bus_laws.proofs.Dues.{is_at}
+use Rattle.trace_laws.specs.bus_laws.proofs.FromReset.{off_at}
+use Rattle.trace_laws.specs.bus_laws.proofs.Limits.{obeys_latencies}
+use Rattle.trace_laws.specs.bus_laws.proofs.Prompt.{least_is}
+use Rattle.trace_laws.specs.bus_laws.proofs.Resets.{due_calm, due_holding, due_there, own_reset_is}
+use Rattle.trace_laws.specs.bus_laws.proofs.Rows.{drives_own}
+use Rattle.trace_laws.specs.link_laws.specs.LinkStages.{AnyStage, apart, linked}
+use Rattle.trace_laws.specs.link_laws.proofs.FromLink.{from_link}
+use Rattle.trace_laws.specs.link_laws.proofs.RunLengths.{runs_are_short}
+use Rattle.trace_laws.specs.scsi_device.proofs.FitLines.{obeys_fits}
 use Rattle.trace_laws.proofs.Impossible.{none_some}
 use Rattle.trace_laws.proofs.Joint.{Stood}
 use Rattle.trace_laws.proofs.Whole.{whole}
-use Rattle.fault_laws.proofs.ResetSamples.{CalmRow, ResetRow, calm_row, lets_go, raises, reacts, resets, under_reset}
+use Rattle.right_laws.proofs.ResetSamples.{CalmRow, ResetRow, calm_row, lets_go, raises, reacts, resets, under_reset}
 use Rattle.delivery_laws.specs.Resets.{are_lines, are_releases, began_reset, begins_reset, ends_reset, has_line, has_reset, is_line_of, is_release, is_reset_over, is_reset_row}
-use Rattle.scenario.specs.Lookups.{has_device}
+use Rattle.bus_due.specs.scenario.specs.Lookups.{has_device}
 use Rattle.delivery_laws.proofs.ResetDevices.{device_there, resets_there}
 use Rattle.delivery_laws.proofs.CalmTraces.{after_calm, apart_calm, unasked}
 
@@ -178,8 +178,7 @@ same_line : (s : ScenarioValue) (p : List Row) (row : Row) (dev time : ℕ) → 
 same_line s p row dev time own driven h = record {
   past = λ e. more_has p row dev time (h.past ((λ i. is_reset_past (sym own i).released time) ∙ e));
   held = λ on e.
-      let w = h.held (sym driven ∙ on) ((λ i. is_reset_past (sym own i).released time) ∙ e) in
-      (
+      let w = h.held (sym driven ∙ on) ((λ i. is_reset_past (sym own i).released time) ∙ e) in (
         subst (λ (x : Own). x.rst ≤ time) (sym own) w.0,
         λ z. more_has p row dev time (w.1 ((λ i. (sym own i).rst == time) ∙ z)),
       );

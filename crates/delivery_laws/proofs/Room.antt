@@ -5,44 +5,44 @@ use Rattle.std.specs.List.{list_any}
 use Rattle.std.proofs.lemmas.Bool.{and_from, not-true, or_parts}
 use Rattle.std.proofs.lemmas.Bool.Decides.{nat_tests}
 use Rattle.std.proofs.lemmas.Option.{same_Some}
-use Rattle.bus_base.specs.declared.Event.TheVariants as events
-use Rattle.bus_base.specs.declared.ProcId.{ProcId}
-use Rattle.bus_base.proofs.Tests.{and_first, and_second, wrong, wrong'}
-use Rattle.bus_trace.specs.LineSet.{LineSet}
-use Rattle.bus_trace.specs.declared.Row.{Row}
-use Rattle.bus_trace.specs.declared.changes.Change.{Change}
-use Rattle.bus_trace.specs.Phases.{is_command}
-use Rattle.cdb_codec.specs.Cdb.{command_of}
-use Rattle.scenario.specs.declared.value.CmdDef.{CmdDef}
-use Rattle.scenario.specs.declared.value.UnitDef.{UnitDef}
-use Rattle.scenario.specs.Value.{ScenarioValue}
-use Rattle.scenario.specs.Writing.{Obeys}
-use Rattle.disk_array.specs.ArrayHistory.{array_after, array_step}
-use Rattle.disk_array.specs.Execution.{is_request_sense}
-use Rattle.disk_array.specs.Order.{choice, without_process}
-use Rattle.disk_array.specs.Processes.{Process, process_of, same_id}
-use Rattle.disk_array.specs.Seats.{is_initiator}
-use Rattle.disk_array.specs.Steps as Steps
-use Rattle.disk_array.specs.Units.{Array, Nexus, RunningProcess, UnitState, has_no_current, is_held, settled_array, starting_array, starting_units, unit_after_choice, unit_state_at, with_current, with_unit}
-use Rattle.bus_story.specs.BusState.{RowReading, row_reading}
-use Rattle.bus_story.specs.CarriedBytes.{CarriedBytes}
-use Rattle.bus_story.specs.HistoryEvents.{carried_if, row_events_by}
-use Rattle.bus_story.specs.Items.{Item, Sent, process, abort, command_id, command_item, has_item, is_open, open_limit_of}
-use Rattle.bus_story.specs.Links.{Link}
-use Rattle.bus_story.specs.Outcomes.{is_roomy, most_open}
-use Rattle.bus_story.proofs.CarriedLists.{carried_id}
-use Rattle.bus_dialogue.specs.declared.exchange.Phase.TheVariants as phases
-use Rattle.bus_dialogue.specs.NextPhase.{phase_of}
+use Rattle.bus_due.specs.bus_base.specs.declared.Event.TheVariants as events
+use Rattle.bus_due.specs.bus_base.specs.declared.ProcId.{ProcId}
+use Rattle.bus_due.specs.bus_base.proofs.Tests.{and_first, and_second, wrong, wrong'}
+use Rattle.bus_due.specs.bus_trace.specs.LineSet.{LineSet}
+use Rattle.bus_due.specs.bus_trace.specs.declared.Row.{Row}
+use Rattle.bus_due.specs.bus_trace.specs.declared.changes.Change.{Change}
+use Rattle.bus_due.specs.bus_trace.specs.Phases.{is_command}
+use Rattle.bus_due.specs.cdb_codec.specs.Cdb.{command_of}
+use Rattle.bus_due.specs.scenario.specs.declared.value.CmdDef.{CmdDef}
+use Rattle.bus_due.specs.scenario.specs.declared.value.UnitDef.{UnitDef}
+use Rattle.bus_due.specs.scenario.specs.Value.{ScenarioValue}
+use Rattle.bus_due.specs.scenario.specs.Writing.{Obeys}
+use Rattle.bus_due.specs.disk_array.specs.ArrayHistory.{array_after, array_step}
+use Rattle.bus_due.specs.disk_array.specs.Execution.{is_request_sense}
+use Rattle.bus_due.specs.disk_array.specs.Order.{choice, without_process}
+use Rattle.bus_due.specs.disk_array.specs.Processes.{Process, process_of, same_id}
+use Rattle.bus_due.specs.disk_array.specs.Seats.{is_initiator}
+use Rattle.bus_due.specs.disk_array.specs.Steps as Steps
+use Rattle.bus_due.specs.disk_array.specs.Units.{Array, Nexus, RunningProcess, UnitState, has_no_current, is_held, settled_array, starting_array, starting_units, unit_after_choice, unit_state_at, with_current, with_unit}
+use Rattle.bus_due.specs.bus_story.specs.BusState.{RowReading, row_reading}
+use Rattle.bus_due.specs.bus_story.specs.CarriedBytes.{CarriedBytes}
+use Rattle.bus_due.specs.bus_story.specs.HistoryEvents.{carried_if, row_events_by}
+use Rattle.bus_due.specs.bus_story.specs.Items.{Item, Sent, process, abort, command_id, command_item, has_item, is_open, open_limit_of}
+use Rattle.bus_due.specs.bus_story.specs.Links.{Link}
+use Rattle.bus_due.specs.bus_story.specs.Outcomes.{is_roomy, most_open}
+use Rattle.bus_due.specs.bus_story.proofs.CarriedLists.{carried_id}
+use Rattle.bus_due.specs.bus_dialogue.specs.declared.exchange.Phase.TheVariants as phases
+use Rattle.bus_due.specs.bus_dialogue.specs.NextPhase.{phase_of}
 use Rattle.bus_due.specs.Next.{IsPrompt}
 use Rattle.bus_due.specs.Plain.{IsPlain}
 use Rattle.bus_due.specs.RunState.{RunState, array_of, bus_of, carried_here, or_start}
 use Rattle.bus_due.specs.RunSteps.{run_state}
 use Rattle.bus_due.proofs.Plains.{prompt_plain}
-use Rattle.bus_books.specs.Hearing.{is_in_phase}
-use Rattle.bus_books.proofs.CarriedRows.{process_id}
-use Rattle.scsi_device.specs.Writes.{writers}
-use Rattle.scsi_device.proofs.FitLines.{command_fits, obeys_fits}
-use Rattle.target_units.proofs.LiveQueue.{id_turned}
+use Rattle.trace_laws.specs.bus_books.specs.Hearing.{is_in_phase}
+use Rattle.trace_laws.specs.bus_books.proofs.CarriedRows.{process_id}
+use Rattle.trace_laws.specs.scsi_device.specs.Writes.{writers}
+use Rattle.trace_laws.specs.scsi_device.proofs.FitLines.{command_fits, obeys_fits}
+use Rattle.trace_laws.specs.target_units.proofs.LiveQueue.{id_turned}
 use Rattle.trace_laws.specs.ItemFacts.{AllP, IsQueued, RunsP, UnitsP}
 use Rattle.trace_laws.specs.Places.{IsAway, IsUntouched, OnUnit, OnUnits, Runs, Waits}
 use Rattle.trace_laws.specs.WriteFacts.{AllUnits, IsOther, IsWrittenUnit}
@@ -174,7 +174,7 @@ arriving s p row w next pl l c v = known l.item refl v.carried_is
 
 -- ---- what stands in a unit
 
-waits_at : (q : RunningProcess → Type 0) (r : Process → Type 0) (waiting : List Process) → ((p : Process) → q (Rattle.disk_array.specs.Units.without_reply p) → r p) → Waits q waiting → AllP r waiting
+waits_at : (q : RunningProcess → Type 0) (r : Process → Type 0) (waiting : List Process) → ((p : Process) → q (Rattle.bus_due.specs.disk_array.specs.Units.without_reply p) → r p) → Waits q waiting → AllP r waiting
 waits_at q r [] f h = tt
 waits_at q r (p ∷ waiting) f h = (f p h.0, waits_at q r waiting f h.1)
 

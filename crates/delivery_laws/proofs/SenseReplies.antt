@@ -3,35 +3,35 @@
 use Rattle.std.proofs.Common.{◌≡◌, Bool, true, false, not, ◌&&◌, ◌||◌, ◌∙◌, List, [], ◌∷◌, Option, Some, None, ℕ, refl, sym, ap, subst}
 use Rattle.std.specs.Prelude.{if◌then◌else◌, ◌==◌, is_none, is_some, Result, Ok, Err, ⊤}
 use Rattle.std.proofs.lemmas.Option.{same_Some}
-use Rattle.bus_base.specs.declared.Event.{Event}
-use Rattle.bus_base.specs.declared.Event.TheVariants as events
-use Rattle.bus_base.specs.declared.ProcId.{ProcId}
-use Rattle.bus_base.proofs.Tests.{wrong'}
-use Rattle.cdb_codec.specs.Cdb.{command_of}
-use Rattle.cdb_codec.specs.declared.Sense.{Sense}
-use Rattle.cdb_codec.specs.declared.command.CdbFault.{CdbFault}
-use Rattle.cdb_codec.specs.declared.command.CdbFault.TheVariants as faults
-use Rattle.cdb_codec.specs.declared.command.Command.{Command}
-use Rattle.cdb_codec.specs.declared.command.Command.TheVariants as commands
-use Rattle.cdb_codec.specs.declared.sense.TheConstants.{ABORTED_COMMAND}
-use Rattle.cdb_codec.specs.declared.status.TheConstants.{CHECK_CONDITION, GOOD, QUEUE_FULL}
-use Rattle.scenario.specs.Value.{ScenarioValue}
-use Rattle.scenario.specs.Writing.{Obeys}
-use Rattle.disk_array.specs.ArrayHistory.{array_after, array_step, reply_in}
-use Rattle.disk_array.specs.Execution.{CommandContext, Reply, attention_execution, block_out_of_range, cdb_execution, check_condition, command_execution, execution, heeds_attention, is_good_range, needs_unit, queue_full, range_execution, range_of, reply_execution, sense_of, unit_not_supported}
-use Rattle.disk_array.specs.Processes.{process_of, same_id, sense_block}
-use Rattle.disk_array.specs.Steps as Steps
-use Rattle.disk_array.specs.Units.{Array, RunningProcess, UnitState, guest_at, is_held, nexus_of, unit_state_at}
-use Rattle.disk_array.specs.SoundArray.{IsSound}
-use Rattle.disk_array.proofs.SoundArrays.{history_sound}
-use Rattle.disk_array.proofs.ArrayReplies.{abort_lists, fail_lists, loss_lists, reset_lists, took, end_lists}
-use Rattle.bus_books.proofs.Lookups.{id_is}
+use Rattle.bus_due.specs.bus_base.specs.declared.Event.{Event}
+use Rattle.bus_due.specs.bus_base.specs.declared.Event.TheVariants as events
+use Rattle.bus_due.specs.bus_base.specs.declared.ProcId.{ProcId}
+use Rattle.bus_due.specs.bus_base.proofs.Tests.{wrong'}
+use Rattle.bus_due.specs.cdb_codec.specs.Cdb.{command_of}
+use Rattle.bus_due.specs.cdb_codec.specs.declared.Sense.{Sense}
+use Rattle.bus_due.specs.cdb_codec.specs.declared.command.CdbFault.{CdbFault}
+use Rattle.bus_due.specs.cdb_codec.specs.declared.command.CdbFault.TheVariants as faults
+use Rattle.bus_due.specs.cdb_codec.specs.declared.command.Command.{Command}
+use Rattle.bus_due.specs.cdb_codec.specs.declared.command.Command.TheVariants as commands
+use Rattle.bus_due.specs.cdb_codec.specs.declared.sense.TheConstants.{ABORTED_COMMAND}
+use Rattle.bus_due.specs.cdb_codec.specs.declared.status.TheConstants.{CHECK_CONDITION, GOOD, QUEUE_FULL}
+use Rattle.bus_due.specs.scenario.specs.Value.{ScenarioValue}
+use Rattle.bus_due.specs.scenario.specs.Writing.{Obeys}
+use Rattle.bus_due.specs.disk_array.specs.ArrayHistory.{array_after, array_step, reply_in}
+use Rattle.bus_due.specs.disk_array.specs.Execution.{CommandContext, Reply, attention_execution, block_out_of_range, cdb_execution, check_condition, command_execution, execution, heeds_attention, is_good_range, needs_unit, queue_full, range_execution, range_of, reply_execution, sense_of, unit_not_supported}
+use Rattle.bus_due.specs.disk_array.specs.Processes.{process_of, same_id, sense_block}
+use Rattle.bus_due.specs.disk_array.specs.Steps as Steps
+use Rattle.bus_due.specs.disk_array.specs.Units.{Array, RunningProcess, UnitState, guest_at, is_held, nexus_of, unit_state_at}
+use Rattle.bus_due.specs.disk_array.specs.SoundArray.{IsSound}
+use Rattle.bus_due.specs.disk_array.proofs.SoundArrays.{history_sound}
+use Rattle.bus_due.specs.disk_array.proofs.ArrayReplies.{abort_lists, fail_lists, loss_lists, reset_lists, took, end_lists}
+use Rattle.trace_laws.specs.bus_books.proofs.Lookups.{id_is}
 use Rattle.trace_laws.proofs.ListedReplies.{accepted, refused, settles, running_id}
 use Rattle.trace_laws.proofs.OtherProcesses.{executed, reply_at}
 use Rattle.trace_laws.proofs.Impossible.{none_some}
 use Rattle.progress_laws.proofs.FetchedSenses.{sense_cdb}
 use Rattle.progress_laws.proofs.OwedEvents.{running_own}
-use Rattle.scsi_device.proofs.FitLines.{obeys_fits, seats_are}
+use Rattle.trace_laws.specs.scsi_device.proofs.FitLines.{obeys_fits, seats_are}
 
 abbrev pub is_known : ℕ → Bool
 is_known status = status == GOOD || (status == CHECK_CONDITION || status == QUEUE_FULL)

@@ -3,25 +3,25 @@ use Rattle.std.proofs.Common.{ℕ, ◌≡◌, Bool, true, false, not, ◌&&◌, 
 use Rattle.std.specs.Prelude.{if◌then◌else◌, is_some}
 use Rattle.std.specs.List.{list_all, list_any}
 use Rattle.std.proofs.lemmas.Bool.{and_from, and_parts}
-use Rattle.bus_base.specs.declared.Event.{Event}
-use Rattle.bus_base.specs.declared.Event.TheVariants as events
-use Rattle.bus_base.specs.declared.ProcId.{ProcId}
-use Rattle.bus_base.proofs.Tests.{and_first, and_second, wrong'}
-use Rattle.bus_trace.specs.LineSet.{LineSet}
-use Rattle.bus_trace.specs.declared.Row.{Row}
-use Rattle.bus_trace.specs.Changes.{rises}
-use Rattle.bus_trace.specs.Phases.{changes_phase, is_command}
-use Rattle.scenario.specs.declared.value.AbortDef.{AbortDef}
-use Rattle.scenario.specs.Value.{ScenarioValue}
-use Rattle.disk_array.specs.ArrayHistory.{array_after}
-use Rattle.bus_story.specs.BusState.{RowReading}
-use Rattle.bus_story.specs.CarriedBytes.{CarriedBytes, is_whole_block, is_status_phase}
-use Rattle.bus_story.specs.HistoryEvents.{abort_line_at, abort_line_events, bus_free_events, carried_if, end_events, is_completion, is_refuse, item_abort_events, item_loss_events, link_events, phase_events, queue_events, row_events_by, status_event, status_events}
-use Rattle.bus_story.specs.Items.{Item, process, abort}
-use Rattle.bus_story.specs.Links.{Link, LastMessage, plain, complete, disconnect, abortive}
-use Rattle.bus_story.specs.Story.{Story}
+use Rattle.bus_due.specs.bus_base.specs.declared.Event.{Event}
+use Rattle.bus_due.specs.bus_base.specs.declared.Event.TheVariants as events
+use Rattle.bus_due.specs.bus_base.specs.declared.ProcId.{ProcId}
+use Rattle.bus_due.specs.bus_base.proofs.Tests.{and_first, and_second, wrong'}
+use Rattle.bus_due.specs.bus_trace.specs.LineSet.{LineSet}
+use Rattle.bus_due.specs.bus_trace.specs.declared.Row.{Row}
+use Rattle.bus_due.specs.bus_trace.specs.Changes.{rises}
+use Rattle.bus_due.specs.bus_trace.specs.Phases.{changes_phase, is_command}
+use Rattle.bus_due.specs.scenario.specs.declared.value.AbortDef.{AbortDef}
+use Rattle.bus_due.specs.scenario.specs.Value.{ScenarioValue}
+use Rattle.bus_due.specs.disk_array.specs.ArrayHistory.{array_after}
+use Rattle.bus_due.specs.bus_story.specs.BusState.{RowReading}
+use Rattle.bus_due.specs.bus_story.specs.CarriedBytes.{CarriedBytes, is_whole_block, is_status_phase}
+use Rattle.bus_due.specs.bus_story.specs.HistoryEvents.{abort_line_at, abort_line_events, bus_free_events, carried_if, end_events, is_completion, is_refuse, item_abort_events, item_loss_events, link_events, phase_events, queue_events, row_events_by, status_event, status_events}
+use Rattle.bus_due.specs.bus_story.specs.Items.{Item, process, abort}
+use Rattle.bus_due.specs.bus_story.specs.Links.{Link, LastMessage, plain, complete, disconnect, abortive}
+use Rattle.bus_due.specs.bus_story.specs.Story.{Story}
 use Rattle.bus_due.specs.Telling.{same_event}
-use Rattle.ending_causes.specs.FullQueues.{has_event}
+use Rattle.trace_laws.specs.bus_books.specs.FullQueues.{has_event}
 use Rattle.trace_laws.proofs.ArrivalRows.{ArrivesNow}
 
 abbrev pub is_taken : Event → Bool

@@ -4,39 +4,39 @@ use Rattle.std.specs.Prelude.{if◌then◌else◌, ◌==◌, is_none, is_some, n
 use Rattle.std.specs.List.{list_all, list_any}
 use Rattle.std.proofs.lemmas.Bool.{eqb-true, or_left, or_right}
 use Rattle.std.proofs.lemmas.Option.{same_Some}
-use Rattle.bus_base.specs.declared.Event.{Event}
-use Rattle.bus_base.specs.declared.Event.TheVariants as events
-use Rattle.bus_base.specs.declared.ProcId.{ProcId}
-use Rattle.bus_base.proofs.Tests.{wrong', and_first, and_second}
-use Rattle.cdb_codec.specs.Cdb.{command_of, sized_of, has_group_len, are_zero, spare_room}
-use Rattle.cdb_codec.specs.Operations.{operation_of}
-use Rattle.cdb_codec.specs.declared.command.CdbFault.{CdbFault}
-use Rattle.cdb_codec.specs.declared.command.CdbFault.TheVariants as faults
-use Rattle.cdb_codec.specs.declared.command.Command.{Command}
-use Rattle.cdb_codec.specs.declared.command.Command.TheVariants as commands
-use Rattle.cdb_codec.specs.declared.operation.Operation.TheVariants as operations
-use Rattle.cdb_codec.specs.declared.operation.TheConstants.{INQUIRY, REQUEST_SENSE}
-use Rattle.cdb_codec.specs.declared.sense.TheConstants.{ABORTED_COMMAND}
-use Rattle.cdb_codec.specs.declared.status.TheConstants.{CHECK_CONDITION, GOOD}
-use Rattle.scenario.specs.declared.value.CmdDef.{CmdDef}
-use Rattle.scenario.specs.declared.value.UnitDef.{UnitDef}
-use Rattle.scenario.specs.Lookups.{has_target, unit_of}
-use Rattle.scenario.specs.Value.{ScenarioValue}
-use Rattle.scenario.specs.Writing.{Obeys}
-use Rattle.disk_array.specs.ArrayHistory.{array_after, array_step, reply_in}
-use Rattle.disk_array.specs.Execution.{CommandContext, Reply, attention_execution, block_out_of_range, cdb_execution, check_condition, command_execution, execution, is_good_range, is_opcode, is_request_sense, needs_unit, queue_full, range_execution, range_of, reply_execution, sense_of, unit_not_supported}
-use Rattle.disk_array.specs.Processes.{Process, command_at, process_of, process_if, process_by, same_id}
-use Rattle.disk_array.specs.SoundArray.{IsSound}
-use Rattle.disk_array.specs.Steps as Steps
-use Rattle.disk_array.specs.Units.{Array, Nexus, RunningProcess, UnitState, guest_at, is_held, nexus_of, nexuses_without, sense_of_nexus, senses_without, settled_array, unit_state_at, with_unit}
-use Rattle.disk_array.proofs.ArrayReplies.{fail_lists, loss_lists, took, end_lists}
-use Rattle.disk_array.proofs.SoundArrays.{history_sound}
-use Rattle.bus_story.specs.Items.{command_id}
-use Rattle.bus_story.specs.Outcomes.{fits_unit, is_sound_command, is_valid}
-use Rattle.bus_books.proofs.Lookups.{id_is, self_id}
-use Rattle.scsi_device.proofs.FitLines.{obeys_fits, seats_are}
-use Rattle.target_units.specs.Rooms.{AreOfLines, IsOfLine}
-use Rattle.target_units.proofs.Rooms.{lines_always}
+use Rattle.bus_due.specs.bus_base.specs.declared.Event.{Event}
+use Rattle.bus_due.specs.bus_base.specs.declared.Event.TheVariants as events
+use Rattle.bus_due.specs.bus_base.specs.declared.ProcId.{ProcId}
+use Rattle.bus_due.specs.bus_base.proofs.Tests.{wrong', and_first, and_second}
+use Rattle.bus_due.specs.cdb_codec.specs.Cdb.{command_of, sized_of, has_group_len, are_zero, spare_room}
+use Rattle.bus_due.specs.cdb_codec.specs.Operations.{operation_of}
+use Rattle.bus_due.specs.cdb_codec.specs.declared.command.CdbFault.{CdbFault}
+use Rattle.bus_due.specs.cdb_codec.specs.declared.command.CdbFault.TheVariants as faults
+use Rattle.bus_due.specs.cdb_codec.specs.declared.command.Command.{Command}
+use Rattle.bus_due.specs.cdb_codec.specs.declared.command.Command.TheVariants as commands
+use Rattle.bus_due.specs.cdb_codec.specs.declared.operation.Operation.TheVariants as operations
+use Rattle.bus_due.specs.cdb_codec.specs.declared.operation.TheConstants.{INQUIRY, REQUEST_SENSE}
+use Rattle.bus_due.specs.cdb_codec.specs.declared.sense.TheConstants.{ABORTED_COMMAND}
+use Rattle.bus_due.specs.cdb_codec.specs.declared.status.TheConstants.{CHECK_CONDITION, GOOD}
+use Rattle.bus_due.specs.scenario.specs.declared.value.CmdDef.{CmdDef}
+use Rattle.bus_due.specs.scenario.specs.declared.value.UnitDef.{UnitDef}
+use Rattle.bus_due.specs.scenario.specs.Lookups.{has_target, unit_of}
+use Rattle.bus_due.specs.scenario.specs.Value.{ScenarioValue}
+use Rattle.bus_due.specs.scenario.specs.Writing.{Obeys}
+use Rattle.bus_due.specs.disk_array.specs.ArrayHistory.{array_after, array_step, reply_in}
+use Rattle.bus_due.specs.disk_array.specs.Execution.{CommandContext, Reply, attention_execution, block_out_of_range, cdb_execution, check_condition, command_execution, execution, is_good_range, is_opcode, is_request_sense, needs_unit, queue_full, range_execution, range_of, reply_execution, sense_of, unit_not_supported}
+use Rattle.bus_due.specs.disk_array.specs.Processes.{Process, command_at, process_of, process_if, process_by, same_id}
+use Rattle.bus_due.specs.disk_array.specs.SoundArray.{IsSound}
+use Rattle.bus_due.specs.disk_array.specs.Steps as Steps
+use Rattle.bus_due.specs.disk_array.specs.Units.{Array, Nexus, RunningProcess, UnitState, guest_at, is_held, nexus_of, nexuses_without, sense_of_nexus, senses_without, settled_array, unit_state_at, with_unit}
+use Rattle.bus_due.specs.disk_array.proofs.ArrayReplies.{fail_lists, loss_lists, took, end_lists}
+use Rattle.bus_due.specs.disk_array.proofs.SoundArrays.{history_sound}
+use Rattle.bus_due.specs.bus_story.specs.Items.{command_id}
+use Rattle.bus_due.specs.bus_story.specs.Outcomes.{fits_unit, is_sound_command, is_valid}
+use Rattle.trace_laws.specs.bus_books.proofs.Lookups.{id_is, self_id}
+use Rattle.trace_laws.specs.scsi_device.proofs.FitLines.{obeys_fits, seats_are}
+use Rattle.trace_laws.specs.target_units.specs.Rooms.{AreOfLines, IsOfLine}
+use Rattle.trace_laws.specs.target_units.proofs.Rooms.{lines_always}
 use Rattle.trace_laws.proofs.Impossible.{none_some}
 use Rattle.trace_laws.proofs.ListedReplies.{accepted, refused, settles, running_id}
 use Rattle.trace_laws.proofs.OtherProcesses.{executed, reply_at}

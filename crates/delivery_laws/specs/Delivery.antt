@@ -1,43 +1,43 @@
 -- What strikes a command on its way, and how much of it the command bears; and that a valid command which is within that ends GOOD
 -- (6.1.3, 6.1.3.1, 6.6.10, 7.8).
 use Rattle.std.specs.Prelude.{ℕ, ◌≡◌, ◌⊎◌, ◌==◌, ◌++◌, ◌+◌, Bool, true, false, not, ◌&&◌, min, nat_le, nat_lt, List, [], ◌∷◌, Option, Some, None, Result, Ok, Err, is_some, if◌then◌else◌}
-use Rattle.bus_base.specs.declared.ProcId.{ProcId}
-use Rattle.bus_base.specs.declared.Event.{Event}
-use Rattle.bus_base.specs.declared.Event.TheVariants as events
-use Rattle.bus_trace.specs.declared.Row.{Row}
-use Rattle.bus_trace.specs.declared.selection.Call.{Call}
-use Rattle.bus_trace.specs.declared.selection.Calling.{Calling}
-use Rattle.bus_trace.specs.Terms.{is_fault}
-use Rattle.scenario.specs.declared.value.CmdDef.{CmdDef}
-use Rattle.scenario.specs.declared.value.TargetDef.{TargetDef}
-use Rattle.scenario.specs.Value.{ScenarioValue}
-use Rattle.scenario.specs.Writing.{Obeys}
-use Rattle.disk_array.specs.ArrayHistory.{array_after, reply_of}
-use Rattle.disk_array.specs.Execution.{Reply, aborted_reply, block_out_of_range, execution, invalid_field, invalid_opcode, needs_unit, queue_full, unit_not_supported}
-use Rattle.disk_array.specs.Processes.{Process, command_at, process_of, same_id}
-use Rattle.disk_array.specs.Steps.{context_at}
-use Rattle.disk_array.specs.Units.{Array, nexus_of, unit_state_at}
-use Rattle.cdb_codec.specs.Cdb.{command_of}
-use Rattle.cdb_codec.specs.declared.command.CdbFault.{CdbFault}
-use Rattle.cdb_codec.specs.declared.command.CdbFault.TheVariants as faults
-use Rattle.cdb_codec.specs.declared.command.Command.{Command}
-use Rattle.cdb_codec.specs.declared.Sense.{Sense}
-use Rattle.cdb_codec.specs.declared.sense.TheConstants.{ABORTED_COMMAND}
-use Rattle.cdb_codec.specs.declared.status.TheConstants.{CHECK_CONDITION}
-use Rattle.bus_story.specs.Items.{Item, same_item, command_id, command_item}
-use Rattle.bus_story.specs.Outcomes.{ending_of, ended_aborted, ended_check, ended_full, ended_lost, ended_reset, ended_unanswered, is_valid, is_roomy, outcome_of}
-use Rattle.bus_story.specs.Story.{by_status}
-use Rattle.bus_story.specs.TraceHistory.{aim_of, retries_of, story, trace_history}
-use Rattle.bus_dialogue.specs.PhaseBytes.{one_if}
+use Rattle.bus_due.specs.bus_base.specs.declared.ProcId.{ProcId}
+use Rattle.bus_due.specs.bus_base.specs.declared.Event.{Event}
+use Rattle.bus_due.specs.bus_base.specs.declared.Event.TheVariants as events
+use Rattle.bus_due.specs.bus_trace.specs.declared.Row.{Row}
+use Rattle.bus_due.specs.bus_trace.specs.declared.selection.Call.{Call}
+use Rattle.bus_due.specs.bus_trace.specs.declared.selection.Calling.{Calling}
+use Rattle.bus_due.specs.bus_trace.specs.Terms.{is_fault}
+use Rattle.bus_due.specs.scenario.specs.declared.value.CmdDef.{CmdDef}
+use Rattle.bus_due.specs.scenario.specs.declared.value.TargetDef.{TargetDef}
+use Rattle.bus_due.specs.scenario.specs.Value.{ScenarioValue}
+use Rattle.bus_due.specs.scenario.specs.Writing.{Obeys}
+use Rattle.bus_due.specs.disk_array.specs.ArrayHistory.{array_after, reply_of}
+use Rattle.bus_due.specs.disk_array.specs.Execution.{Reply, aborted_reply, block_out_of_range, execution, invalid_field, invalid_opcode, needs_unit, queue_full, unit_not_supported}
+use Rattle.bus_due.specs.disk_array.specs.Processes.{Process, command_at, process_of, same_id}
+use Rattle.bus_due.specs.disk_array.specs.Steps.{context_at}
+use Rattle.bus_due.specs.disk_array.specs.Units.{Array, nexus_of, unit_state_at}
+use Rattle.bus_due.specs.cdb_codec.specs.Cdb.{command_of}
+use Rattle.bus_due.specs.cdb_codec.specs.declared.command.CdbFault.{CdbFault}
+use Rattle.bus_due.specs.cdb_codec.specs.declared.command.CdbFault.TheVariants as faults
+use Rattle.bus_due.specs.cdb_codec.specs.declared.command.Command.{Command}
+use Rattle.bus_due.specs.cdb_codec.specs.declared.Sense.{Sense}
+use Rattle.bus_due.specs.cdb_codec.specs.declared.sense.TheConstants.{ABORTED_COMMAND}
+use Rattle.bus_due.specs.cdb_codec.specs.declared.status.TheConstants.{CHECK_CONDITION}
+use Rattle.bus_due.specs.bus_story.specs.Items.{Item, same_item, command_id, command_item}
+use Rattle.bus_due.specs.bus_story.specs.Outcomes.{ending_of, ended_aborted, ended_check, ended_full, ended_lost, ended_reset, ended_unanswered, is_valid, is_roomy, outcome_of}
+use Rattle.bus_due.specs.bus_story.specs.Story.{by_status}
+use Rattle.bus_due.specs.bus_story.specs.TraceHistory.{aim_of, retries_of, story, trace_history}
+use Rattle.bus_due.specs.bus_dialogue.specs.PhaseBytes.{one_if}
 use Rattle.bus_due.specs.Defs.{target_def_of}
 use Rattle.bus_due.specs.Goals.{is_good}
 use Rattle.bus_due.specs.Next.{IsPrompt, IsEnded}
 use Rattle.bus_due.specs.RunState.{RunState}
 use Rattle.bus_due.specs.RunSteps.{run_state}
-use Rattle.ending_causes.specs.FullQueues.{has_event, was_refused}
-use Rattle.ending_causes.specs.WrongParity.{fault_rows}
+use Rattle.trace_laws.specs.bus_books.specs.FullQueues.{has_event, was_refused}
+use Rattle.trace_laws.specs.bus_books.specs.WrongParity.{fault_rows}
 use Rattle.initiator.specs.Causes.{has_bus_reset, has_command_abort, has_sense_stop}
-use Rattle.scenario.specs.Lookups.{has_target, unit_of}
+use Rattle.bus_due.specs.scenario.specs.Lookups.{has_target, unit_of}
 
 -- ---- the faults of a command
 

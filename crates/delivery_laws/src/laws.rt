@@ -1,40 +1,40 @@
 // Laws of prompt traces, each named by the contract of a function that does nothing.
 
 ghost use Rattle.std.specs.Prelude.{ℕ, ◌≡◌, ◌≤◌, ◌⊎◌, length, nat_le, nat_lt, true, false, List, [], Some};
-ghost use Rattle.bus_trace.specs.declared.Row.{Row};
-ghost use Rattle.bus_base.specs.declared.Event.TheVariants as events;
+ghost use Rattle.bus_due.specs.bus_trace.specs.declared.Row.{Row};
+ghost use Rattle.bus_due.specs.bus_base.specs.declared.Event.TheVariants as events;
 ghost use Rattle.bus_due.specs.Goals.{Delivers, is_good};
 ghost use Rattle.bus_due.specs.Next.{IsPrompt, IsEnded};
-ghost use Rattle.ending_causes.specs.FullQueues.{has_event};
+ghost use Rattle.trace_laws.specs.bus_books.specs.FullQueues.{has_event};
 ghost use Rattle.bus_due.specs.RunSteps.{run_state};
 ghost use Rattle.std.specs.List.{list_any};
-ghost use Rattle.bus_base.specs.declared.Event.{Event};
-ghost use Rattle.bus_base.specs.declared.ProcId.{ProcId};
-ghost use Rattle.scenario.specs.declared.value.CmdDef.{CmdDef};
-ghost use Rattle.scenario.specs.Value.{ScenarioValue};
-ghost use Rattle.scenario.specs.Writing.{Obeys};
-ghost use Rattle.disk_array.specs.ArrayHistory.{array_after, reply_in, reply_of};
-ghost use Rattle.disk_array.specs.Execution.{Reply};
-ghost use Rattle.disk_array.specs.Processes.{command_at};
-ghost use Rattle.disk_array.specs.Units.{Array};
-ghost use Rattle.cdb_codec.specs.declared.status.TheConstants.{GOOD};
-ghost use Rattle.bus_story.specs.Items.{command_id, command_item, open_from, open_limit_of};
-ghost use Rattle.bus_story.specs.Outcomes.{ending_of, is_roomy, is_valid, outcome_of};
-ghost use Rattle.bus_story.specs.Story.{unanswered};
-ghost use Rattle.bus_story.specs.TraceHistory.{retries_of, story, trace_history};
-ghost use Rattle.scenario.specs.Lookups.{has_target};
+ghost use Rattle.bus_due.specs.bus_base.specs.declared.Event.{Event};
+ghost use Rattle.bus_due.specs.bus_base.specs.declared.ProcId.{ProcId};
+ghost use Rattle.bus_due.specs.scenario.specs.declared.value.CmdDef.{CmdDef};
+ghost use Rattle.bus_due.specs.scenario.specs.Value.{ScenarioValue};
+ghost use Rattle.bus_due.specs.scenario.specs.Writing.{Obeys};
+ghost use Rattle.bus_due.specs.disk_array.specs.ArrayHistory.{array_after, reply_in, reply_of};
+ghost use Rattle.bus_due.specs.disk_array.specs.Execution.{Reply};
+ghost use Rattle.bus_due.specs.disk_array.specs.Processes.{command_at};
+ghost use Rattle.bus_due.specs.disk_array.specs.Units.{Array};
+ghost use Rattle.bus_due.specs.cdb_codec.specs.declared.status.TheConstants.{GOOD};
+ghost use Rattle.bus_due.specs.bus_story.specs.Items.{command_id, command_item, open_from, open_limit_of};
+ghost use Rattle.bus_due.specs.bus_story.specs.Outcomes.{ending_of, is_roomy, is_valid, outcome_of};
+ghost use Rattle.bus_due.specs.bus_story.specs.Story.{unanswered};
+ghost use Rattle.bus_due.specs.bus_story.specs.TraceHistory.{retries_of, story, trace_history};
+ghost use Rattle.bus_due.specs.scenario.specs.Lookups.{has_target};
 ghost use Rattle.delivery_laws.specs.Delivery.{AreAnswered, AreCaused, AreChecked, AreOwnSenses, AreStoppedSenses, DeliversFaulted, HasRun, IsGiven};
 ghost use Rattle.delivery_laws.specs.Delivery.{calling_faults, command_faults, fault_limit, is_calm_event, is_given_up_by};
 ghost use Rattle.delivery_laws.specs.Resets.{are_lines, are_releases, has_line};
-ghost use Rattle.scenario.specs.declared.value.ResetDef.{ResetDef};
+ghost use Rattle.bus_due.specs.scenario.specs.declared.value.ResetDef.{ResetDef};
 ghost use Rattle.std.specs.List.{list_all};
 
 use bus_due::wants_are_items;
-use ending_causes::replies_have_causes;
-use fault_laws::fault_rows_are_of_the_scenario;
 use initiator::endings_have_causes;
 use progress_laws::ended_traces_have_outcomes;
+use right_laws::fault_rows_are_of_the_scenario;
 use trace_laws::limits_are_kept;
+use trace_laws::the_bus_books::replies_have_causes;
 
 /// In a history without resets and aborts a valid command is answered GOOD, unless it was refused or failed.
 pub fn valid_commands_run_good()

@@ -1,12 +1,18 @@
-//! Laws of prompt traces: valid commands end GOOD, others with the sense of what is wrong with them; each other outcome
-//! has its cause; the sense that comes back is that of the command's own reply; and RST begins by the reset lines alone.
+//! Laws of prompt traces: valid commands end GOOD, others with the sense of what is wrong with them; each other
+//! outcome has its cause; the sense that comes back is that of the command's own reply; and RST begins by the reset
+//! lines alone.
 #![tactic(auto)]
 
 mod laws;
 
 pub use laws::{
-    calm_scenarios_have_calm_histories, invalid_commands_are_checked, open_commands_are_within_limits,
-    outcomes_have_causes, replies_are_given, replies_last, resets_are_by_lines, roomy_scenarios_refuse_nothing,
-    senseless_checks_were_stopped, senses_are_their_own, unanswered_commands_were_struck,
-    unrefused_commands_are_delivered, valid_commands_are_delivered, valid_commands_run_good,
+    calm_scenarios_have_calm_histories, invalid_commands_are_checked,
+    open_commands_are_within_limits, outcomes_have_causes, replies_are_given, replies_last,
+    resets_are_by_lines, roomy_scenarios_refuse_nothing, senseless_checks_were_stopped,
+    senses_are_their_own, unanswered_commands_were_struck, unrefused_commands_are_delivered,
+    valid_commands_are_delivered, valid_commands_run_good,
 };
+
+// Handed on to the crates above that list this one and not these.
+pub use progress_laws as the_progress_laws;
+pub use right_laws as the_right_laws;

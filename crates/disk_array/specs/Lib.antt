@@ -9,3 +9,6 @@ pub mod Seats
 pub mod SoundArray
 pub mod ArrayHistory
 pub mod SeatReplies
+-- Handed on to the crates above that list this one and not these.
+pub use Rattle.cdb_codec
+pub use Rattle.scenario

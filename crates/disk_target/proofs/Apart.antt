@@ -10,11 +10,11 @@ use Rattle.bus_trace.specs.Trace.{bus}
 use Rattle.scenario.specs.declared.value.FaultDef.{FaultDef}
 use Rattle.scenario.specs.declared.value.TargetDef.{TargetDef}
 use Rattle.bus_reactions.specs.Reset.{with_reset}
-use Rattle.scsi_device.proofs.Finds.{some_is}
-use Rattle.scsi_device.specs.Told.{told}
+use Rattle.target_course.specs.scsi_device.proofs.Finds.{some_is}
+use Rattle.target_course.specs.scsi_device.specs.Told.{told}
 use Rattle.target_course.specs.Dues.{calm_by, myself_by, target_next}
 use Rattle.target_course.specs.States.{IsOwnConnection, TargetState}
-use Rattle.target_units.specs.declared.ready.Ready.{Ready}
+use Rattle.target_course.specs.target_units.specs.declared.ready.Ready.{Ready}
 use Rattle.disk_target.specs.Bytes.{IsOthers, StandsInOwn, are_own}
 
 -- In a connection of others it stands in none of its own.

@@ -3,7 +3,7 @@ use Rattle.std.proofs.Common.{◌≡◌, true, [], refl}
 use lib.Count.{ones}
 use Rattle.bus_trace.specs.LineSet.{line_of}
 use Rattle.bus_trace.specs.View.{union_below}
-use Rattle.msg_grammar.specs.Messages.{form_out, form_in}
+use Rattle.bus_due.specs.msg_grammar.specs.Messages.{form_out, form_in}
 use Rattle.scenario.specs.Needs.{need_of, sent_of}
 use Rattle.bus_due.proofs.Seams.{onto}
 use Rattle.disk_target.specs.Attended.{attended}

@@ -7,7 +7,7 @@ use Rattle.disk_array.specs.Seats.{seat_of, guests_at, current_of, waits_in}
 use Rattle.disk_array.specs.Steps.{running_if, running_in, running_process, is_waiting, is_of_unit}
 use Rattle.disk_array.specs.Units.{RunningProcess, UnitState, Array, unit_state_at, guest_at}
 use Rattle.disk_array.proofs.SeatReplies.{id_self}
-use Rattle.scsi_device.specs.Heard.{is_new}
+use Rattle.target_course.specs.scsi_device.specs.Heard.{is_new}
 use Rattle.disk_target.specs.Standings.{is_inside, IsNoGuest}
 use Rattle.std.proofs.lemmas.Bool.{not-true}
 use Rattle.bus_base.proofs.Tests.{and_first, and_second, is_nothing, or_none_first, or_none_second}

@@ -9,26 +9,26 @@ use Rattle.bus_trace.specs.Trace.{bus}
 use Rattle.scenario.specs.declared.value.TargetDef.{TargetDef}
 use Rattle.scenario.specs.Value.{ScenarioValue}
 use Rattle.disk_unit.specs.declared.unit.Reply.{Reply}
-use Rattle.bus_dialogue.specs.declared.exchange.Hearing.{Hearing}
-use Rattle.bus_dialogue.specs.declared.exchange.Leaving.{Leaving}
-use Rattle.bus_dialogue.specs.declared.exchange.Plan.{Plan}
-use Rattle.bus_dialogue.specs.NextPhase as next_phase
-use Rattle.bus_dialogue.specs.Planning.{plan_after}
+use Rattle.bus_due.specs.bus_dialogue.specs.declared.exchange.Hearing.{Hearing}
+use Rattle.bus_due.specs.bus_dialogue.specs.declared.exchange.Leaving.{Leaving}
+use Rattle.bus_due.specs.bus_dialogue.specs.declared.exchange.Plan.{Plan}
+use Rattle.bus_due.specs.bus_dialogue.specs.NextPhase as next_phase
+use Rattle.bus_due.specs.bus_dialogue.specs.Planning.{plan_after}
 use Rattle.bus_due.specs.Defs.{target_def_of}
 use Rattle.bus_due.specs.Plain.{IsPlain}
 use Rattle.bus_due.specs.RunSteps.{run_state}
 use Rattle.bus_due.specs.Sights.{serving_of}
 use Rattle.bus_due.specs.Tasks.{given_of}
-use Rattle.scsi_device.proofs.Finds.{some_is}
-use Rattle.scsi_device.specs.Heard.{heard}
-use Rattle.scsi_device.specs.Lines.{FitsBus}
+use Rattle.target_course.specs.scsi_device.proofs.Finds.{some_is}
+use Rattle.target_course.specs.scsi_device.specs.Heard.{heard}
+use Rattle.target_course.specs.scsi_device.specs.Lines.{FitsBus}
 use Rattle.target_course.specs.Servings.{serving_with}
 use Rattle.target_course.specs.States.{AreAlikeIn, IsOwnConnection, offering_in}
 use Rattle.target_course.specs.Courses.{CourseState, AreToldOf, IsCourseOf, course_after, course_told}
 use Rattle.target_course.specs.Fits.{AreFit}
 use Rattle.target_course.specs.Progress.{ProgressValue, is_phase_left, progress_counted, progress_seen}
 use Rattle.target_course.proofs.CourseRows.{course_offers}
-use Rattle.target_units.specs.Units.{UnitsState}
+use Rattle.target_course.specs.target_units.specs.Units.{UnitsState}
 use Rattle.disk_target.specs.Knowns.{AreSourcesOf, IsKnownBy, IsKnownIf, IsStill, refreshed, with_plan}
 use Rattle.disk_target.specs.Targets.{TargetValue, IsCourseIf, IsServable, KnowsRows}
 use Rattle.disk_target.specs.declared.known.Known.{Known}

@@ -12,8 +12,8 @@ use Rattle.disk_array.specs.Processes.{Process, payload_bytes, sense_block, comm
 use Rattle.disk_array.specs.Seats.{is_initiator}
 use Rattle.bus_due.specs.Defs.{target_def_of}
 use Rattle.bus_due.specs.Wants.{seek_of}
-use Rattle.scsi_device.proofs.Finds.{none_some, some_is}
-use Rattle.scsi_device.specs.Lines.{IsCommandLine}
+use Rattle.target_course.specs.scsi_device.proofs.Finds.{none_some, some_is}
+use Rattle.target_course.specs.scsi_device.specs.Lines.{IsCommandLine}
 
 -- ---- a process is of a unit below 8 and of an initiator
 

@@ -16,13 +16,13 @@ use Rattle.bus_due.specs.Allowed.{allowed}
 use Rattle.bus_due.specs.RunState.{RunState, array_of, or_start}
 use Rattle.bus_due.specs.RunSteps.{run_state, events_of_row}
 use Rattle.bus_due.specs.Wants.{since_of}
-use Rattle.scsi_device.specs.Heard.{is_new}
-use Rattle.target_units.specs.Absent.{nothing_kept}
-use Rattle.target_units.specs.Seated.{seat_time}
-use Rattle.target_units.specs.Units.{UnitsState, AreUnitsAfter, AreUnitsOf, IsStep, IsUnitOf, spare_of, unit_in}
-use Rattle.target_units.specs.declared.logical.LogicalUnit.{LogicalUnit}
-use Rattle.target_units.specs.declared.logical.LogicalUnit.TheVariants as kinds
-use Rattle.target_units.proofs.UnitSteps.{left_kept, loss_left, one_goes, other_place, unit_goes, unit_stays}
+use Rattle.target_course.specs.scsi_device.specs.Heard.{is_new}
+use Rattle.target_course.specs.target_units.specs.Absent.{nothing_kept}
+use Rattle.target_course.specs.target_units.specs.Seated.{seat_time}
+use Rattle.target_course.specs.target_units.specs.Units.{UnitsState, AreUnitsAfter, AreUnitsOf, IsStep, IsUnitOf, spare_of, unit_in}
+use Rattle.target_course.specs.target_units.specs.declared.logical.LogicalUnit.{LogicalUnit}
+use Rattle.target_course.specs.target_units.specs.declared.logical.LogicalUnit.TheVariants as kinds
+use Rattle.target_course.specs.target_units.proofs.UnitSteps.{left_kept, loss_left, one_goes, other_place, unit_goes, unit_stays}
 use Rattle.disk_target.specs.Processes.{AreKeptOf}
 use Rattle.disk_target.specs.Standings.{IsNoGuest, is_inside}
 use Rattle.disk_target.proofs.Beginnings.{new_nowhere}

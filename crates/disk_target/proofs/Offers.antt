@@ -5,20 +5,20 @@ use Rattle.bus_trace.specs.LineSet.{LineSet}
 use Rattle.bus_lines.specs.Handshakes.{Handshakes}
 use Rattle.scenario.specs.declared.value.TargetDef.{TargetDef}
 use Rattle.bus_reactions.specs.declared.ends.Offering.{Offering}
-use Rattle.bus_dialogue.specs.declared.exchange.Arrival.{Arrival}
-use Rattle.bus_dialogue.specs.declared.exchange.Cause.{Cause}
-use Rattle.bus_dialogue.specs.declared.exchange.Cause.TheVariants as causes
-use Rattle.bus_dialogue.specs.declared.exchange.Leaving.{Leaving}
-use Rattle.bus_dialogue.specs.declared.exchange.Next.{Next}
-use Rattle.bus_dialogue.specs.declared.exchange.Next.TheVariants as nexts
-use Rattle.bus_dialogue.specs.declared.exchange.Phase.{Phase}
-use Rattle.bus_dialogue.specs.declared.exchange.Phase.TheVariants as phases
-use Rattle.bus_dialogue.specs.declared.exchange.Plan.{Plan}
-use Rattle.bus_dialogue.specs.declared.exchange.Task.{Task}
-use Rattle.bus_dialogue.specs.Arrivals.{policy_of}
-use Rattle.bus_dialogue.specs.Ends.{offering_by, seek_before}
-use Rattle.bus_dialogue.specs.NextPhase.{Serving, phase_of, phase_leaving, message_out_leaving, after_messages, unless_attention}
-use Rattle.bus_dialogue.specs.PhaseBytes.{phase_byte, run_length_if, follows_in, lines_by}
+use Rattle.bus_due.specs.bus_dialogue.specs.declared.exchange.Arrival.{Arrival}
+use Rattle.bus_due.specs.bus_dialogue.specs.declared.exchange.Cause.{Cause}
+use Rattle.bus_due.specs.bus_dialogue.specs.declared.exchange.Cause.TheVariants as causes
+use Rattle.bus_due.specs.bus_dialogue.specs.declared.exchange.Leaving.{Leaving}
+use Rattle.bus_due.specs.bus_dialogue.specs.declared.exchange.Next.{Next}
+use Rattle.bus_due.specs.bus_dialogue.specs.declared.exchange.Next.TheVariants as nexts
+use Rattle.bus_due.specs.bus_dialogue.specs.declared.exchange.Phase.{Phase}
+use Rattle.bus_due.specs.bus_dialogue.specs.declared.exchange.Phase.TheVariants as phases
+use Rattle.bus_due.specs.bus_dialogue.specs.declared.exchange.Plan.{Plan}
+use Rattle.bus_due.specs.bus_dialogue.specs.declared.exchange.Task.{Task}
+use Rattle.bus_due.specs.bus_dialogue.specs.Arrivals.{policy_of}
+use Rattle.bus_due.specs.bus_dialogue.specs.Ends.{offering_by, seek_before}
+use Rattle.bus_due.specs.bus_dialogue.specs.NextPhase.{Serving, phase_of, phase_leaving, message_out_leaving, after_messages, unless_attention}
+use Rattle.bus_due.specs.bus_dialogue.specs.PhaseBytes.{phase_byte, run_length_if, follows_in, lines_by}
 use Rattle.target_course.specs.Alike.{AreAlike}
 use Rattle.target_course.proofs.Agreeing.{serves}
 use Rattle.disk_target.specs.Bytes.{gives_data}

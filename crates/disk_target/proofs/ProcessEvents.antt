@@ -5,7 +5,7 @@ use Rattle.std.proofs.lemmas.Bool.{eqb-true}
 use Rattle.bus_base.specs.declared.AbortKind.{AbortKind}
 use Rattle.bus_base.specs.declared.AbortKind.TheVariants as aborts
 use Rattle.bus_base.specs.declared.Event.TheVariants as events
-use Rattle.bus_dialogue.specs.declared.exchange.Room.{Room}
+use Rattle.bus_due.specs.bus_dialogue.specs.declared.exchange.Room.{Room}
 use Rattle.cdb_codec.specs.Cdb.{command_of}
 use Rattle.cdb_codec.specs.declared.status.TheConstants.{GOOD}
 use Rattle.scenario.specs.declared.value.HostDef.{HostDef}
@@ -24,10 +24,10 @@ use Rattle.disk_unit.specs.declared.unit.Reply as unit
 use Rattle.disk_unit.specs.Plans.{plan_of}
 use Rattle.disk_unit.specs.Units.{told_of, planned_reply}
 use Rattle.bus_due.specs.Tasks.{room_of, reply_now}
-use Rattle.target_units.specs.Seated.{IsNew, reply_told}
-use Rattle.target_units.specs.Units.{IsStep, AreUnitsAfter, is_of_one}
-use Rattle.target_units.proofs.UnitSteps.{accept_left, refuse_left, run_left, fail_left, end_left, loss_left, running_own}
-use Rattle.target_units.proofs.UnitTellings.{reply_same}
+use Rattle.target_course.specs.target_units.specs.Seated.{IsNew, reply_told}
+use Rattle.target_course.specs.target_units.specs.Units.{IsStep, AreUnitsAfter, is_of_one}
+use Rattle.target_course.specs.target_units.proofs.UnitSteps.{accept_left, refuse_left, run_left, fail_left, end_left, loss_left, running_own}
+use Rattle.target_course.specs.target_units.proofs.UnitTellings.{reply_same}
 use Rattle.disk_target.specs.declared.standing.Standing.{Standing}
 use Rattle.disk_target.specs.declared.standing.Standing.TheVariants as standings
 use Rattle.disk_target.specs.Standings.{is_inside, IsGuest, IsNoGuest, IsStanding, standing_on_arrival, standing_on_failure, is_guest, outcome_of, standing_at_first}

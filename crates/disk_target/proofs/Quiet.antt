@@ -15,22 +15,22 @@ use Rattle.disk_array.specs.Processes.{command_at}
 use Rattle.disk_array.specs.SoundArray.{HasSeats}
 use Rattle.disk_unit.specs.declared.media.Plan.{Plan as UnitPlan}
 use Rattle.disk_unit.specs.declared.unit.Reply.{Reply}
-use Rattle.bus_story.specs.BusState.{row_reading}
-use Rattle.bus_dialogue.specs.Hearing.{hearing}
-use Rattle.bus_dialogue.specs.NextPhase.{phase_of}
-use Rattle.bus_dialogue.specs.Planning.{plan_in_phase, plan_with_byte}
-use Rattle.bus_dialogue.specs.Exchange.{plan_after_message, struck_plan}
-use Rattle.bus_dialogue.specs.declared.exchange.Hearing.{Hearing}
-use Rattle.bus_dialogue.specs.declared.exchange.Leaving.{Leaving}
-use Rattle.bus_dialogue.specs.declared.exchange.Plan.{Plan}
+use Rattle.bus_due.specs.bus_story.specs.BusState.{row_reading}
+use Rattle.bus_due.specs.bus_dialogue.specs.Hearing.{hearing}
+use Rattle.bus_due.specs.bus_dialogue.specs.NextPhase.{phase_of}
+use Rattle.bus_due.specs.bus_dialogue.specs.Planning.{plan_in_phase, plan_with_byte}
+use Rattle.bus_due.specs.bus_dialogue.specs.Exchange.{plan_after_message, struck_plan}
+use Rattle.bus_due.specs.bus_dialogue.specs.declared.exchange.Hearing.{Hearing}
+use Rattle.bus_due.specs.bus_dialogue.specs.declared.exchange.Leaving.{Leaving}
+use Rattle.bus_due.specs.bus_dialogue.specs.declared.exchange.Plan.{Plan}
 use Rattle.bus_due.specs.Faithful.{faithful, is_faithful}
 use Rattle.bus_due.specs.Sights.{hearing_of}
 use Rattle.bus_due.specs.Telling.{target_events}
 use Rattle.bus_due.specs.Plain.{IsPlain, AreOfDevices}
 use Rattle.bus_due.specs.RunSteps.{run_state}
-use Rattle.scsi_device.specs.Lines.{IsCommandLine}
-use Rattle.scsi_device.specs.Heard.{is_selected}
-use Rattle.scsi_device.specs.Writes.{brings_byte, is_data_out}
+use Rattle.target_course.specs.scsi_device.specs.Lines.{IsCommandLine}
+use Rattle.target_course.specs.scsi_device.specs.Heard.{is_selected}
+use Rattle.target_course.specs.scsi_device.specs.Writes.{brings_byte, is_data_out}
 use Rattle.target_course.specs.Courses.{CourseState, IsCourse, IsCourseOf, block_with, course_after, course_told, events_of_target, name_in}
 use Rattle.target_course.specs.Gathered.{AreAllGathered, GatheredValue, IsGatheredOf}
 use Rattle.target_course.specs.Negotiated.{NegotiatedValue, IsNegotiatedOf, IsOpeningIf, met_by_opening, negotiated_seen}

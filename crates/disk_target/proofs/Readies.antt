@@ -6,11 +6,11 @@ use Rattle.disk_array.specs.Seats.{seat_of}
 use Rattle.disk_array.specs.SoundArray.{IsSound}
 use Rattle.disk_array.specs.Units.{RunningProcess, UnitState, Array, unit_state_at, is_held}
 use Rattle.scenario.specs.Value.{ScenarioValue}
-use Rattle.bus_dialogue.specs.Wants as wants
+use Rattle.bus_due.specs.bus_dialogue.specs.Wants as wants
 use Rattle.bus_due.specs.Wants as due
 use Rattle.target_course.specs.States.{IsReadyWithin}
-use Rattle.target_units.specs.Readies.{ready_unit}
-use Rattle.target_units.proofs.UnitTellings.{own_number}
+use Rattle.target_course.specs.target_units.specs.Readies.{ready_unit}
+use Rattle.target_course.specs.target_units.proofs.UnitTellings.{own_number}
 
 within_first : (x y : Option wants.Ready) → IsReadyWithin (ready_unit x) → IsReadyWithin (ready_unit y) → IsReadyWithin (ready_unit (wants.first_ready x y))
 within_first None y f g = g

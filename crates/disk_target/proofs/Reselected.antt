@@ -9,12 +9,12 @@ use Rattle.disk_array.specs.Processes.{command_at}
 use Rattle.disk_array.specs.Seats
 use Rattle.disk_array.specs.SoundArray.{IsSound}
 use Rattle.disk_array.specs.Units.{Array, unit_state_at}
-use Rattle.bus_dialogue.specs.Wants as wants
+use Rattle.bus_due.specs.bus_dialogue.specs.Wants as wants
 use Rattle.bus_due.specs.Wants as due
-use Rattle.scsi_device.specs.Lines.{IsCommandLine}
-use Rattle.target_units.specs.Readies.{ready_unit}
-use Rattle.target_units.specs.Seated.{running_block, running_entry}
-use Rattle.target_units.specs.declared.ready.Ready.{Ready}
+use Rattle.target_course.specs.scsi_device.specs.Lines.{IsCommandLine}
+use Rattle.target_course.specs.target_units.specs.Readies.{ready_unit}
+use Rattle.target_course.specs.target_units.specs.Seated.{running_block, running_entry}
+use Rattle.target_course.specs.target_units.specs.declared.ready.Ready.{Ready}
 use Rattle.target_course.specs.Courses.{IsReadyProcess}
 use Rattle.disk_target.proofs.RowBegins.{IsReadyAt, ready_current}
 use Rattle.disk_target.proofs.RowServed.{block_few}

@@ -12,9 +12,9 @@ use Rattle.disk_array.specs.Seats
 use Rattle.disk_array.specs.Seats.{seat_of}
 use Rattle.disk_array.specs.SoundArray.{IsOwn, IsOwnRunning, IsSound}
 use Rattle.disk_array.specs.Units.{Array, RunningProcess, UnitState, guest_at, is_held, unit_state_at}
-use Rattle.bus_story.specs.BusState.{RowReading, row_reading}
-use Rattle.bus_story.specs.TraceHistory.{aim_of}
-use Rattle.bus_dialogue.specs.Wants as wants
+use Rattle.bus_due.specs.bus_story.specs.BusState.{RowReading, row_reading}
+use Rattle.bus_due.specs.bus_story.specs.TraceHistory.{aim_of}
+use Rattle.bus_due.specs.bus_dialogue.specs.Wants as wants
 use Rattle.bus_due.specs.LastingState.{progress_in}
 use Rattle.bus_due.specs.Plain.{IsPlain}
 use Rattle.bus_due.specs.RunState.{RunState, array_of, process_item, process_served}
@@ -24,8 +24,8 @@ use Rattle.bus_due.specs.Wants.{ready_of}
 use Rattle.disk_array.specs.ArrayHistory.{reply_in}
 use Rattle.disk_array.proofs.SeatLookups.{found_target, found_unit}
 use Rattle.disk_array.proofs.SeatOwn.{own_found}
-use Rattle.scsi_device.specs.Heard.{Instructions, heard, instructions, is_beginning, is_heard, is_heard_after, is_heard_on, is_heard_row, is_new, is_of_scenario, is_uncounted}
-use Rattle.target_units.proofs.UnitTellings.{own_number}
+use Rattle.target_course.specs.scsi_device.specs.Heard.{Instructions, heard, instructions, is_beginning, is_heard, is_heard_after, is_heard_on, is_heard_row, is_new, is_of_scenario, is_uncounted}
+use Rattle.target_course.specs.target_units.proofs.UnitTellings.{own_number}
 use Rattle.target_course.specs.States.{IsOwnConnection}
 use Rattle.target_course.proofs.CourseAgrees.{IsFront, front_heard}
 use Rattle.disk_target.specs.Processes.{ProcessesState}

@@ -16,16 +16,16 @@ use Rattle.disk_array.specs.Processes.{Process, process_of}
 use Rattle.disk_array.specs.SoundArray.{HasSeats}
 use Rattle.scenario.specs.declared.value.CmdDef.{CmdDef}
 use Rattle.disk_array.specs.Processes.{command_at}
-use Rattle.scsi_device.specs.Lines.{IsCommandLine}
-use Rattle.bus_story.specs.BusState.{RowReading, row_reading}
-use Rattle.bus_story.specs.Items.{Item, process, abort}
-use Rattle.bus_dialogue.specs.Hearing.{hearing}
-use Rattle.bus_dialogue.specs.Events.{is_empty}
+use Rattle.target_course.specs.scsi_device.specs.Lines.{IsCommandLine}
+use Rattle.bus_due.specs.bus_story.specs.BusState.{RowReading, row_reading}
+use Rattle.bus_due.specs.bus_story.specs.Items.{Item, process, abort}
+use Rattle.bus_due.specs.bus_dialogue.specs.Hearing.{hearing}
+use Rattle.bus_due.specs.bus_dialogue.specs.Events.{is_empty}
 use Rattle.bus_due.specs.Plain.{IsPlain}
 use Rattle.bus_due.specs.RunState.{RunState, array_of, process_item, process_served}
 use Rattle.bus_due.specs.RunSteps.{run_state, events_of_row}
 use Rattle.bus_due.specs.Telling.{id_of}
-use Rattle.scsi_device.specs.Heard.{instructions, is_new, is_of_scenario, is_opening}
+use Rattle.target_course.specs.scsi_device.specs.Heard.{instructions, is_new, is_of_scenario, is_opening}
 use Rattle.target_course.specs.Courses.{CourseState, IsCourse}
 use Rattle.target_course.specs.States.{IsOwnConnection}
 use Rattle.target_course.proofs.CourseAgrees.{IsFront, front_heard}
@@ -44,7 +44,7 @@ use Rattle.disk_target.proofs.RowOutside.{attended_in}
 use Rattle.disk_target.proofs.RowServed.{empty_on, opening_same, reset_empty}
 use Rattle.disk_target.proofs.RowShapes.{ShowsIn, nothing, turned, lost, aborted, ended, row_shows}
 use Rattle.bus_base.proofs.Tests.{or_second}
-use Rattle.bus_dialogue.proofs.Leavings.{empty_is}
+use Rattle.bus_due.specs.bus_dialogue.proofs.Leavings.{empty_is}
 
 -- ---- the connection ends with the row
 

@@ -10,38 +10,38 @@ use Rattle.bus_trace.specs.declared.Row.{Row}
 use Rattle.bus_trace.specs.declared.agreements.Agreement.{Agreement}
 use Rattle.bus_trace.specs.declared.connection.Connection.{Connection}
 use Rattle.cdb_codec.specs.declared.sense.TheConstants.{PARITY_ERROR}
-use Rattle.msg_grammar.specs.declared.message.MsgIn.{MsgIn}
+use Rattle.bus_due.specs.msg_grammar.specs.declared.message.MsgIn.{MsgIn}
 use Rattle.scenario.specs.declared.value.TargetDef.{TargetDef}
 use Rattle.scenario.specs.Value.{ScenarioValue}
 use Rattle.disk_array.specs.ArrayHistory.{reply_in}
 use Rattle.disk_array.specs.Processes.{Process}
 use Rattle.disk_array.specs.Steps.{running_process}
 use Rattle.disk_array.specs.Units.{Array}
-use Rattle.bus_story.specs.Right.{same_bytes}
-use Rattle.bus_dialogue.specs.declared.exchange.Arrival.{Arrival}
-use Rattle.bus_dialogue.specs.declared.exchange.Cause.{Cause}
-use Rattle.bus_dialogue.specs.declared.exchange.Cause.TheVariants as causes
-use Rattle.bus_dialogue.specs.declared.exchange.Next.{Next}
-use Rattle.bus_dialogue.specs.declared.exchange.Next.TheVariants as nexts
-use Rattle.bus_dialogue.specs.declared.exchange.Phase.{Phase}
-use Rattle.bus_dialogue.specs.declared.exchange.Phase.TheVariants as phases
-use Rattle.bus_dialogue.specs.declared.exchange.Plan.{Plan}
-use Rattle.bus_dialogue.specs.Events.{arrival_event, arrival_events, arrival_run_events, detected_events, has_replied, is_status_next, newest_with, reply_events, turn_events}
-use Rattle.bus_dialogue.specs.NextPhase.{Serving, after_messages, after_offer, after_opening, after_refusal, bus_free, message_out_leaving, message_repetition, phase_entry, phase_leaving, phase_of, pointer_restoration, recovery, request_or_command, unless_attention, with_task}
-use Rattle.bus_dialogue.specs.Words.{is_naming, request_by as request_of}
+use Rattle.bus_due.specs.bus_story.specs.Right.{same_bytes}
+use Rattle.bus_due.specs.bus_dialogue.specs.declared.exchange.Arrival.{Arrival}
+use Rattle.bus_due.specs.bus_dialogue.specs.declared.exchange.Cause.{Cause}
+use Rattle.bus_due.specs.bus_dialogue.specs.declared.exchange.Cause.TheVariants as causes
+use Rattle.bus_due.specs.bus_dialogue.specs.declared.exchange.Next.{Next}
+use Rattle.bus_due.specs.bus_dialogue.specs.declared.exchange.Next.TheVariants as nexts
+use Rattle.bus_due.specs.bus_dialogue.specs.declared.exchange.Phase.{Phase}
+use Rattle.bus_due.specs.bus_dialogue.specs.declared.exchange.Phase.TheVariants as phases
+use Rattle.bus_due.specs.bus_dialogue.specs.declared.exchange.Plan.{Plan}
+use Rattle.bus_due.specs.bus_dialogue.specs.Events.{arrival_event, arrival_events, arrival_run_events, detected_events, has_replied, is_status_next, newest_with, reply_events, turn_events}
+use Rattle.bus_due.specs.bus_dialogue.specs.NextPhase.{Serving, after_messages, after_offer, after_opening, after_refusal, bus_free, message_out_leaving, message_repetition, phase_entry, phase_leaving, phase_of, pointer_restoration, recovery, request_or_command, unless_attention, with_task}
+use Rattle.bus_due.specs.bus_dialogue.specs.Words.{is_naming, request_by as request_of}
 use Rattle.bus_due.specs.Faithful.{is_block_of_process, is_true_leaving}
 use Rattle.bus_due.specs.RunState.{RunState, bus_of, carried_here, process_served}
 use Rattle.bus_due.specs.RunSteps.{run_state}
 use Rattle.bus_due.specs.Sights.{serving_of}
 use Rattle.bus_due.specs.Tasks.{task_if, task_of}
-use Rattle.scsi_device.specs.Heard.{gives_status, instructions, is_answered, is_command_phase, is_new, is_placed, is_unanswered, may_leave, moves_data}
+use Rattle.target_course.specs.scsi_device.specs.Heard.{gives_status, instructions, is_answered, is_command_phase, is_new, is_placed, is_unanswered, may_leave, moves_data}
 use Rattle.target_course.specs.Courses.{CourseState, MOST_KEPT}
 use Rattle.target_course.proofs.CourseAgrees.{IsFront, IsServed}
-use Rattle.bus_story.proofs.SameBytes.{bytes_are}
+use Rattle.bus_due.specs.bus_story.proofs.SameBytes.{bytes_are}
 use Rattle.target_course.proofs.ReplyRows.{Shape, shown_of}
 use Rattle.target_course.proofs.ReplyRows as shapes
 use Rattle.bus_base.proofs.Tests.{or_second}
-use Rattle.bus_dialogue.proofs.Leavings.{task_not, recovery_not}
+use Rattle.bus_due.specs.bus_dialogue.proofs.Leavings.{task_not, recovery_not}
 
 -- ---- which of the shapes need the command
 

@@ -16,14 +16,14 @@ use Rattle.bus_trace.specs.Trace.{bus}
 use Rattle.scenario.specs.Value.{ScenarioValue}
 use Rattle.disk_array.specs.Processes.{Process, process_of, same_id}
 use Rattle.disk_array.specs.Seats.{is_abort_of_other_unit, is_of_other_unit}
-use Rattle.bus_story.specs.BusState.{RowReading, row_reading}
-use Rattle.bus_story.specs.Items.{Item, process, abort}
+use Rattle.bus_due.specs.bus_story.specs.BusState.{RowReading, row_reading}
+use Rattle.bus_due.specs.bus_story.specs.Items.{Item, process, abort}
 use Rattle.bus_due.specs.Faithful.{faithful, has_ends, is_faithful}
 use Rattle.bus_due.specs.Plain.{AreOfDevices, IsPlain}
 use Rattle.bus_due.specs.RunState.{RunState, process_item, process_served}
 use Rattle.bus_due.specs.RunSteps.{run_state, events_of_row}
-use Rattle.scsi_device.specs.Heard.{Instructions, instructions, is_of_scenario}
-use Rattle.scsi_device.specs.Writes.{Writer, writers}
+use Rattle.target_course.specs.scsi_device.specs.Heard.{Instructions, instructions, is_of_scenario}
+use Rattle.target_course.specs.scsi_device.specs.Writes.{Writer, writers}
 use Rattle.target_course.specs.States.{IsOwnConnection}
 use Rattle.target_course.proofs.CourseAgrees.{IsFront, either, front_heard}
 use Rattle.target_course.proofs.CourseRows.{heard_before}
@@ -38,7 +38,7 @@ use Rattle.disk_target.proofs.RowShapes.{ShowsIn, nothing, turned, lost, aborted
 use Rattle.bus_base.proofs.Tests.{or_second, implied}
 use Rattle.disk_array.proofs.SeatLookups.{same_id_is}
 use Rattle.disk_array.specs.ArrayHistory.{shows_run}
-use Rattle.bus_dialogue.specs.Events.{is_empty}
+use Rattle.bus_due.specs.bus_dialogue.specs.Events.{is_empty}
 
 -- ---- what is attended in this row
 

@@ -16,29 +16,29 @@ use Rattle.disk_array.specs.SoundArray.{HasSeats, IsSound}
 use Rattle.disk_array.specs.ArrayHistory.{reply_in, shows_run}
 use Rattle.disk_array.specs.Steps.{is_waiting, running_process}
 use Rattle.disk_array.specs.Units.{Array}
-use Rattle.bus_story.specs.BusState.{RowReading, row_reading}
-use Rattle.bus_story.specs.Items.{Item, process, abort}
-use Rattle.bus_dialogue.specs.declared.exchange.Phase.{Phase}
-use Rattle.bus_dialogue.specs.declared.exchange.Phase.TheVariants as phases
-use Rattle.bus_dialogue.specs.declared.exchange.Cause.{Cause}
-use Rattle.bus_dialogue.specs.declared.exchange.Next.{Next}
-use Rattle.bus_dialogue.specs.Events.{has_replied}
-use Rattle.bus_dialogue.specs.NextPhase.{phase_of}
+use Rattle.bus_due.specs.bus_story.specs.BusState.{RowReading, row_reading}
+use Rattle.bus_due.specs.bus_story.specs.Items.{Item, process, abort}
+use Rattle.bus_due.specs.bus_dialogue.specs.declared.exchange.Phase.{Phase}
+use Rattle.bus_due.specs.bus_dialogue.specs.declared.exchange.Phase.TheVariants as phases
+use Rattle.bus_due.specs.bus_dialogue.specs.declared.exchange.Cause.{Cause}
+use Rattle.bus_due.specs.bus_dialogue.specs.declared.exchange.Next.{Next}
+use Rattle.bus_due.specs.bus_dialogue.specs.Events.{has_replied}
+use Rattle.bus_due.specs.bus_dialogue.specs.NextPhase.{phase_of}
 use Rattle.bus_due.specs.RunState.{RunState, array_of, bus_of, process_served}
 use Rattle.bus_due.specs.RunSteps.{run_state, events_of_row}
 use Rattle.bus_due.specs.Sights.{serving_of}
 use Rattle.bus_due.specs.Tasks.{reply_now, task_if}
 use Rattle.bus_due.specs.Telling.{id_of}
-use Rattle.scsi_device.specs.Heard.{Instructions, instructions, is_heard_process, is_instructed, is_new, is_command_phase, is_opening, is_opening_in, is_placed, is_unanswered, is_answered, gives_status, may_leave, moves_data}
-use Rattle.target_units.specs.Seated.{HasSent}
-use Rattle.target_units.specs.Units.{IsStep}
-use Rattle.target_units.proofs.Arrivals.{arrival_replies}
-use Rattle.target_units.proofs.UnitTellings.{reply_same}
+use Rattle.target_course.specs.scsi_device.specs.Heard.{Instructions, instructions, is_heard_process, is_instructed, is_new, is_command_phase, is_opening, is_opening_in, is_placed, is_unanswered, is_answered, gives_status, may_leave, moves_data}
+use Rattle.target_course.specs.target_units.specs.Seated.{HasSent}
+use Rattle.target_course.specs.target_units.specs.Units.{IsStep}
+use Rattle.target_course.specs.target_units.proofs.Arrivals.{arrival_replies}
+use Rattle.target_course.specs.target_units.proofs.UnitTellings.{reply_same}
 use Rattle.target_course.specs.Courses.{CourseState, IsCourse, IsOfProcess, name_of}
 use Rattle.target_course.proofs.CourseAgrees.{IsFront, IsServed, served_is}
 use Rattle.target_course.proofs.ReplyRows.{Shape, shown_of, number_is}
 use Rattle.target_course.proofs.ReplyRows as shapes
-use Rattle.target_units.proofs.ReplySteps.{accept_same}
+use Rattle.target_course.specs.target_units.proofs.ReplySteps.{accept_same}
 use Rattle.disk_target.specs.Attended.{are_in, are_known_ends}
 use Rattle.disk_target.specs.Processes.{AreOwnEvents}
 use Rattle.disk_target.specs.Standings.{HasBlock, IsNoGuest, IsStanding}
@@ -53,7 +53,7 @@ use Rattle.disk_target.proofs.RowOutside.{IsAttended}
 use Rattle.disk_target.proofs.RowShapes.{ShowsIn, nothing, turned, lost, aborted, ended}
 use Rattle.bus_base.proofs.Tests.{is_nothing}
 use Rattle.disk_array.proofs.SeatLookups.{same_id_is}
-use Rattle.scsi_device.proofs.Finds.{none_is}
+use Rattle.target_course.specs.scsi_device.proofs.Finds.{none_is}
 
 -- ---- which process: one that is served, where any event is shown but an abort
 

@@ -10,7 +10,7 @@ use Rattle.bus_trace.specs.Changes.{rises}
 use Rattle.bus_trace.specs.Trace.{bus}
 use Rattle.scenario.specs.Value.{ScenarioValue}
 use Rattle.disk_array.specs.SoundArray.{HasSeats}
-use Rattle.bus_story.specs.BusState.{RowReading, row_reading}
+use Rattle.bus_due.specs.bus_story.specs.BusState.{RowReading, row_reading}
 use Rattle.bus_due.specs.Plain.{AreOfDevices, IsPlain}
 use Rattle.bus_due.specs.RunState.{RunState}
 use Rattle.bus_due.specs.RunSteps.{run_state, events_of_row}

@@ -13,21 +13,21 @@ use Rattle.scenario.specs.Needs.{is_write}
 use Rattle.scenario.specs.Value.{ScenarioValue}
 use Rattle.disk_array.specs.Processes.{Process, process_of}
 use Rattle.disk_array.specs.Units.{Array, unit_state_at}
-use Rattle.bus_dialogue.specs.NextPhase.{phase_of}
+use Rattle.bus_due.specs.bus_dialogue.specs.NextPhase.{phase_of}
 use Rattle.bus_due.specs.LastingState.{progress_in}
 use Rattle.bus_due.specs.RunState.{RunState, array_of, bus_of, process_served}
 use Rattle.bus_due.specs.RunSteps.{run_state}
 use Rattle.bus_due.specs.Tasks.{is_writing, reply_now, size_of}
-use Rattle.scsi_device.specs.Writes.{is_data_out, is_writer, writer_of, writers, start_of_run}
-use Rattle.scsi_device.specs.Lines.{FitsBus}
+use Rattle.target_course.specs.scsi_device.specs.Writes.{is_data_out, is_writer, writer_of, writers, start_of_run}
+use Rattle.target_course.specs.scsi_device.specs.Lines.{FitsBus}
 use Rattle.scenario.specs.Lookups.{has_target}
 use Rattle.disk_array.specs.Order.{count_in, range_in}
 use Rattle.disk_array.proofs.SeatReplies.{id_self}
 use Rattle.bus_due.specs.Tasks.{blocks_in}
-use Rattle.target_units.specs.Rooms.{AreOfLines}
-use Rattle.target_units.specs.Seated.{is_same_process}
-use Rattle.scsi_device.proofs.SentBytes.{process_few}
-use Rattle.target_units.proofs.Sendings.{named}
+use Rattle.target_course.specs.target_units.specs.Rooms.{AreOfLines}
+use Rattle.target_course.specs.target_units.specs.Seated.{is_same_process}
+use Rattle.target_course.specs.scsi_device.proofs.SentBytes.{process_few}
+use Rattle.target_course.specs.target_units.proofs.Sendings.{named}
 use Rattle.target_course.specs.Gathered.{GatheredValue, Gathering, IsGatheredOf, AreAllGathered, bytes_of, gathering_at}
 use Rattle.target_course.specs.Courses.{CourseState}
 use Rattle.target_course.specs.States.{IsOwnConnection}

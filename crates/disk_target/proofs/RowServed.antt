@@ -18,16 +18,16 @@ use Rattle.scenario.specs.Needs.{sent_of}
 use Rattle.disk_array.specs.Processes.{Process, command_at, payload_bytes, process_by, process_if, process_of, sense_block}
 use Rattle.disk_array.specs.Seats.{seat_of}
 use Rattle.disk_array.specs.SoundArray.{HasSeats}
-use Rattle.bus_story.specs.BusState.{RowReading, row_reading}
-use Rattle.bus_story.specs.Items.{process}
-use Rattle.bus_dialogue.specs.Hearing.{hearing}
-use Rattle.bus_dialogue.specs.NextPhase.{phase_of}
+use Rattle.bus_due.specs.bus_story.specs.BusState.{RowReading, row_reading}
+use Rattle.bus_due.specs.bus_story.specs.Items.{process}
+use Rattle.bus_due.specs.bus_dialogue.specs.Hearing.{hearing}
+use Rattle.bus_due.specs.bus_dialogue.specs.NextPhase.{phase_of}
 use Rattle.bus_due.specs.Sights.{leaving}
 use Rattle.bus_due.specs.Plain.{IsPlain}
 use Rattle.bus_due.specs.RunState.{RunState, array_of, or_start, process_item, process_served}
 use Rattle.bus_due.specs.RunSteps.{run_state, array_after_events, served_after, events_of_row}
-use Rattle.scsi_device.specs.Heard.{heard, instructions, is_of_scenario, is_opening, is_opening_in, is_to, may_leave}
-use Rattle.scsi_device.specs.Lines.{IsCommandLine}
+use Rattle.target_course.specs.scsi_device.specs.Heard.{heard, instructions, is_of_scenario, is_opening, is_opening_in, is_to, may_leave}
+use Rattle.target_course.specs.scsi_device.specs.Lines.{IsCommandLine}
 use Rattle.target_course.specs.Courses.{CourseState, IsCourse}
 use Rattle.target_course.specs.States.{IsOwnConnection}
 use Rattle.target_course.proofs.CourseAgrees.{IsFront, IsTurn, front_heard, turn_heard}

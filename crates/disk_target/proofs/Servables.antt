@@ -10,7 +10,7 @@ use Rattle.disk_array.specs.Units.{Array, UnitState}
 use Rattle.bus_due.specs.RunState.{RunState, array_of, or_start}
 use Rattle.bus_due.specs.RunSteps.{array_after_events, current_times_after, current_times_if, is_same_running, run_state, events_of_row}
 use Rattle.bus_due.specs.Wants.{since_of}
-use Rattle.scsi_device.specs.Lines.{IsTargetLine}
+use Rattle.target_course.specs.scsi_device.specs.Lines.{IsTargetLine}
 use Rattle.disk_target.specs.Targets.{AreInTime, IsServable}
 
 abbrev pub AreBefore : List ℕ → Type 0

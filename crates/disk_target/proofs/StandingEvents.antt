@@ -11,7 +11,7 @@ use Rattle.disk_array.specs.Seats.{Seat, settled_seat, unit_mapped}
 use Rattle.disk_array.proofs.SeatReplies.{id_self, no_guest_replied, guest_replied}
 use Rattle.disk_unit.specs.Units.{told_of}
 use Rattle.disk_unit.specs.declared.unit.Reply as unit
-use Rattle.target_units.specs.Seated.{reply_told}
+use Rattle.target_course.specs.target_units.specs.Seated.{reply_told}
 use Rattle.disk_target.specs.declared.standing.Standing.{Standing}
 use Rattle.disk_target.specs.declared.standing.Standing.TheVariants as standings
 use Rattle.disk_target.specs.Standings.{is_inside, IsGuest, IsNoGuest, IsStanding, standing_on_arrival, standing_on_failure}

@@ -4,11 +4,11 @@ use Rattle.std.specs.Prelude.{slice_index_or}
 use Rattle.std.proofs.lemmas.List.{get_or-drop, get_or_past}
 use Rattle.scenario.specs.declared.value.Policy.{Policy}
 use Rattle.disk_array.specs.Execution.{Reply}
-use Rattle.bus_dialogue.specs.declared.exchange.Task.{Task}
-use Rattle.bus_dialogue.specs.DataRuns.{run_at}
-use Rattle.bus_dialogue.specs.PhaseBytes.{data_byte}
+use Rattle.bus_due.specs.bus_dialogue.specs.declared.exchange.Task.{Task}
+use Rattle.bus_due.specs.bus_dialogue.specs.DataRuns.{run_at}
+use Rattle.bus_due.specs.bus_dialogue.specs.PhaseBytes.{data_byte}
 use Rattle.target_course.specs.Courses.{status_if}
-use Rattle.target_units.specs.Seated.{reply_told}
+use Rattle.target_course.specs.target_units.specs.Seated.{reply_told}
 use Rattle.disk_target.specs.Bytes.{status_in}
 
 -- Its first byte.

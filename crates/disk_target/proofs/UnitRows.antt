@@ -10,8 +10,8 @@ use Rattle.disk_array.specs.Units.{Array}
 use Rattle.bus_due.specs.Allowed.{allowed}
 use Rattle.bus_due.specs.RunState.{or_start}
 use Rattle.bus_due.specs.RunSteps.{current_times_after, run_state, array_after_events, events_of_row}
-use Rattle.target_units.specs.Units.{UnitsState, AreUnitsOf, AreUnitsAfter, IsStep}
-use Rattle.target_units.proofs.UnitSteps.{all_stay}
+use Rattle.target_course.specs.target_units.specs.Units.{UnitsState, AreUnitsOf, AreUnitsAfter, IsStep}
+use Rattle.target_course.specs.target_units.proofs.UnitSteps.{all_stay}
 use Rattle.disk_target.specs.Processes.{AreKeptAt, AreKeptOf, AreOutside, times_of_events}
 use Rattle.disk_target.proofs.RowEvents.{one_more, some_before}
 use Rattle.disk_target.proofs.TimesTwice.{twice, arrival_keeps}

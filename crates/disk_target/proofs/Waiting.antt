@@ -7,7 +7,7 @@ use Rattle.bus_reactions.specs.declared.ends.Pace.{Pace}
 use Rattle.bus_reactions.specs.Ends.{message_out_start, target_due}
 use Rattle.bus_reactions.specs.Target.{bits_if, byte_change, first_req, pulse_turn, req_negation, req_pulse_end, target_pulse, target_turn}
 use Rattle.scenario.specs.declared.value.TargetDef.{TargetDef}
-use Rattle.scsi_device.specs.Told.{Told, pace_of}
+use Rattle.target_course.specs.scsi_device.specs.Told.{Told, pace_of}
 use Rattle.target_course.specs.Dues.{myself_by, offering_of_target, plain_by}
 use Rattle.target_course.specs.States.{TargetState}
 use Rattle.disk_target.specs.Waits.{drives_pulse, is_in_pulse, is_waiting, waits}

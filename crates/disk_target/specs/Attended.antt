@@ -12,17 +12,17 @@ use Rattle.scenario.specs.Value.{ScenarioValue}
 use Rattle.disk_array.specs.Processes.{Process, same_id}
 use Rattle.disk_array.specs.Units.{Array}
 use Rattle.disk_array.specs.ArrayHistory.{shows_run}
-use Rattle.bus_story.specs.BusState.{RowReading, row_reading}
-use Rattle.bus_story.specs.HistoryEvents.{row_events_by}
-use Rattle.bus_story.specs.Items.{Item, process, abort}
-use Rattle.bus_dialogue.specs.NextPhase.{phase_of}
-use Rattle.bus_dialogue.specs.Events.{is_empty}
+use Rattle.bus_due.specs.bus_story.specs.BusState.{RowReading, row_reading}
+use Rattle.bus_due.specs.bus_story.specs.HistoryEvents.{row_events_by}
+use Rattle.bus_due.specs.bus_story.specs.Items.{Item, process, abort}
+use Rattle.bus_due.specs.bus_dialogue.specs.NextPhase.{phase_of}
+use Rattle.bus_due.specs.bus_dialogue.specs.Events.{is_empty}
 use Rattle.bus_due.specs.LastingState.{progress_in}
 use Rattle.bus_due.specs.RunState.{RunState, array_of, bus_of, process_served}
 use Rattle.bus_due.specs.RunSteps.{run_state}
 use Rattle.bus_due.specs.Tasks.{reply_now, is_writing}
-use Rattle.scsi_device.specs.Heard.{Instructions, instructions, is_new, is_opening}
-use Rattle.scsi_device.specs.Writes.{Writer, writer_of, writers, is_writer, is_data_out, start_of_run}
+use Rattle.target_course.specs.scsi_device.specs.Heard.{Instructions, instructions, is_new, is_opening}
+use Rattle.target_course.specs.scsi_device.specs.Writes.{Writer, writer_of, writers, is_writer, is_data_out, start_of_run}
 
 -- ---- each event of a row is of the process that the target of the connection serves, or of an abort in the connection
 

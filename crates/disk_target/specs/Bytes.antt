@@ -11,15 +11,15 @@ use Rattle.scenario.specs.declared.value.TargetDef.{TargetDef}
 use Rattle.scenario.specs.Value.{ScenarioValue}
 use Rattle.disk_array.specs.Order.{range_in}
 use Rattle.disk_unit.specs.declared.unit.Reply.{Reply}
-use Rattle.bus_dialogue.specs.declared.exchange.Next.{Next}
-use Rattle.bus_dialogue.specs.declared.exchange.Phase.{Phase}
-use Rattle.bus_dialogue.specs.declared.exchange.Phase.TheVariants as phases
-use Rattle.bus_dialogue.specs.Hearing.{begun}
-use Rattle.bus_dialogue.specs.NextPhase.{leaving_by}
+use Rattle.bus_due.specs.bus_dialogue.specs.declared.exchange.Next.{Next}
+use Rattle.bus_due.specs.bus_dialogue.specs.declared.exchange.Phase.{Phase}
+use Rattle.bus_due.specs.bus_dialogue.specs.declared.exchange.Phase.TheVariants as phases
+use Rattle.bus_due.specs.bus_dialogue.specs.Hearing.{begun}
+use Rattle.bus_due.specs.bus_dialogue.specs.NextPhase.{leaving_by}
 use Rattle.bus_due.specs.RunSteps.{run_state}
 use Rattle.bus_due.specs.Sights.{serving_of}
 use Rattle.bus_due.specs.Tasks.{blocks_in}
-use Rattle.scsi_device.specs.Heard.{goes_on}
+use Rattle.target_course.specs.scsi_device.specs.Heard.{goes_on}
 use Rattle.target_course.specs.Servings.{serving_with, AreBytesOf}
 use Rattle.target_course.specs.States.{AreAlikeIn, IsOwnConnection, offering_in}
 use Rattle.target_course.specs.declared.serving.DataBytes.{DataBytes}

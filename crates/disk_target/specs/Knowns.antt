@@ -11,10 +11,10 @@ use Rattle.scenario.specs.Value.{ScenarioValue}
 use Rattle.disk_array.specs.Processes.{Process}
 use Rattle.disk_array.specs.SoundArray.{IsSound}
 use Rattle.disk_unit.specs.declared.unit.Reply.{Reply}
-use Rattle.bus_dialogue.specs.declared.exchange.Hearing.{Hearing}
+use Rattle.bus_due.specs.bus_dialogue.specs.declared.exchange.Hearing.{Hearing}
 use Rattle.bus_due.specs.RunState.{array_of, process_served}
 use Rattle.bus_due.specs.RunSteps.{run_state}
-use Rattle.scsi_device.specs.Lines.{FitsBus}
+use Rattle.target_course.specs.scsi_device.specs.Lines.{FitsBus}
 use Rattle.target_course.specs.Courses.{CourseState, HasEnds, AreToldOf, serving_by}
 use Rattle.target_course.specs.Fits.{AreFit}
 use Rattle.target_course.specs.Progress.{ProgressValue, IsProgressOf, is_phase_left}
@@ -23,7 +23,7 @@ use Rattle.target_course.specs.Servings.{serving_with}
 use Rattle.target_course.specs.Shown.{shown_list}
 use Rattle.target_course.specs.States.{IsOwnConnection}
 use Rattle.target_course.specs.declared.course.Name.{Name}
-use Rattle.target_units.specs.Units.{UnitsState, AreUnitsOf, reply_at, unit_in}
+use Rattle.target_course.specs.target_units.specs.Units.{UnitsState, AreUnitsOf, reply_at, unit_in}
 use Rattle.disk_target.specs.declared.known.Known.{Known}
 use Rattle.disk_target.specs.declared.turn.Turn.{Turn}
 use Rattle.disk_target.specs.Bytes.{taken_by}

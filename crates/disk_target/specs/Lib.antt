@@ -7,3 +7,5 @@ pub mod Turns
 pub mod Knowns
 pub mod Waits
 pub mod Needs
+-- Handed on to the crates above that list this one and not these.
+pub use Rattle.target_course

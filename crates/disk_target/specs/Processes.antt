@@ -13,8 +13,8 @@ use Rattle.bus_trace.specs.declared.Row.{Row}
 use Rattle.bus_due.specs.RunState.{or_start, array_of}
 use Rattle.bus_due.specs.RunSteps.{current_times_after, run_state}
 use Rattle.disk_array.specs.SoundArray.{IsSound}
-use Rattle.target_units.specs.Seated.{HasSent}
-use Rattle.target_units.specs.Units.{UnitsState, AreUnitsOf, IsStep}
+use Rattle.target_course.specs.target_units.specs.Seated.{HasSent}
+use Rattle.target_course.specs.target_units.specs.Units.{UnitsState, AreUnitsOf, IsStep}
 use Rattle.disk_target.specs.declared.standing.Standing.{Standing}
 use Rattle.disk_target.specs.declared.standing.Standing.TheVariants as standings
 use Rattle.disk_target.specs.declared.standing.Served.{Served}

@@ -11,7 +11,7 @@ use Rattle.disk_array.specs.SoundArray.{IsOwn}
 use Rattle.disk_array.specs.Steps.{running_if}
 use Rattle.disk_array.specs.Units.{RunningProcess, UnitState, guest_at}
 use Rattle.disk_unit.specs.declared.unit.Reply.{Reply}
-use Rattle.target_units.specs.Seated.{IsProcess, reply_told}
+use Rattle.target_course.specs.target_units.specs.Seated.{IsProcess, reply_told}
 use Rattle.disk_target.specs.declared.standing.Served.{Served}
 use Rattle.disk_target.specs.declared.standing.Standing.{Standing}
 use Rattle.disk_target.specs.declared.standing.Standing.TheVariants as standings

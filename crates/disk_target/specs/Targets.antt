@@ -17,17 +17,17 @@ use Rattle.bus_due.specs.Telling.{telling}
 use Rattle.bus_due.specs.RunState.{array_of, process_served}
 use Rattle.bus_due.specs.RunSteps.{run_state}
 use Rattle.bus_due.specs.Wants.{since_of}
-use Rattle.scsi_device.specs.Heard.{heard}
-use Rattle.scsi_device.specs.Writes.{written}
-use Rattle.scsi_device.specs.Itself.{ItselfValue, IsItselfOf}
-use Rattle.scsi_device.specs.Lines.{IsTargetLine}
+use Rattle.target_course.specs.scsi_device.specs.Heard.{heard}
+use Rattle.target_course.specs.scsi_device.specs.Writes.{written}
+use Rattle.target_course.specs.scsi_device.specs.Itself.{ItselfValue, IsItselfOf}
+use Rattle.target_course.specs.scsi_device.specs.Lines.{IsTargetLine}
 use Rattle.target_course.specs.Courses.{CourseState, IsCourseOf}
 use Rattle.target_course.specs.Gathered.{GatheredValue, IsGatheredOf, AreAllGathered}
 use Rattle.target_course.specs.Negotiated.{NegotiatedValue, IsNegotiatedOf}
 use Rattle.target_course.specs.Progress.{ProgressValue, IsProgressOf}
 use Rattle.target_course.specs.Replies.{IsReplyOf}
 use Rattle.target_course.specs.States.{IsNoInitiator, IsOwnConnection}
-use Rattle.target_units.specs.Units.{UnitsState, AreUnitsOf}
+use Rattle.target_course.specs.target_units.specs.Units.{UnitsState, AreUnitsOf}
 use Rattle.disk_target.specs.declared.standing.Standing.{Standing}
 use Rattle.disk_target.specs.Attended.{attended}
 use Rattle.disk_target.specs.Standings.{IsStanding}

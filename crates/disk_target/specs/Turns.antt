@@ -12,17 +12,17 @@ use Rattle.scenario.specs.Needs.{is_write}
 use Rattle.scenario.specs.Value.{ScenarioValue}
 use Rattle.disk_array.specs.Processes.{Process}
 use Rattle.disk_array.specs.Units.{unit_state_at}
-use Rattle.bus_dialogue.specs.declared.exchange.Hearing.{Hearing}
-use Rattle.bus_dialogue.specs.Hearing.{begun, hearing}
-use Rattle.bus_dialogue.specs.NextPhase.{leaving_by, phase_of}
+use Rattle.bus_due.specs.bus_dialogue.specs.declared.exchange.Hearing.{Hearing}
+use Rattle.bus_due.specs.bus_dialogue.specs.Hearing.{begun, hearing}
+use Rattle.bus_due.specs.bus_dialogue.specs.NextPhase.{leaving_by, phase_of}
 use Rattle.bus_due.specs.Plain.{AreOfDevices}
 use Rattle.bus_due.specs.RunState.{array_of, process_served}
 use Rattle.bus_due.specs.RunSteps.{run_state, events_of_row}
 use Rattle.bus_due.specs.Tasks.{given_of, size_of}
-use Rattle.scsi_device.specs.Heard.{is_opening_in}
+use Rattle.target_course.specs.scsi_device.specs.Heard.{is_opening_in}
 use Rattle.target_course.specs.Courses.{CourseState, events_of_target, name_of, serving_by, AreToldOf}
-use Rattle.scsi_device.specs.Lines.{FitsBus, IsTargetLine}
-use Rattle.scsi_device.specs.Writes.{brings_byte}
+use Rattle.target_course.specs.scsi_device.specs.Lines.{FitsBus, IsTargetLine}
+use Rattle.target_course.specs.scsi_device.specs.Writes.{brings_byte}
 use Rattle.target_course.specs.Gathered.{GatheredValue, IsGatheredOf, AreAllGathered, IsSentSo, IsAtUnit}
 use Rattle.target_course.specs.Negotiated.{IsHeardSo}
 use Rattle.target_course.specs.Progress.{IsLeftSo}

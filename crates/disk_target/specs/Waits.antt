@@ -7,7 +7,7 @@ use Rattle.bus_due.specs.RunSteps.{run_state}
 use Rattle.bus_due.specs.Sights.{serving_of}
 use Rattle.scenario.specs.declared.value.TargetDef.{TargetDef}
 use Rattle.scenario.specs.Value.{ScenarioValue}
-use Rattle.scsi_device.specs.Told.{Told, told, pace_of}
+use Rattle.target_course.specs.scsi_device.specs.Told.{Told, told, pace_of}
 use Rattle.target_course.specs.Dues.{plain_by}
 use Rattle.target_course.specs.States.{TargetState}
 

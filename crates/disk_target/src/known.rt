@@ -13,21 +13,21 @@ ghost use Rattle.bus_due.specs.Tasks.{size_of, reply_now, is_writing};
 ghost use Rattle.target_course.specs.Courses.{IsStateOf, IsOutlookOf};
 ghost use Rattle.target_course.specs.Progress.{is_phase_left};
 ghost use Rattle.target_course.specs.Shown.{shown_list};
-ghost use Rattle.target_units.specs.Seated.{reply_told};
-ghost use Rattle.target_units.specs.Units.{reply_at, unit_in};
+ghost use Rattle.target_course.specs.target_units.specs.Seated.{reply_told};
+ghost use Rattle.target_course.specs.target_units.specs.Units.{reply_at, unit_in};
 ghost use Rattle.disk_target.specs.Bytes.{taken_by};
 ghost use Rattle.disk_target.specs.Knowns.{AreSourcesOf, IsKnownBy, IsKnownIf, IsQuiet, IsStill, hears_message, knows_command, refreshed};
 
 use crate::bytes::{status_in, taken_by, unit_named};
 use crate::turn::Turn;
 use bus_base::{Dev, Event};
-use bus_dialogue::Hearing;
+use bus_due::the_bus_dialogue::Hearing;
 use bus_trace::{Connection, changes_phase, is_message_out};
 use disk_unit::{Plan, Reply};
 use scenario::TargetDef;
-use scsi_device::scenarios_fit_the_bus;
+use target_course::the_scsi_device::scenarios_fit_the_bus;
+use target_course::the_target_units::Units;
 use target_course::{Course, ProcessState, Progress, Serving, is_phase_left};
-use target_units::Units;
 
 /// What a target decides by in a connection of its own with an initiator, as long as neither its units nor what it has
 /// heard of the process change.

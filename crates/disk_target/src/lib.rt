@@ -30,3 +30,7 @@ mod turn;
 pub use processes::{Processes, units_stay_by_row};
 pub use standing::{Served, Standing};
 pub use target::Target;
+
+// Handed on to the crates above that list this one and not these.
+pub use target_course as the_target_course;
+pub use target_course::{the_scsi_device, the_target_units};

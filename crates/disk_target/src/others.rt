@@ -1,7 +1,7 @@
 // What a target does next in a connection of others.
 ghost use Rattle.std.specs.Prelude.{◌≡◌, ◌<◌, ◌≤◌, List};
 ghost use Rattle.bus_trace.specs.declared.Row.{Row};
-ghost use Rattle.bus_dialogue.specs.Observer.{IsObserverOf};
+ghost use Rattle.bus_due.specs.bus_dialogue.specs.Observer.{IsObserverOf};
 ghost use Rattle.bus_due.specs.Next.{due};
 ghost use Rattle.bus_due.specs.Plain.{AreOfDevices};
 ghost use Rattle.bus_due.specs.RunSteps.{run_state};
@@ -10,11 +10,11 @@ ghost use Rattle.target_course.specs.States.{TargetState, IsNoInitiator, IsTarge
 ghost use Rattle.bus_trace.specs.declared.connection.Connection.{Connection};
 ghost use Rattle.disk_target.specs.Bytes.{IsOthers};
 
-use bus_dialogue::Observer;
+use bus_due::the_bus_dialogue::Observer;
 use bus_reactions::Due;
 use connect::due_with_reset;
 use scenario::TargetDef;
-use scsi_device::Itself;
+use target_course::the_scsi_device::Itself;
 use target_course::{dues_are_of_targets, myself};
 
 /// What a target of this line does next in a connection of others, while RST is false: it drives RST, or does nothing

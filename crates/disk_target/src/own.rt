@@ -4,12 +4,12 @@ ghost use Rattle.bus_trace.specs.declared.Row.{Row};
 ghost use Rattle.bus_trace.specs.declared.connection.Connection.{Connection};
 ghost use Rattle.bus_trace.specs.Trace.{bus};
 ghost use Rattle.bus_lines.specs.Timely.{IsTimely};
-ghost use Rattle.bus_dialogue.specs.Observer.{IsObserverOf};
+ghost use Rattle.bus_due.specs.bus_dialogue.specs.Observer.{IsObserverOf};
 ghost use Rattle.bus_due.specs.Next.{due};
 ghost use Rattle.bus_due.specs.Plain.{AreOfDevices};
 ghost use Rattle.bus_due.specs.RunSteps.{run_state};
 ghost use Rattle.scenario.specs.Value.{ScenarioValue};
-ghost use Rattle.scsi_device.specs.Told.{told, first_fault};
+ghost use Rattle.target_course.specs.scsi_device.specs.Told.{told, first_fault};
 ghost use Rattle.target_course.specs.Alike.{is_driven};
 ghost use Rattle.target_course.specs.Dues.{plain_by};
 ghost use Rattle.target_course.specs.States.{TargetState, IsNoInitiator, IsOwnConnection, IsTargetLine, IsTargetOf};
@@ -17,12 +17,12 @@ ghost use Rattle.disk_target.specs.Needs.{goes_on_in, going_on};
 ghost use Rattle.disk_target.specs.Waits.{drives_pulse, waits, is_in_pulse, is_waiting};
 
 use bus_base::Dev;
-use bus_dialogue::Observer;
+use bus_due::the_bus_dialogue::Observer;
 use bus_reactions::{Due, Offering};
 use bus_trace::Lines;
 use connect::due_with_reset;
 use scenario::{FaultDef, TargetDef};
-use scsi_device::{Itself, is_pulsed, pace, sampled};
+use target_course::the_scsi_device::{Itself, is_pulsed, pace, sampled};
 use target_course::{due_of_offering, dues_are_of_targets, myself};
 
 // By REQ and ACK, where the first phase of the connection has begun, and bytes cross by pulses or not.

@@ -10,9 +10,9 @@ ghost use Rattle.disk_array.specs.Processes.{Process};
 ghost use Rattle.disk_array.specs.Seats.{seat_of, current_of};
 ghost use Rattle.disk_array.specs.Units.{Array, RunningProcess, guest_at, starting_array, settled_array};
 ghost use Rattle.disk_unit.specs.Units.{told_of, planned_reply};
-ghost use Rattle.target_units.specs.Seated.{HasSent};
-ghost use Rattle.target_units.specs.Units.{UnitsState, AreUnitsOf, AreUnitsAfter, IsStep, is_of_one, unit_in, spare_of};
-ghost use Rattle.target_units.specs.Fillings.{blocks_at};
+ghost use Rattle.target_course.specs.target_units.specs.Seated.{HasSent};
+ghost use Rattle.target_course.specs.target_units.specs.Units.{UnitsState, AreUnitsOf, AreUnitsAfter, IsStep, is_of_one, unit_in, spare_of};
+ghost use Rattle.target_course.specs.target_units.specs.Fillings.{blocks_at};
 ghost use Rattle.scenario.specs.Lookups.{unit_of};
 ghost use Rattle.scenario.specs.Writing.{Obeys};
 ghost use Rattle.bus_trace.specs.declared.Row.{Row};
@@ -22,7 +22,7 @@ ghost use Rattle.bus_due.specs.RunState.{array_of};
 ghost use Rattle.bus_due.specs.RunSteps.{run_state, events_of_row};
 ghost use Rattle.disk_array.specs.SoundArray.{HasSeats};
 ghost use Rattle.disk_unit.specs.declared.unit.Reply.{Reply};
-ghost use Rattle.scsi_device.specs.Heard.{is_new};
+ghost use Rattle.target_course.specs.scsi_device.specs.Heard.{is_new};
 ghost use Rattle.disk_target.specs.Standings.{IsServed, IsStanding, HasBlock, standing_on_arrival, standing_on_failure, is_guest, outcome_of, standing_at_first};
 ghost use Rattle.disk_target.specs.Processes.{AreProcessesAt, AreProcessesAfter, IsOwnEvent, AreOwnEvents, AreProcessesOf, AreKeptOf, AreOutside, IsRunInside};
 ghost use Rattle.disk_target.specs.declared.standing.Standing.{Standing as StandingValue};
@@ -30,13 +30,13 @@ ghost use Rattle.disk_target.specs.declared.standing.Standing.TheVariants.{Nowhe
 
 use crate::standing::{Served, Standing};
 use bus_base::{AbortKind, Dev, Event, NoMemory, Ns, ProcId};
-use bus_dialogue::Room;
+use bus_due::the_bus_dialogue::Room;
 use cdb_codec::{Command, from_cdb};
 use disk_unit::{Accepted, Plan, Reply, aborted_reply, planned_reply, refusal};
 use scenario::{Scenario, TargetDef};
 use std::alloc::Global;
 use std::marker::Model;
-use target_units::Units;
+use target_course::the_target_units::Units;
 
 /// The units of a target, and where the process of its connection stands.
 #[derive(Drop)]

@@ -15,9 +15,9 @@ ghost use Rattle.disk_array.specs.ArrayHistory.{reply_in};
 ghost use Rattle.disk_array.specs.Processes.{Process, process_of};
 ghost use Rattle.disk_array.specs.Seats.{is_initiator};
 ghost use Rattle.disk_array.specs.Units.{Array, unit_state_at};
-ghost use Rattle.bus_dialogue.specs.Hearing.{hearing as hearing_in};
-ghost use Rattle.bus_dialogue.specs.PhaseBytes.{data_byte, one_if};
-ghost use Rattle.bus_dialogue.specs.Observer.{IsObserverOf};
+ghost use Rattle.bus_due.specs.bus_dialogue.specs.Hearing.{hearing as hearing_in};
+ghost use Rattle.bus_due.specs.bus_dialogue.specs.PhaseBytes.{data_byte, one_if};
+ghost use Rattle.bus_due.specs.bus_dialogue.specs.Observer.{IsObserverOf};
 ghost use Rattle.bus_due.specs.Defs.{target_def_of};
 ghost use Rattle.bus_due.specs.Next.{due};
 ghost use Rattle.bus_due.specs.Plain.{AreOfDevices};
@@ -25,18 +25,18 @@ ghost use Rattle.bus_due.specs.RunState.{array_of, item_of};
 ghost use Rattle.bus_due.specs.RunSteps.{run_state, events_of_row};
 ghost use Rattle.bus_due.specs.Sights.{serving_of};
 ghost use Rattle.bus_due.specs.Tasks.{size_of, reply_now, is_writing};
-ghost use Rattle.scsi_device.specs.Acts.{act_of};
-ghost use Rattle.scsi_device.specs.Heard.{heard};
-ghost use Rattle.scsi_device.specs.Itself.{IsItselfOf};
-ghost use Rattle.scsi_device.specs.Lines.{FitsBus, IsTargetLine};
-ghost use Rattle.scsi_device.specs.Told.{told, pace_of, first_fault};
+ghost use Rattle.target_course.specs.scsi_device.specs.Acts.{act_of};
+ghost use Rattle.target_course.specs.scsi_device.specs.Heard.{heard};
+ghost use Rattle.target_course.specs.scsi_device.specs.Itself.{IsItselfOf};
+ghost use Rattle.target_course.specs.scsi_device.specs.Lines.{FitsBus, IsTargetLine};
+ghost use Rattle.target_course.specs.scsi_device.specs.Told.{told, pace_of, first_fault};
 ghost use Rattle.target_course.specs.Courses.{events_of_target, id_known, AreToldOf, IsCourseOf, IsLabelOf, IsStateOf, IsOutlookOf};
 ghost use Rattle.target_course.specs.Fits.{AreFit};
-ghost use Rattle.target_units.specs.Seated.{reply_told};
+ghost use Rattle.target_course.specs.target_units.specs.Seated.{reply_told};
 ghost use Rattle.target_course.specs.Servings.{byte_if};
 ghost use Rattle.target_course.specs.Shown.{shown_list};
 ghost use Rattle.target_course.specs.States.{AreAlikeIn, IsNoInitiator, IsOwnConnection, offering_in};
-ghost use Rattle.target_units.specs.Units.{AreUnitsOf, reply_at, unit_in};
+ghost use Rattle.target_course.specs.target_units.specs.Units.{AreUnitsOf, reply_at, unit_in};
 ghost use Rattle.target_course.specs.declared.course.Name.{Name as NameValue};
 ghost use Rattle.disk_target.specs.Bytes.{DecidesAs, IsOthers, IsOwnIf, StandsInOwn};
 ghost use Rattle.disk_target.specs.Needs.{DrivesAs, GivesAs, LeavesAs};
@@ -60,7 +60,7 @@ use crate::turn::{
     see_course, see_events, see_sent,
 };
 use bus_base::{Dev, Event, NoMemory, Ns, ProcId};
-use bus_dialogue::{Arrival, Hearing, Observer};
+use bus_due::the_bus_dialogue::{Arrival, Hearing, Observer};
 use bus_due::{hearings_are_plain, kept_is_plain};
 use bus_lines::BusView;
 use bus_reactions::{Due, Offering};
@@ -68,15 +68,15 @@ use bus_trace::{Connection, Row, lines_on_the_bus, rows_change_one_device};
 use disk_array::arrays_are_sound;
 use disk_unit::Reply;
 use scenario::{FaultDef, Scenario, TargetDef, target_line};
-use scsi_device::{Act, Itself, pace, scenarios_fit_the_bus};
 use std::alloc::Global;
 use std::marker::Model;
+use target_course::the_scsi_device::{Act, Itself, pace, scenarios_fit_the_bus};
+use target_course::the_target_units::Units;
 use target_course::{
     Course, Gathered, Knowledge, Negotiated, Progress, Serving, Shown, brings_byte,
     due_of_offering, follows_by, leaving_by, lines_by, no_plan, phase_byte, phase_of, place_in_run,
     process_byte_place, seek_before, target_next,
 };
-use target_units::Units;
 
 /// A target of a scenario.
 #[derive(Drop)]

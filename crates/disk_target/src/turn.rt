@@ -5,8 +5,8 @@ ghost use Rattle.bus_trace.specs.declared.Row.{Row};
 ghost use Rattle.bus_trace.specs.declared.connection.Connection.{Connection as ConnectionValue};
 ghost use Rattle.bus_trace.specs.Terms.{connection};
 ghost use Rattle.bus_trace.specs.Trace.{bus};
-ghost use Rattle.bus_dialogue.specs.Hearing.{hearing as hearing_in};
-ghost use Rattle.bus_dialogue.specs.Wants.{Ready};
+ghost use Rattle.bus_due.specs.bus_dialogue.specs.Hearing.{hearing as hearing_in};
+ghost use Rattle.bus_due.specs.bus_dialogue.specs.Wants.{Ready};
 ghost use Rattle.bus_due.specs.Allowed.{allowed};
 ghost use Rattle.bus_due.specs.Faithful.{faithful};
 ghost use Rattle.bus_due.specs.Plain.{AreOfDevices};
@@ -15,8 +15,8 @@ ghost use Rattle.bus_due.specs.Wants.{ready_of};
 ghost use Rattle.scenario.specs.declared.value.TargetDef.{TargetDef};
 ghost use Rattle.scenario.specs.Value.{ScenarioValue};
 ghost use Rattle.disk_array.specs.SoundArray.{HasSeats};
-ghost use Rattle.scsi_device.specs.Heard.{heard, is_opening_in};
-ghost use Rattle.scsi_device.specs.Lines.{FitsBus, IsTargetLine};
+ghost use Rattle.target_course.specs.scsi_device.specs.Heard.{heard, is_opening_in};
+ghost use Rattle.target_course.specs.scsi_device.specs.Lines.{FitsBus, IsTargetLine};
 ghost use Rattle.target_course.specs.Courses.{course_after, course_reselected, id_known, CourseState, IsCourseOf, IsReadyProcess};
 ghost use Rattle.target_course.specs.Fits.{AreFit};
 ghost use Rattle.target_course.specs.Gathered.{bytes_of, gathering_at, AreAllGathered, IsGatheredOf};
@@ -33,13 +33,13 @@ ghost use Rattle.disk_target.specs.Turns.{abort_if, abort_of, count_sent, is_ope
 use crate::processes::{Processes, event_at};
 use crate::standing::Served;
 use bus_base::{AbortKind, Dev, Event, Ns, ProcId};
-use bus_dialogue::{Cause, Hearing, Leaving, Messages, Next, Phase};
+use bus_due::the_bus_dialogue::{Cause, Hearing, Leaving, Messages, Next, Phase};
 use bus_due::{hearings_are_plain, kept_is_plain};
 use bus_trace::{Connection, rows_change_one_device};
 use cdb_codec::from_cdb;
 use disk_unit::{Plan, Reply};
-use scsi_device::scenarios_fit_the_bus;
 use tag_queue::Entry;
+use target_course::the_scsi_device::scenarios_fit_the_bus;
 use target_course::{
     Course, Gathered, Name, Shown, is_write, phase_of, replies_come_later, reply_after,
 };

@@ -5,9 +5,9 @@ use Rattle.bus_base.specs.declared.ProcId.{ProcId}
 use Rattle.cdb_codec.specs.declared.Sense.{Sense}
 use Rattle.cdb_codec.specs.declared.status.TheConstants.{GOOD, CHECK_CONDITION}
 use Rattle.cdb_codec.specs.Cdb.{command_of}
-use Rattle.scenario.specs.declared.value.HostDef.{HostDef}
-use Rattle.scenario.specs.declared.value.UnitDef.{UnitDef}
-use Rattle.scenario.specs.Value.{ScenarioValue}
+use Rattle.disk_array.specs.scenario.specs.declared.value.HostDef.{HostDef}
+use Rattle.disk_array.specs.scenario.specs.declared.value.UnitDef.{UnitDef}
+use Rattle.disk_array.specs.scenario.specs.Value.{ScenarioValue}
 use Rattle.disk_array.specs.Contents.{Contents, starting_contents}
 use Rattle.disk_array.specs.Execution.{Reply, Execution, execution, is_request_sense, queue_full}
 use Rattle.disk_array.specs.Order.{entry_of, choice, without_process}

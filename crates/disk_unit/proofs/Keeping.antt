@@ -9,8 +9,8 @@ use Rattle.bus_base.specs.declared.events.Pick.{Pick}
 use Rattle.cdb_codec.specs.declared.Sense.{Sense}
 use Rattle.cdb_codec.specs.declared.status.TheConstants.{GOOD, CHECK_CONDITION}
 use Rattle.cdb_codec.specs.Cdb.{command_of}
-use Rattle.scenario.specs.declared.value.HostDef.{HostDef}
-use Rattle.scenario.specs.Value.{ScenarioValue}
+use Rattle.disk_array.specs.scenario.specs.declared.value.HostDef.{HostDef}
+use Rattle.disk_array.specs.scenario.specs.Value.{ScenarioValue}
 use Rattle.disk_array.specs.declared.entries.Entry.{Entry}
 use Rattle.disk_array.specs.Processes.{Process}
 use Rattle.disk_array.specs.Execution.{Reply, Execution, is_request_sense, reset_occurred}

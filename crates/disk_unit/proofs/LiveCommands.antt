@@ -11,8 +11,8 @@ use Rattle.disk_array.specs.declared.entries.Entry.{Entry}
 use Rattle.disk_array.specs.Processes.{Process, same_id}
 use Rattle.disk_array.specs.Order.{entry_of, tag_number, entries_of, chosen_place, process_at, process_at_if, without_process, same_number}
 use Rattle.disk_array.specs.Units.{RunningProcess, UnitState, with_current}
-use Rattle.scenario.specs.declared.value.Tag.{Tag}
-use Rattle.scenario.specs.declared.value.Tag.TheVariants as tags
+use Rattle.disk_array.specs.scenario.specs.declared.value.Tag.{Tag}
+use Rattle.disk_array.specs.scenario.specs.declared.value.Tag.TheVariants as tags
 use Rattle.disk_array.specs.Execution.{Reply}
 use Rattle.disk_array.specs.Steps.{running_if, running_count, process_count, current_with_reply, unit_without, kept_processes, kept_running, processes_of, unit_processes, has_tag}
 use Rattle.disk_array.specs.Seats.{unit_with_choice, unit_with_reply, unit_kept, is_told as is_told_at}

@@ -1,6 +1,6 @@
 -- A unit at its seat of the plain disk array.
 use Rattle.std.specs.Prelude.{◌≡◌, List, Some}
-use Rattle.scenario.specs.declared.value.HostDef.{HostDef}
+use Rattle.disk_array.specs.scenario.specs.declared.value.HostDef.{HostDef}
 use Rattle.disk_array.specs.Contents.{Contents}
 use Rattle.disk_array.specs.Seats.{Seat}
 use Rattle.disk_array.specs.Units.{UnitState}

@@ -2,7 +2,7 @@
 use Rattle.std.specs.Prelude.{ℕ, ◌≡◌, ◌<◌, ◌==◌, ◌&&◌, true, false, List, length, None, slice_index_or, if◌then◌else◌}
 use Rattle.cdb_codec.specs.declared.status.TheConstants.{GOOD, CHECK_CONDITION}
 use Rattle.cdb_codec.specs.Cdb.{command_of}
-use Rattle.scenario.specs.declared.value.HostDef.{HostDef}
+use Rattle.disk_array.specs.scenario.specs.declared.value.HostDef.{HostDef}
 use Rattle.disk_array.specs.Processes.{Process}
 use Rattle.disk_array.specs.Execution.{Reply, is_request_sense}
 use Rattle.disk_array.specs.Seats.{Seat, is_initiator}

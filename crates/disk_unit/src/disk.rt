@@ -3,7 +3,7 @@ ghost use Rattle.std.specs.Prelude.{◌≡◌, ℕ, min, Ok, ◌+◌, ◌-◌, �
 ghost use Rattle.cdb_codec.specs.Cdb.{command_of};
 ghost use Rattle.cdb_codec.specs.declared.status.TheConstants.{GOOD as GOOD_STATUS};
 ghost use Rattle.cdb_codec.specs.Blocks.{blocks_moved as blocks_of};
-ghost use Rattle.scenario.specs.Needs.{is_write as writes_by};
+ghost use Rattle.disk_array.specs.scenario.specs.Needs.{is_write as writes_by};
 ghost use Rattle.disk_array.specs.Contents.{bytes_at, with_bytes};
 ghost use Rattle.cdb_codec.specs.Replies.{capacity_data};
 ghost use Rattle.disk_array.specs.Execution.{Reply, is_good_range, range_of, command_execution, cdb_execution, range_execution, check_condition, good};

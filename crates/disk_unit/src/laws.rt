@@ -13,9 +13,9 @@ ghost use Rattle.disk_array.specs.Seats.{Seat, seat_of, settled_seat, is_any_hel
 ghost use Rattle.disk_array.specs.Steps.{unit_processes, unit_without, has_tag};
 ghost use Rattle.disk_array.specs.Units.{UnitState, starting_array, starting_unit, guest_at};
 ghost use Rattle.disk_array.specs.declared.entries.Entry.{Entry};
-ghost use Rattle.scenario.specs.Value.{ScenarioValue};
-ghost use Rattle.scenario.specs.declared.value.HostDef.{HostDef};
-ghost use Rattle.scenario.specs.declared.value.UnitDef.{UnitDef};
+ghost use Rattle.disk_array.specs.scenario.specs.Value.{ScenarioValue};
+ghost use Rattle.disk_array.specs.scenario.specs.declared.value.HostDef.{HostDef};
+ghost use Rattle.disk_array.specs.scenario.specs.declared.value.UnitDef.{UnitDef};
 ghost use Rattle.tag_queue.specs.Queue.{is_held, has_key};
 ghost use Rattle.tag_queue.specs.declared.those.Those.TheVariants as those;
 ghost use Rattle.disk_unit.specs.AtSeats.{IsUnitAt};

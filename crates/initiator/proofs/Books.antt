@@ -9,7 +9,7 @@ use Rattle.scenario.specs.Value.{ScenarioValue}
 use Rattle.disk_array.specs.Processes.{command_at}
 use Rattle.bus_story.specs.Items.{Item, abort, command_item, sense_item, Sent, is_done, is_of_host, is_clash, sense_from, or_else, open_limit_of}
 use Rattle.bus_reactions.specs.Reactions.{sooner_time, time_if}
-use Rattle.bus_dialogue.specs.Wants.{OwnCommand, open_in, may_follow, abort_by, command_by, item_by, abort_since, command_since}
+use Rattle.bus_due.specs.bus_dialogue.specs.Wants.{OwnCommand, open_in, may_follow, abort_by, command_by, item_by, abort_since, command_since}
 use Rattle.bus_due.specs.Wants.{own_command, own_commands, own_abort, own_aborts, book_of, item_want_time}
 use Rattle.initiator.specs.declared.mine.Mine.{Mine}
 use Rattle.initiator.specs.declared.mine.OwnItem.{OwnItem}

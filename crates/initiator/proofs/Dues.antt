@@ -7,7 +7,7 @@ use Rattle.bus_trace.specs.Trace.{bus, last_time}
 use Rattle.bus_trace.specs.Terms.{connection, receiver}
 use Rattle.bus_lines.specs.Handshakes.{handshakes}
 use Rattle.bus_reactions.specs.Sight.{sight}
-use Rattle.bus_dialogue.specs.Hearing.{begun}
+use Rattle.bus_due.specs.bus_dialogue.specs.Hearing.{begun}
 use Rattle.scenario.specs.declared.value.FaultDef.{FaultDef}
 use Rattle.scenario.specs.declared.value.HostDef.{HostDef}
 use Rattle.scenario.specs.Value.{ScenarioValue}
@@ -17,7 +17,7 @@ use Rattle.bus_reactions.specs.declared.due.Myself.{Myself}
 use Rattle.bus_reactions.specs.Linking.{link_due, sample_time}
 use Rattle.bus_reactions.specs.Reset.{with_reset}
 use Rattle.bus_reactions.specs.Ends as hand
-use Rattle.bus_dialogue.specs.Ends.{pace_by, answering_by}
+use Rattle.bus_due.specs.bus_dialogue.specs.Ends.{pace_by, answering_by}
 use Rattle.bus_due.specs.RunState.{RunState}
 use Rattle.bus_due.specs.RunSteps.{run_state}
 use Rattle.bus_due.specs.Sights.{identify_byte, want_of}
@@ -33,7 +33,7 @@ use Rattle.bus_due.specs.Sights.{sending_of}
 use Rattle.scsi_device.specs.Told.{told, pace_of, first_fault, flip_by, AreFlips}
 use Rattle.initiator.specs.States.{InitiatorState, IsOwnConnection, IsInitiatorOf, IsHostOf, IsNoTarget}
 use Rattle.initiator.specs.Dues.{answering_of_host, myself_by, want_by, link_by, hand_by, calm_by, initiator_next}
-use Rattle.bus_rules.specs.Order.{is_of_device}
+use Rattle.bus_due.specs.bus_rules.specs.Order.{is_of_device}
 
 -- ---- the scenario
 

@@ -41,7 +41,7 @@ use Rattle.initiator.proofs.Wishes.{IsCaller}
 use Rattle.initiator.proofs.WishRows.{aims_are, callers_are}
 use Rattle.initiator.proofs.HeldSteps.{in_range}
 use Rattle.initiator.proofs.Mines.{mines_from}
-use Rattle.bus_dialogue.specs.Events.{is_empty}
+use Rattle.bus_due.specs.bus_dialogue.specs.Events.{is_empty}
 
 -- ---- look-ups
 

@@ -11,7 +11,7 @@ use Rattle.scenario.specs.Value.{ScenarioValue}
 use Rattle.disk_array.specs.Processes.{command_at, process_if}
 use Rattle.bus_story.specs.HistoryEvents.{abort_line_at}
 use Rattle.bus_story.specs.Items.{Sent, is_of_host}
-use Rattle.bus_dialogue.specs.Words.{process_opening, abort_opening, abort_bytes}
+use Rattle.bus_due.specs.bus_dialogue.specs.Words.{process_opening, abort_opening, abort_bytes}
 use Rattle.bus_due.specs.Defs.{opening, host_of}
 use Rattle.bus_due.specs.Wants.{own_command, own_commands}
 use Rattle.scsi_device.specs.Lines.{AreUnits}

@@ -21,7 +21,7 @@ use Rattle.bus_due.specs.Telling.{id_of}
 use Rattle.scenario.specs.declared.value.CmdDef.{CmdDef}
 use Rattle.disk_array.specs.Processes.{command_at}
 use Rattle.disk_array.specs.Seats.{is_initiator as is_host}
-use Rattle.bus_dialogue.specs.Sending.{byte_to_send}
+use Rattle.bus_due.specs.bus_dialogue.specs.Sending.{byte_to_send}
 use Rattle.bus_due.specs.Plain.{AreOfDevices, IsPlain}
 use Rattle.scsi_device.specs.Lines.{IsCommandLine}
 use Rattle.initiator.specs.Hosts.{HostValue, IsHostAfter, HasHeard}

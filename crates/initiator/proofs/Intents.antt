@@ -13,7 +13,7 @@ use Rattle.bus_lines.specs.Effect.{effect}
 use Rattle.scenario.specs.Value.{ScenarioValue}
 use Rattle.bus_story.specs.BusState.{row_reading}
 use Rattle.bus_story.specs.TraceHistory.{aim_of, retries_of}
-use Rattle.bus_dialogue.specs.Hearing.{hearing}
+use Rattle.bus_due.specs.bus_dialogue.specs.Hearing.{hearing}
 use Rattle.bus_due.specs.RunSteps.{run_state, events_of_row}
 use Rattle.bus_due.specs.Sights.{hearing_of}
 use Rattle.bus_due.specs.Plain.{IsPlain, AreOfDevices}

@@ -26,7 +26,7 @@ use Rattle.bus_story.specs.BusState.{row_reading}
 use Rattle.bus_due.specs.RunState.{or_start, array_of, RunState}
 use Rattle.bus_due.specs.RunSteps.{array_after_events, run_state}
 use Rattle.bus_due.specs.Wants.{since_of, seek_of, ready_among, ready_of}
-use Rattle.bus_dialogue.specs.Wants.{Ready, ready_in, ready_by}
+use Rattle.bus_due.specs.bus_dialogue.specs.Wants.{Ready, ready_in, ready_by}
 use Rattle.scsi_device.specs.NoUnits.{has_unit, HasNoUnit}
 use Rattle.initiator.specs.States.{IsNoTarget}
 use Rattle.bus_base.proofs.Tests.{and_first, or_none_first, or_none_second}

@@ -11,7 +11,7 @@ use Rattle.bus_story.proofs.SameBytes.{bytes_are}
 use Rattle.initiator.specs.declared.endings.CommandEnd.{CommandEnd}
 use Rattle.initiator.specs.declared.endings.Ending.{Ending}
 use Rattle.initiator.specs.declared.endings.Ending.TheVariants as ends
-use Rattle.initiator.specs.declared.outcome.Outcome.TheVariants as outcomes
+use Rattle.run_record.specs.declared.outcome.Outcome.TheVariants as outcomes
 use Rattle.initiator.specs.Endings.{told_ending_if, IsEndOf}
 use Rattle.initiator.specs.Outcomes as own
 use Rattle.initiator.specs.Outcomes.{is_settled, told_outcome_if, is_good, is_reply_of, are_replies, settled_outcome, outcome_after}

@@ -5,8 +5,8 @@ use Rattle.bus_trace.specs.declared.connection.Connection.{Connection}
 use Rattle.scenario.specs.declared.value.HostDef.{HostDef}
 use Rattle.scenario.specs.Value.{ScenarioValue}
 use Rattle.bus_story.specs.TraceHistory.{aim_of}
-use Rattle.bus_dialogue.specs.Exchange.{Speech}
-use Rattle.bus_dialogue.specs.Sending.{Sending}
+use Rattle.bus_due.specs.bus_dialogue.specs.Exchange.{Speech}
+use Rattle.bus_due.specs.bus_dialogue.specs.Sending.{Sending}
 use Rattle.bus_due.specs.Own.{own_of}
 use Rattle.bus_due.specs.Due.{reset_from}
 use Rattle.bus_due.specs.Wants.{item_want_time, target_of}

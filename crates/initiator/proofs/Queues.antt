@@ -12,7 +12,7 @@ use Rattle.initiator.specs.declared.mine.Mine.{Mine}
 use Rattle.initiator.specs.Mines.{mine_of, mines_of}
 use Rattle.initiator.specs.Books.{is_sense_due, my_sense, has_number, queue_with, queue_from}
 use Rattle.bus_base.proofs.Tests.{or_false, length_more}
-use Rattle.bus_dialogue.specs.PhaseBytes.{one_if}
+use Rattle.bus_due.specs.bus_dialogue.specs.PhaseBytes.{one_if}
 
 -- ---- which sense comes first
 

@@ -20,8 +20,8 @@ use Rattle.bus_story.specs.BusState.{row_reading}
 use Rattle.bus_story.specs.CarriedBytes.{Area, CarriedBytes, bytes_with, carried_of}
 use Rattle.bus_story.specs.Items.{Item, process, abort, is_of_host}
 use Rattle.bus_story.specs.Links.{Link}
-use Rattle.bus_dialogue.specs.Hearing.{hearing}
-use Rattle.bus_dialogue.specs.declared.exchange.Hearing.{Hearing}
+use Rattle.bus_due.specs.bus_dialogue.specs.Hearing.{hearing}
+use Rattle.bus_due.specs.bus_dialogue.specs.declared.exchange.Hearing.{Hearing}
 use Rattle.bus_due.specs.Plain.{IsPlain, AreOfDevices}
 use Rattle.bus_due.specs.RunState.{item_of}
 use Rattle.bus_due.specs.RunSteps.{run_state}

@@ -12,8 +12,8 @@ use Rattle.scenario.specs.Value.{ScenarioValue}
 use Rattle.disk_array.specs.Processes.{payload_bytes, command_at, sense_block, process_by, process_if}
 use Rattle.disk_array.proofs.SeatLookups.{never_first}
 use Rattle.bus_story.specs.Items.{Item, process, abort, is_of_host}
-use Rattle.bus_dialogue.specs.Exchange.{Speech, next_word}
-use Rattle.bus_dialogue.specs.Sending.{byte_to_send}
+use Rattle.bus_due.specs.bus_dialogue.specs.Exchange.{Speech, next_word}
+use Rattle.bus_due.specs.bus_dialogue.specs.Sending.{byte_to_send}
 use Rattle.bus_due.specs.RunState.{RunState, process_item, carried_here}
 use Rattle.bus_due.specs.Sights.{sending_by}
 use Rattle.bus_due.specs.Telling.{id_of}

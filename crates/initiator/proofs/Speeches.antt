@@ -11,9 +11,9 @@ use Rattle.bus_trace.specs.Terms.{connection}
 use Rattle.bus_trace.proofs.Connections.{connection_stays}
 use Rattle.scenario.specs.Value.{ScenarioValue}
 use Rattle.bus_story.specs.BusState.{RowReading, row_reading}
-use Rattle.bus_dialogue.specs.Exchange.{Speech, no_speech, speech_of}
-use Rattle.bus_dialogue.specs.Speaking.{speech_after}
-use Rattle.bus_dialogue.specs.Hearing.{hearing}
+use Rattle.bus_due.specs.bus_dialogue.specs.Exchange.{Speech, no_speech, speech_of}
+use Rattle.bus_due.specs.bus_dialogue.specs.Speaking.{speech_after}
+use Rattle.bus_due.specs.bus_dialogue.specs.Hearing.{hearing}
 use Rattle.bus_due.specs.Defs.{host_of}
 use Rattle.bus_due.specs.RunState.{RunState}
 use Rattle.bus_due.specs.RunSteps.{run_state, exchange_after, leaving_of, may_negotiate}

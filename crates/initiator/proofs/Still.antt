@@ -11,11 +11,11 @@ use Rattle.scenario.specs.Value.{ScenarioValue}
 use Rattle.bus_story.specs.BusState.{row_reading}
 use Rattle.bus_story.specs.Links.{Link}
 use Rattle.bus_story.specs.TraceHistory.{aim_of}
-use Rattle.bus_dialogue.specs.declared.exchange.Hearing.{Hearing}
-use Rattle.bus_dialogue.specs.Exchange.{Speech}
-use Rattle.bus_dialogue.specs.Hearing.{hearing}
-use Rattle.bus_dialogue.specs.Speaking.{speech_in_phase, speech_with_byte, speech_after}
-use Rattle.bus_dialogue.specs.Events.{is_empty}
+use Rattle.bus_due.specs.bus_dialogue.specs.declared.exchange.Hearing.{Hearing}
+use Rattle.bus_due.specs.bus_dialogue.specs.Exchange.{Speech}
+use Rattle.bus_due.specs.bus_dialogue.specs.Hearing.{hearing}
+use Rattle.bus_due.specs.bus_dialogue.specs.Speaking.{speech_in_phase, speech_with_byte, speech_after}
+use Rattle.bus_due.specs.bus_dialogue.specs.Events.{is_empty}
 use Rattle.bus_due.specs.Plain.{IsPlain, AreOfDevices}
 use Rattle.bus_due.specs.RunState.{item_of}
 use Rattle.bus_due.specs.RunSteps.{run_state, events_of_row}

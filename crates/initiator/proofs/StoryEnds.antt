@@ -31,7 +31,7 @@ use Rattle.bus_due.specs.RunSteps.{run_state, events_of_row}
 use Rattle.initiator.proofs.Wishes.{IsCaller}
 use Rattle.initiator.proofs.Mines.{step}
 use Rattle.bus_story.proofs.StorySteps.{events_link, free_link}
-use Rattle.bus_dialogue.specs.Events.{is_empty}
+use Rattle.bus_due.specs.bus_dialogue.specs.Events.{is_empty}
 
 -- ---- the first ending stays
 

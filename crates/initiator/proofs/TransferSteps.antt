@@ -34,7 +34,7 @@ use Rattle.initiator.specs.Wishes.{IsItemIf}
 use Rattle.initiator.specs.HeldPointers.{restored_if, message_if, byte_if, AreHeldOf}
 use Rattle.initiator.specs.OwnLinks.{process_in, named_in, link_with_name, last_after_out, last_after_in, undo_of, undone, last_of, IsUndoIf, IsLinkOf, IsLinkIf}
 use Rattle.initiator.specs.Transfers.{TransfersValue, transfers_after_out, transfers_after_name, transfers_after_byte, transfers_after_crossing, transfers_in_link}
-use Rattle.bus_dialogue.specs.declared.exchange.Hearing.{Hearing}
+use Rattle.bus_due.specs.bus_dialogue.specs.declared.exchange.Hearing.{Hearing}
 use Rattle.bus_story.proofs.CarriedLists.{carried_id}
 use Rattle.initiator.proofs.HeldSteps.{held_restore, held_message, held_byte, held_fault, held_on, held_stays}
 use Rattle.initiator.proofs.OwnedLinks.{IsCarriedOf, IsOwned, IsOwnedIf, IsNamed, named, name_link}

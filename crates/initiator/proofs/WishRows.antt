@@ -13,7 +13,7 @@ use Rattle.bus_story.specs.Items.{Item}
 use Rattle.bus_story.specs.Story.{Story, story_after_events}
 use Rattle.bus_story.specs.TraceHistory.{aim_of, retries_of, story_with_aim, story_after_calling, story_on_free_bus, story_on_bus, story_by_change}
 use Rattle.bus_story.proofs.StorySteps.{events_aims, calling_aims, begun_aims}
-use Rattle.bus_dialogue.specs.Hearing.{hearing}
+use Rattle.bus_due.specs.bus_dialogue.specs.Hearing.{hearing}
 use Rattle.bus_due.specs.RunSteps.{run_state, events_of_row}
 use Rattle.bus_due.specs.Sights.{hearing_of}
 use Rattle.bus_due.specs.Plain.{IsPlain, AreOfDevices}

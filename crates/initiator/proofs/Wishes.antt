@@ -26,7 +26,7 @@ use Rattle.initiator.specs.declared.mine.OwnItem.TheVariants as own
 use Rattle.initiator.specs.Mines.{capped}
 use Rattle.initiator.specs.Books.{my_book, my_item, item_if, book_with_over, book_with_done}
 use Rattle.initiator.specs.Wishes.{IsItemOf, IsItemIf, tries_in, abort_tries_in, Wish, IsWishBy, AreAims, command_tried, abort_tried, book_after_try, book_after_send, is_unanswered, is_call_in_vain, wish_after_connection, wish_with_entry, wish_on_free_bus, wish_on_bus, wish_by_change}
-use Rattle.bus_dialogue.specs.Wants.{item_by}
+use Rattle.bus_due.specs.bus_dialogue.specs.Wants.{item_by}
 use Rattle.bus_due.specs.Wants.{book_of}
 use Rattle.initiator.proofs.Books.{item_is}
 use Rattle.initiator.proofs.BookSteps.{book_sent, book_over, book_try, book_abort_sent, book_abort_over, book_abort_try, book_sense_try}

@@ -11,10 +11,10 @@ use Rattle.bus_reactions.specs.declared.ends.Answering.{Answering}
 use Rattle.bus_reactions.specs.Linking.{link_due, sample_time}
 use Rattle.bus_reactions.specs.Ends as hand
 use Rattle.bus_reactions.specs.Reset.{with_reset}
-use Rattle.bus_dialogue.specs.Ends.{answering_by}
+use Rattle.bus_due.specs.bus_dialogue.specs.Ends.{answering_by}
 use Rattle.scsi_device.specs.Told.{Told, pace_of, flip_by}
 use Rattle.initiator.specs.States.{InitiatorState}
-use Rattle.bus_rules.specs.Order.{is_of_device}
+use Rattle.bus_due.specs.bus_rules.specs.Order.{is_of_device}
 
 abbrev pub myself_by : HostDef → Told → InitiatorState → Myself
 myself_by h t i = record { dev = h.dev; latency = h.latency; own = t.lines; since = i.own.row }

@@ -21,7 +21,7 @@ use Rattle.initiator.specs.declared.mine.OwnItem.TheVariants as own
 use Rattle.initiator.specs.Mines.{is_mine_aborted}
 use Rattle.initiator.specs.Books.{BookValue}
 use Rattle.initiator.specs.Openings.{mine_at}
-use Rattle.bus_dialogue.specs.Events.{is_empty}
+use Rattle.bus_due.specs.bus_dialogue.specs.Events.{is_empty}
 
 -- ---- one command
 

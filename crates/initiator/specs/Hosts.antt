@@ -8,10 +8,10 @@ use Rattle.bus_trace.specs.declared.Row.{Row}
 use Rattle.bus_trace.specs.declared.connection.Connection.{Connection}
 use Rattle.bus_trace.specs.Phases.{changes_phase}
 use Rattle.bus_trace.specs.Terms.{connection}
-use Rattle.bus_dialogue.specs.declared.exchange.Hearing.{Hearing}
+use Rattle.bus_due.specs.bus_dialogue.specs.declared.exchange.Hearing.{Hearing}
 use Rattle.scenario.specs.declared.value.HostDef.{HostDef}
 use Rattle.scenario.specs.Value.{ScenarioValue}
-use Rattle.bus_dialogue.specs.Exchange as exchange
+use Rattle.bus_due.specs.bus_dialogue.specs.Exchange as exchange
 use Rattle.scsi_device.specs.Itself.{ItselfValue, IsItselfOf}
 use Rattle.scsi_device.specs.Lines.{IsHostLine}
 use Rattle.initiator.specs.declared.endings.CommandEnd.{CommandEnd}

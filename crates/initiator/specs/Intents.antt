@@ -14,7 +14,7 @@ use Rattle.initiator.specs.declared.mine.OwnItem.{OwnItem}
 use Rattle.initiator.specs.declared.mine.OwnItem.TheVariants as own
 use Rattle.initiator.specs.Books.{my_since}
 use Rattle.initiator.specs.Wishes.{Wish, IsWishOf, is_entry, target_by, wish_after}
-use Rattle.bus_dialogue.specs.Events.{is_empty}
+use Rattle.bus_due.specs.bus_dialogue.specs.Events.{is_empty}
 use Rattle.disk_array.specs.Seats.{is_initiator}
 
 pub record IntentValue : Type 0 where

@@ -13,7 +13,7 @@ use Rattle.disk_array.specs.Steps.{has_tag}
 use Rattle.disk_array.specs.Order.{tag_number}
 use Rattle.bus_story.specs.Items.{abort, is_tag_clash, Sent, is_done, count_item}
 use Rattle.bus_reactions.specs.Reactions.{sooner_time, time_if}
-use Rattle.bus_dialogue.specs.Wants.{OwnCommand}
+use Rattle.bus_due.specs.bus_dialogue.specs.Wants.{OwnCommand}
 use Rattle.bus_due.specs.Wants.{own_commands}
 use Rattle.initiator.specs.declared.mine.Mine.{Mine}
 use Rattle.initiator.specs.declared.mine.MyAbort.{MyAbort}

@@ -13,8 +13,8 @@ use Rattle.initiator.specs.declared.mine.Mine.{Mine}
 use Rattle.initiator.specs.declared.endings.CommandEnd.{CommandEnd}
 use Rattle.initiator.specs.declared.endings.Ending.{Ending}
 use Rattle.initiator.specs.declared.endings.Ending.TheVariants as ends
-use Rattle.initiator.specs.declared.outcome.Outcome.{Outcome}
-use Rattle.initiator.specs.declared.outcome.Outcome.TheVariants as outcomes
+use Rattle.run_record.specs.declared.outcome.Outcome.{Outcome}
+use Rattle.run_record.specs.declared.outcome.Outcome.TheVariants as outcomes
 
 -- ---- whether it is known
 

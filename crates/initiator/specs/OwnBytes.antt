@@ -6,7 +6,7 @@ use Rattle.scenario.specs.Needs.{sent_count}
 use Rattle.scenario.specs.Value.{ScenarioValue}
 use Rattle.disk_array.specs.Processes.{payload_bytes, sense_block}
 use Rattle.io_pointers.specs.declared.pointers.Place.{Place}
-use Rattle.bus_dialogue.specs.Sending.{Sending}
+use Rattle.bus_due.specs.bus_dialogue.specs.Sending.{Sending}
 
 pub record CommandBytesValue : Type 0 where
   pub cdb : List ℕ

@@ -17,7 +17,7 @@ use Rattle.bus_story.specs.Links.{Link}
 use Rattle.bus_story.specs.Right.{same_bytes}
 use Rattle.bus_story.specs.Story.{Story}
 use Rattle.bus_story.specs.TraceHistory.{is_parity_error}
-use Rattle.bus_dialogue.specs.declared.exchange.Hearing.{Hearing}
+use Rattle.bus_due.specs.bus_dialogue.specs.declared.exchange.Hearing.{Hearing}
 use Rattle.bus_due.specs.RunSteps.{run_state}
 
 -- ---- a buffer: what came, from the first byte on, as far as there is room

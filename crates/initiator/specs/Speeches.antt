@@ -6,9 +6,9 @@ use Rattle.scenario.specs.Value.{ScenarioValue}
 use Rattle.bus_story.specs.TraceHistory.{aim_of}
 use Rattle.bus_trace.specs.Terms.{connection}
 use Rattle.scenario.specs.declared.value.HostDef.{HostDef}
-use Rattle.bus_dialogue.specs.declared.exchange.Hearing.{Hearing}
-use Rattle.bus_dialogue.specs.Speaking.{speech_after}
-use Rattle.bus_dialogue.specs.Exchange.{Speech, no_speech, speech_of}
+use Rattle.bus_due.specs.bus_dialogue.specs.declared.exchange.Hearing.{Hearing}
+use Rattle.bus_due.specs.bus_dialogue.specs.Speaking.{speech_after}
+use Rattle.bus_due.specs.bus_dialogue.specs.Exchange.{Speech, no_speech, speech_of}
 use Rattle.initiator.specs.States.{IsOwnConnection}
 use Rattle.bus_due.specs.RunSteps.{run_state, opening_of}
 

@@ -7,8 +7,8 @@ use Rattle.bus_trace.specs.declared.connection.Connection.{Connection}
 use Rattle.scenario.specs.declared.value.HostDef.{HostDef}
 use Rattle.scenario.specs.Value.{ScenarioValue}
 use Rattle.bus_story.specs.TraceHistory.{aim_of}
-use Rattle.bus_dialogue.specs.Exchange.{Speech}
-use Rattle.bus_dialogue.specs.Sending.{Sending, byte_to_send}
+use Rattle.bus_due.specs.bus_dialogue.specs.Exchange.{Speech}
+use Rattle.bus_due.specs.bus_dialogue.specs.Sending.{Sending, byte_to_send}
 use Rattle.bus_due.specs.Own.{Own, own_of}
 use Rattle.bus_due.specs.Defs.{host_of, target_def_of}
 use Rattle.bus_due.specs.Wants.{ready_of, item_want_time, target_of}

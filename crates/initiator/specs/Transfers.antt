@@ -15,7 +15,7 @@ use Rattle.scenario.specs.Value.{ScenarioValue}
 use Rattle.bus_story.specs.TraceHistory.{is_parity_error}
 use Rattle.io_pointers.specs.declared.pointers.Place.{Place}
 use Rattle.io_pointers.specs.Pointers.{pointers_of, at_start}
-use Rattle.bus_dialogue.specs.declared.exchange.Hearing.{Hearing}
+use Rattle.bus_due.specs.bus_dialogue.specs.declared.exchange.Hearing.{Hearing}
 use Rattle.bus_due.specs.RunState.{RunState, carried_here}
 use Rattle.bus_due.specs.RunSteps.{run_state}
 use Rattle.initiator.specs.declared.mine.Mine.{Mine}

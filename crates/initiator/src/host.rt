@@ -6,9 +6,9 @@ ghost use Rattle.bus_trace.specs.Terms.{connection};
 ghost use Rattle.bus_trace.specs.Trace.{bus};
 ghost use Rattle.bus_lines.specs.BusView.{IsBusViewOf};
 ghost use Rattle.bus_lines.specs.Timely.{IsTimely, IsBefore};
-ghost use Rattle.bus_dialogue.specs.Hearing.{hearing as hearing_in};
-ghost use Rattle.bus_dialogue.specs.Observer.{IsObserverOf};
-ghost use Rattle.bus_dialogue.specs.Events.{is_empty, event_if};
+ghost use Rattle.bus_due.specs.bus_dialogue.specs.Hearing.{hearing as hearing_in};
+ghost use Rattle.bus_due.specs.bus_dialogue.specs.Observer.{IsObserverOf};
+ghost use Rattle.bus_due.specs.bus_dialogue.specs.Events.{is_empty, event_if};
 ghost use Rattle.bus_due.specs.Defs.{host_of};
 ghost use Rattle.bus_due.specs.Next.{due};
 ghost use Rattle.bus_due.specs.Plain.{AreOfDevices};
@@ -44,17 +44,18 @@ use crate::intent::Intent;
 use crate::laws::{initiators_are_their_parts, initiators_have_no_unit};
 use crate::negotiations::Negotiations;
 use crate::openings::Words;
-use crate::outcome::{Outcome, is_settled};
+use crate::outcome::{command_outcome, is_settled};
 use crate::own_bytes::OwnBytes;
 use crate::received::{Received, see_received};
 use crate::speech::Speech;
 use crate::transfers::Transfers;
 use bus_base::{Dev, Event, NoMemory, Ns, ProcId};
-use bus_dialogue::{Hearing, Observer};
+use bus_due::the_bus_dialogue::{Hearing, Observer};
 use bus_due::{hearings_are_plain, kept_is_plain};
 use bus_lines::{BusView, RowEffect};
 use bus_reactions::Due;
 use bus_trace::{Connection, Row, changes_phase};
+use run_record::Outcome;
 use scenario::{FaultDef, HostDef, Scenario, host_line};
 use scsi_device::{Act, Itself, scenarios_fit_the_bus};
 use std::alloc::Global;
@@ -494,6 +495,6 @@ impl Host {
             command: number,
             sense: true,
         });
-        Outcome::new(end, over, bytes, sense)
+        command_outcome(end, over, bytes, sense)
     }
 }

@@ -50,7 +50,8 @@ pub use laws::{
 pub use mine::{Mine, MyAbort, OwnItem};
 pub use negotiations::Negotiations;
 pub use openings::{Words, abort_opening, process_opening};
-pub use outcome::{Outcome, is_settled};
+pub use outcome::{command_outcome, is_settled};
 pub use received::Received;
+pub use run_record::Outcome;
 pub use speech::Speech;
 pub use transfers::Transfers;

@@ -9,25 +9,7 @@ ghost use Rattle.initiator.specs.Outcomes.{is_settled_by, is_settled, outcome_by
 use crate::endings::{CommandEnd, Ending};
 use bus_base::Octets;
 use cdb_codec::{GOOD, QUEUE_FULL, Sense};
-
-/// The outcome of a command.
-#[derive(Drop)]
-pub enum Outcome {
-    /// GOOD, with the bytes that came to the initiator.
-    Good(Octets),
-    /// CHECK CONDITION, with the sense that its automatic REQUEST SENSE brought, if that ended.
-    Check(Option<Sense>),
-    /// QUEUE FULL.
-    QFull,
-    /// Its initiator called for it in vain once too often.
-    SelTimeout,
-    /// The target went to BUS FREE where it should not.
-    Lost,
-    /// A reset of the bus.
-    Reset,
-    /// An abort that concerned it.
-    Aborted,
-}
+use run_record::Outcome;
 
 fn byte_at(bytes: &[u8], place: usize) -> u8
     ensures { result ≡ slice_index bytes.now place }
@@ -110,15 +92,18 @@ fn outcome_after(end: CommandEnd, sense_over: bool, bytes: Octets, sense: &[u8])
     Some(outcome_by(ending, end.sense_ended, bytes, sense))
 }
 
-impl Outcome {
-    /// By how the command ended, whether its automatic REQUEST SENSE is over, the bytes that came to it, and those that
-    /// came to its automatic REQUEST SENSE. None until it is known ([`is_settled`]). It takes no memory.
-    pub fn new(end: CommandEnd, sense_over: bool, bytes: Octets, sense: &[u8]) -> Option<Outcome>
-        ensures exact { result ≡ outcome_after end sense_over bytes sense.now }
-        ensures trace { (s : ScenarioValue) (b : Story) (n : ℕ) → IsEndOf b n end
-            → are_replies s b n end bytes sense.now ≡ true
-            → told_outcome_if result ≡ settled_outcome s b n end sense_over }
-    {
-        outcome_after(end, sense_over, bytes, sense)
-    }
+/// The outcome of a command by how it ended, whether its automatic REQUEST SENSE is over, the bytes that came to it,
+/// and those that came to its automatic REQUEST SENSE. None until it is known ([`is_settled`]). It takes no memory.
+pub fn command_outcome(
+    end: CommandEnd,
+    sense_over: bool,
+    bytes: Octets,
+    sense: &[u8],
+) -> Option<Outcome>
+    ensures exact { result ≡ outcome_after end sense_over bytes sense.now }
+    ensures trace { (s : ScenarioValue) (b : Story) (n : ℕ) → IsEndOf b n end
+        → are_replies s b n end bytes sense.now ≡ true
+        → told_outcome_if result ≡ settled_outcome s b n end sense_over }
+{
+    outcome_after(end, sense_over, bytes, sense)
 }

@@ -5,7 +5,7 @@ ghost use Rattle.bus_trace.specs.Terms.{connection as connection_after};
 ghost use Rattle.scenario.specs.declared.value.CmdDef.{CmdDef};
 ghost use Rattle.scenario.specs.Value.{ScenarioValue};
 ghost use Rattle.disk_array.specs.Processes.{command_at};
-ghost use Rattle.bus_dialogue.specs.Hearing.{hearing as hearing_in};
+ghost use Rattle.bus_due.specs.bus_dialogue.specs.Hearing.{hearing as hearing_in};
 ghost use Rattle.bus_due.specs.Plain.{AreOfDevices};
 ghost use Rattle.bus_due.specs.RunState.{item_of};
 ghost use Rattle.bus_due.specs.RunSteps.{run_state};
@@ -16,7 +16,7 @@ ghost use Rattle.initiator.specs.Received.{empty_buffer, buffer_with, no_buffers
 
 use crate::transfers::Transfers;
 use bus_base::{Dev, NoMemory, Octets, ProcId};
-use bus_dialogue::Hearing;
+use bus_due::the_bus_dialogue::Hearing;
 use bus_due::{hearings_are_plain, kept_is_plain};
 use bus_trace::{Connection, is_data};
 use cdb_codec::{SENSE_LEN, from_cdb};

@@ -1,27 +1,27 @@
 -- A row within a data phase tells no event; so the run that is moved stays the same, and what the target gives.
 use Rattle.std.proofs.Common.{ℕ, ◌≡◌, ◌<◌, Bool, false, not, ◌&&◌, ◌∙◌, List, [], ◌∷◌, Option, Some, None, refl, sym, ap}
 use Rattle.std.specs.Prelude.{◌+◌, if◌then◌else◌, is_some}
-use Rattle.bus_base.specs.declared.Event.{Event}
-use Rattle.bus_base.specs.declared.Event.TheVariants as events
-use Rattle.bus_trace.specs.declared.Row.{Row}
-use Rattle.bus_trace.specs.declared.changes.Change.{Change}
-use Rattle.bus_trace.specs.declared.connection.Connection.{Connection}
-use Rattle.bus_trace.specs.Changes.{change_of, rises, falls}
-use Rattle.bus_trace.specs.Phases.{changes_phase}
-use Rattle.bus_trace.specs.Terms.{connection, connection_after, is_fault, receiver_in, receiver_of}
-use Rattle.scenario.specs.Value.{ScenarioValue}
-use Rattle.scenario.specs.declared.value.Policy.{Policy}
-use Rattle.disk_array.specs.Processes.{Process}
-use Rattle.disk_array.specs.ArrayHistory as Play
-use Rattle.bus_story.specs.BusState.{RowReading, row_reading}
-use Rattle.bus_story.specs.Items.{Item}
-use Rattle.bus_story.specs.Links.{Link}
-use Rattle.bus_story.specs.CarriedBytes.{carried_of}
-use Rattle.bus_story.specs.Story.{Story}
-use Rattle.bus_story.specs.HistoryEvents.{row_events_by, link_events, connection_events, bus_free_events, phase_events, is_completion, is_complete, end_events, carried_if}
-use Rattle.bus_dialogue.specs.Arrivals.{policy_of}
-use Rattle.bus_dialogue.specs.DataRuns.{run_length, run_byte}
-use Rattle.bus_dialogue.specs.PhaseBytes.{run_length_if, data_byte}
+use Rattle.bus_due.specs.bus_base.specs.declared.Event.{Event}
+use Rattle.bus_due.specs.bus_base.specs.declared.Event.TheVariants as events
+use Rattle.bus_due.specs.bus_trace.specs.declared.Row.{Row}
+use Rattle.bus_due.specs.bus_trace.specs.declared.changes.Change.{Change}
+use Rattle.bus_due.specs.bus_trace.specs.declared.connection.Connection.{Connection}
+use Rattle.bus_due.specs.bus_trace.specs.Changes.{change_of, rises, falls}
+use Rattle.bus_due.specs.bus_trace.specs.Phases.{changes_phase}
+use Rattle.bus_due.specs.bus_trace.specs.Terms.{connection, connection_after, is_fault, receiver_in, receiver_of}
+use Rattle.bus_due.specs.scenario.specs.Value.{ScenarioValue}
+use Rattle.bus_due.specs.scenario.specs.declared.value.Policy.{Policy}
+use Rattle.bus_due.specs.disk_array.specs.Processes.{Process}
+use Rattle.bus_due.specs.disk_array.specs.ArrayHistory as Play
+use Rattle.bus_due.specs.bus_story.specs.BusState.{RowReading, row_reading}
+use Rattle.bus_due.specs.bus_story.specs.Items.{Item}
+use Rattle.bus_due.specs.bus_story.specs.Links.{Link}
+use Rattle.bus_due.specs.bus_story.specs.CarriedBytes.{carried_of}
+use Rattle.bus_due.specs.bus_story.specs.Story.{Story}
+use Rattle.bus_due.specs.bus_story.specs.HistoryEvents.{row_events_by, link_events, connection_events, bus_free_events, phase_events, is_completion, is_complete, end_events, carried_if}
+use Rattle.bus_due.specs.bus_dialogue.specs.Arrivals.{policy_of}
+use Rattle.bus_due.specs.bus_dialogue.specs.DataRuns.{run_length, run_byte}
+use Rattle.bus_due.specs.bus_dialogue.specs.PhaseBytes.{run_length_if, data_byte}
 use Rattle.bus_due.specs.Defs.{target_def_of}
 use Rattle.bus_due.specs.LastingState.{progress_in}
 use Rattle.bus_due.specs.RunState.{RunState, or_start, process_served, process_item, item_of, process_here}
@@ -34,7 +34,7 @@ use Rattle.bus_due.proofs.Plains.{run_state_plain}
 use Rattle.bus_due.proofs.Stills.{keeps_wishes}
 use Rattle.link_laws.specs.Pulses.{run_count, byte_in_run}
 use Rattle.bus_laws.proofs.Apart.{change_plain}
-use Rattle.bus_base.proofs.Tests.{and_false}
+use Rattle.bus_due.specs.bus_base.proofs.Tests.{and_false}
 
 -- The row leaves the phase lines as they are, in a data phase of this connection.
 pub record DataRow (p : List Row) (row : Row) (n : Connection) (c : Change) : Type 0 where

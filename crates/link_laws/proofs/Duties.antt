@@ -1,14 +1,14 @@
 -- ATN, and what it asks of the target, from row to row.
 use Rattle.std.proofs.Common.{◌≡◌, Bool, true, false, not, ◌&&◌, ◌||◌, ◌∙◌, refl, ap}
 use Rattle.std.specs.Prelude.{if◌then◌else◌}
-use Rattle.bus_trace.specs.Changes.{falls, implies}
-use Rattle.bus_phases.specs.declared.attention.Duty.{Duty}
-use Rattle.bus_phases.specs.declared.attention.Duty.TheVariants as duties
-use Rattle.bus_phases.specs.Phases.{duty_if_held, duty_left}
-use Rattle.bus_rules.specs.Messages.{is_owed}
+use Rattle.bus_due.specs.bus_trace.specs.Changes.{falls, implies}
+use Rattle.bus_due.specs.bus_phases.specs.declared.attention.Duty.{Duty}
+use Rattle.bus_due.specs.bus_phases.specs.declared.attention.Duty.TheVariants as duties
+use Rattle.bus_due.specs.bus_phases.specs.Phases.{duty_if_held, duty_left}
+use Rattle.bus_due.specs.bus_rules.specs.Messages.{is_owed}
 use Rattle.bus_laws.specs.Ends.{EndLines, connected_bus}
 use Rattle.link_laws.specs.Phases.{fits_duty, is_owed_out}
-use Rattle.bus_base.proofs.Tests.{and_false}
+use Rattle.bus_due.specs.bus_base.proofs.Tests.{and_false}
 
 -- Whatever a row does in a phase.
 pub duty_goes_on : (d : Duty) (e : EndLines) (atn rise fall held : Bool) → fits_duty d e.atn e.msg ≡ true → fits_duty (if falls e.atn atn || rise then duties.Nothing else if fall && (e.atn && atn && held) then duty_if_held d (connected_bus e) else d) atn e.msg ≡ true

@@ -3,32 +3,32 @@ use Rattle.std.proofs.Common.{inl, inr, ℕ, ◌≡◌, ◌≢◌, ◌≤◌, �
 use Rattle.std.specs.Prelude.{if◌then◌else◌, is_some}
 use Rattle.std.proofs.lemmas.Bool.{cases_eq, ne_eqb}
 use Rattle.std.proofs.lemmas.Option.{same_Some, none-some}
-use Rattle.bus_trace.specs.LineSet.{LineSet}
-use Rattle.bus_trace.specs.declared.Row.{Row}
-use Rattle.bus_trace.specs.declared.Kind.TheVariants.{Fault}
-use Rattle.bus_trace.specs.Trace.{drives, last_time, line_times}
-use Rattle.bus_trace.specs.Changes.{change_of}
-use Rattle.bus_trace.specs.declared.changes.Change.{Change}
-use Rattle.bus_trace.specs.declared.selection.Call.{Call}
-use Rattle.bus_trace.specs.declared.connection.Connection.{Connection}
-use Rattle.bus_trace.specs.Terms.{call, connection, connection_after, receiver, receiver_in, receiver_of}
-use Rattle.bus_phases.specs.Dialogue.{dialogue}
-use Rattle.bus_rules.specs.Order.{is_of_device}
-use Rattle.bus_lines.specs.declared.stage.Stage.TheVariants.{InConnection}
-use Rattle.bus_lines.specs.Stage.{stage}
-use Rattle.bus_lines.specs.Handshakes.{handshakes}
-use Rattle.scenario.specs.Value.{ScenarioValue}
-use Rattle.bus_story.specs.Samples.{latency_of}
-use Rattle.bus_reactions.specs.declared.due.Due.{Due}
-use Rattle.bus_reactions.specs.declared.due.Myself.{Myself}
-use Rattle.bus_reactions.specs.declared.sight.Sight.{Sight}
-use Rattle.bus_reactions.specs.declared.ends.Pace.{Pace}
-use Rattle.bus_reactions.specs.declared.ends.Offering.{Offering}
-use Rattle.bus_reactions.specs.declared.ends.Answering.{Answering}
-use Rattle.bus_reactions.specs.Ends.{target_due, initiator_due, sample_due}
-use Rattle.bus_dialogue.specs.NextPhase.{phase_of}
-use Rattle.bus_dialogue.specs.Ends.{pace_by, offering_by, answering_by, is_pulsed_phase}
-use Rattle.bus_dialogue.specs.Hearing.{begun}
+use Rattle.bus_due.specs.bus_trace.specs.LineSet.{LineSet}
+use Rattle.bus_due.specs.bus_trace.specs.declared.Row.{Row}
+use Rattle.bus_due.specs.bus_trace.specs.declared.Kind.TheVariants.{Fault}
+use Rattle.bus_due.specs.bus_trace.specs.Trace.{drives, last_time, line_times}
+use Rattle.bus_due.specs.bus_trace.specs.Changes.{change_of}
+use Rattle.bus_due.specs.bus_trace.specs.declared.changes.Change.{Change}
+use Rattle.bus_due.specs.bus_trace.specs.declared.selection.Call.{Call}
+use Rattle.bus_due.specs.bus_trace.specs.declared.connection.Connection.{Connection}
+use Rattle.bus_due.specs.bus_trace.specs.Terms.{call, connection, connection_after, receiver, receiver_in, receiver_of}
+use Rattle.bus_due.specs.bus_phases.specs.Dialogue.{dialogue}
+use Rattle.bus_due.specs.bus_rules.specs.Order.{is_of_device}
+use Rattle.bus_due.specs.bus_lines.specs.declared.stage.Stage.TheVariants.{InConnection}
+use Rattle.bus_due.specs.bus_lines.specs.Stage.{stage}
+use Rattle.bus_due.specs.bus_lines.specs.Handshakes.{handshakes}
+use Rattle.bus_due.specs.scenario.specs.Value.{ScenarioValue}
+use Rattle.bus_due.specs.bus_story.specs.Samples.{latency_of}
+use Rattle.bus_due.specs.bus_reactions.specs.declared.due.Due.{Due}
+use Rattle.bus_due.specs.bus_reactions.specs.declared.due.Myself.{Myself}
+use Rattle.bus_due.specs.bus_reactions.specs.declared.sight.Sight.{Sight}
+use Rattle.bus_due.specs.bus_reactions.specs.declared.ends.Pace.{Pace}
+use Rattle.bus_due.specs.bus_reactions.specs.declared.ends.Offering.{Offering}
+use Rattle.bus_due.specs.bus_reactions.specs.declared.ends.Answering.{Answering}
+use Rattle.bus_due.specs.bus_reactions.specs.Ends.{target_due, initiator_due, sample_due}
+use Rattle.bus_due.specs.bus_dialogue.specs.NextPhase.{phase_of}
+use Rattle.bus_due.specs.bus_dialogue.specs.Ends.{pace_by, offering_by, answering_by, is_pulsed_phase}
+use Rattle.bus_due.specs.bus_dialogue.specs.Hearing.{begun}
 use Rattle.bus_due.specs.Own.{Own, own_of}
 use Rattle.bus_due.specs.Defs.{host_of}
 use Rattle.bus_due.specs.RunState.{bus_of}
@@ -44,7 +44,7 @@ use Rattle.bus_laws.specs.Rows.{row_of_fault}
 use Rattle.bus_laws.specs.Ends.{EndLines, initiator_side, target_side, connected_bus, Linked}
 use Rattle.bus_laws.proofs.Rows.{stage_is}
 use Rattle.bus_laws.proofs.Dues.{is_there}
-use Rattle.bus_base.proofs.Tests.{eq_self}
+use Rattle.bus_due.specs.bus_base.proofs.Tests.{eq_self}
 use Rattle.bus_due.proofs.Leasts.{some_eq}
 
 -- ---- what the ends go by

@@ -2,21 +2,21 @@
 use Rattle.std.proofs.Common.{ℕ, ◌≡◌, ◌≤◌, ◌<◌, ◌+◌, Bool, true, false, not, ◌&&◌, ◌||◌, ◌==◌, ◌∙◌, List, ◌∷◌, Option, None, refl, sym, ap, arith}
 use Rattle.std.specs.Prelude.{if◌then◌else◌, max}
 use Rattle.std.proofs.lemmas.Bool.Decides.{nat_tests}
-use Rattle.bus_trace.specs.LineSet.{data_of, same}
-use Rattle.bus_trace.specs.declared.Row.{Row}
-use Rattle.bus_trace.specs.declared.line_times.LineTimes.{LineTimes}
-use Rattle.bus_trace.specs.declared.connection.Connection.{Connection}
-use Rattle.bus_trace.specs.declared.changes.Change.{Change}
-use Rattle.bus_trace.specs.Trace.{last_time, since, newer_line, line_times, phase_time}
-use Rattle.bus_trace.specs.Changes.{rises, falls, implies}
-use Rattle.bus_trace.specs.Phases.{changes_phase}
-use Rattle.bus_trace.specs.Terms.{receiver}
-use Rattle.bus_phases.specs.declared.attention.Duty.{Duty}
-use Rattle.bus_phases.specs.declared.attention.Duty.TheVariants as duties
-use Rattle.bus_phases.specs.Phases.{pulses, no_pulses, duty, duty_left, duty_if_held, turned, is_attention_held}
-use Rattle.bus_lines.specs.Handshakes.{handshakes, no_handshakes}
-use Rattle.scenario.specs.Value.{ScenarioValue}
-use Rattle.bus_dialogue.specs.Hearing.{begun}
+use Rattle.bus_due.specs.bus_trace.specs.LineSet.{data_of, same}
+use Rattle.bus_due.specs.bus_trace.specs.declared.Row.{Row}
+use Rattle.bus_due.specs.bus_trace.specs.declared.line_times.LineTimes.{LineTimes}
+use Rattle.bus_due.specs.bus_trace.specs.declared.connection.Connection.{Connection}
+use Rattle.bus_due.specs.bus_trace.specs.declared.changes.Change.{Change}
+use Rattle.bus_due.specs.bus_trace.specs.Trace.{last_time, since, newer_line, line_times, phase_time}
+use Rattle.bus_due.specs.bus_trace.specs.Changes.{rises, falls, implies}
+use Rattle.bus_due.specs.bus_trace.specs.Phases.{changes_phase}
+use Rattle.bus_due.specs.bus_trace.specs.Terms.{receiver}
+use Rattle.bus_due.specs.bus_phases.specs.declared.attention.Duty.{Duty}
+use Rattle.bus_due.specs.bus_phases.specs.declared.attention.Duty.TheVariants as duties
+use Rattle.bus_due.specs.bus_phases.specs.Phases.{pulses, no_pulses, duty, duty_left, duty_if_held, turned, is_attention_held}
+use Rattle.bus_due.specs.bus_lines.specs.Handshakes.{handshakes, no_handshakes}
+use Rattle.bus_due.specs.scenario.specs.Value.{ScenarioValue}
+use Rattle.bus_due.specs.bus_dialogue.specs.Hearing.{begun}
 use Rattle.bus_laws.specs.Rows.{change_to}
 use Rattle.bus_laws.specs.Stages.{CalmStanding}
 use Rattle.bus_laws.specs.Ends.{EndLines, initiator_side, target_side, connected_bus, Linked, BeginsSelected, ends_selected}
@@ -30,7 +30,7 @@ use Rattle.link_laws.proofs.LinkObeys.{same_phases, bsy_release_obeys}
 use Rattle.link_laws.proofs.EdgeObeys.{opening_obeys}
 use Rattle.link_laws.proofs.Goes.{NextLinked, phase_goes, turn_goes, data_by}
 use Rattle.link_laws.proofs.Shakes.{target_row, initiator_row}
-use Rattle.bus_base.proofs.Tests.{or_false, eq_self}
+use Rattle.bus_due.specs.bus_base.proofs.Tests.{or_false, eq_self}
 
 -- ---- a phase begins
 

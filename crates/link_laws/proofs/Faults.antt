@@ -1,26 +1,26 @@
 -- A fault row in a connection changes nothing but what its receiver makes of the byte.
 use Rattle.std.proofs.Common.{ℕ, ◌≡◌, ◌<◌, ◌≤◌, ◌+◌, [], Bool, true, false, not, ◌&&◌, ◌||◌, ◌==◌, ◌∙◌, List, ◌∷◌, Option, Some, None, refl, sym, ap, subst, arith}
 use Rattle.std.specs.Prelude.{if◌then◌else◌, is_some}
-use Rattle.bus_trace.specs.LineSet.{LineSet, data_of}
-use Rattle.bus_trace.specs.declared.Row.{Row}
-use Rattle.bus_trace.specs.declared.line_times.LineTimes.{LineTimes}
-use Rattle.bus_trace.specs.declared.agreements.Agreement.{Agreement}
-use Rattle.bus_trace.specs.declared.connection.Connection.{Connection}
-use Rattle.bus_trace.specs.declared.changes.Change.{Change}
-use Rattle.bus_trace.specs.Trace.{drives, last_time, since, line_times, phase_time}
-use Rattle.bus_trace.specs.Phases.{changes_phase}
-use Rattle.bus_trace.specs.Terms.{receiver, receiver_in}
-use Rattle.bus_trace.proofs.OneRow.{drives-fault}
-use Rattle.bus_phases.specs.declared.attention.Duty.{Duty}
-use Rattle.bus_phases.specs.declared.attention.Duty.TheVariants as duties
-use Rattle.bus_phases.specs.declared.dialogue.Dialogue.{Dialogue}
-use Rattle.bus_phases.specs.Phases.{duty, duty_left, duty_if_held, turned, is_attention_held}
-use Rattle.bus_phases.specs.Dialogue.{dialogue, byte_crosses, phase_begins}
-use Rattle.bus_rules.specs.Order.{is_of_device}
-use Rattle.bus_lines.specs.Handshakes.{Handshakes, handshakes, strikes_if}
-use Rattle.scenario.specs.Value.{ScenarioValue}
-use Rattle.bus_dialogue.specs.Hearing.{begun}
-use Rattle.bus_dialogue.specs.Ends.{is_pulsed_phase}
+use Rattle.bus_due.specs.bus_trace.specs.LineSet.{LineSet, data_of}
+use Rattle.bus_due.specs.bus_trace.specs.declared.Row.{Row}
+use Rattle.bus_due.specs.bus_trace.specs.declared.line_times.LineTimes.{LineTimes}
+use Rattle.bus_due.specs.bus_trace.specs.declared.agreements.Agreement.{Agreement}
+use Rattle.bus_due.specs.bus_trace.specs.declared.connection.Connection.{Connection}
+use Rattle.bus_due.specs.bus_trace.specs.declared.changes.Change.{Change}
+use Rattle.bus_due.specs.bus_trace.specs.Trace.{drives, last_time, since, line_times, phase_time}
+use Rattle.bus_due.specs.bus_trace.specs.Phases.{changes_phase}
+use Rattle.bus_due.specs.bus_trace.specs.Terms.{receiver, receiver_in}
+use Rattle.bus_due.specs.bus_trace.proofs.OneRow.{drives-fault}
+use Rattle.bus_due.specs.bus_phases.specs.declared.attention.Duty.{Duty}
+use Rattle.bus_due.specs.bus_phases.specs.declared.attention.Duty.TheVariants as duties
+use Rattle.bus_due.specs.bus_phases.specs.declared.dialogue.Dialogue.{Dialogue}
+use Rattle.bus_due.specs.bus_phases.specs.Phases.{duty, duty_left, duty_if_held, turned, is_attention_held}
+use Rattle.bus_due.specs.bus_phases.specs.Dialogue.{dialogue, byte_crosses, phase_begins}
+use Rattle.bus_due.specs.bus_rules.specs.Order.{is_of_device}
+use Rattle.bus_due.specs.bus_lines.specs.Handshakes.{Handshakes, handshakes, strikes_if}
+use Rattle.bus_due.specs.scenario.specs.Value.{ScenarioValue}
+use Rattle.bus_due.specs.bus_dialogue.specs.Hearing.{begun}
+use Rattle.bus_due.specs.bus_dialogue.specs.Ends.{is_pulsed_phase}
 use Rattle.bus_laws.specs.Reactions.{own_time}
 use Rattle.bus_laws.specs.Rows.{row_of_fault, change_to}
 use Rattle.bus_laws.specs.Ends.{EndLines, initiator_side, target_side, connected_bus, Linked}
@@ -33,16 +33,16 @@ use Rattle.link_laws.proofs.LinkSeen.{around, obeys_linked}
 use Rattle.link_laws.proofs.FaultObeys.{fault_obeys_in, fault_obeys_out}
 use Rattle.link_laws.proofs.Goes.{NextLinked}
 use Rattle.std.specs.Prelude.{nat_lt, max}
-use Rattle.bus_trace.specs.declared.agreements.TransferTimes.{TransferTimes}
-use Rattle.bus_trace.specs.Agreements.{times_of}
-use Rattle.bus_trace.specs.Terms.{when}
-use Rattle.bus_trace.proofs.Sets.{same_self}
-use Rattle.bus_phases.specs.Phases.{pulses, no_pulses, count_after}
-use Rattle.bus_lines.specs.declared.handshakes.Request.{Request}
-use Rattle.bus_lines.specs.Handshakes.{strikes, strikes_last, first_of, time_of, room_by}
-use Rattle.bus_lines.proofs.Early.{struck_length, struck_same}
-use Rattle.bus_reactions.specs.Target.{bits_if}
-use Rattle.bus_dialogue.specs.Ends.{lag_by}
+use Rattle.bus_due.specs.bus_trace.specs.declared.agreements.TransferTimes.{TransferTimes}
+use Rattle.bus_due.specs.bus_trace.specs.Agreements.{times_of}
+use Rattle.bus_due.specs.bus_trace.specs.Terms.{when}
+use Rattle.bus_due.specs.bus_trace.proofs.Sets.{same_self}
+use Rattle.bus_due.specs.bus_phases.specs.Phases.{pulses, no_pulses, count_after}
+use Rattle.bus_due.specs.bus_lines.specs.declared.handshakes.Request.{Request}
+use Rattle.bus_due.specs.bus_lines.specs.Handshakes.{strikes, strikes_last, first_of, time_of, room_by}
+use Rattle.bus_due.specs.bus_lines.proofs.Early.{struck_length, struck_same}
+use Rattle.bus_due.specs.bus_reactions.specs.Target.{bits_if}
+use Rattle.bus_due.specs.bus_dialogue.specs.Ends.{lag_by}
 use Rattle.bus_due.specs.Defs.{host_of}
 use Rattle.bus_due.specs.Own.{Own, own_of}
 use Rattle.bus_due.specs.Plain.{AreOfDevices}
@@ -53,7 +53,7 @@ use Rattle.link_laws.specs.Pulses.{times_here, offset_here, pulses_of, Reached, 
 use Rattle.link_laws.proofs.DataRows.{DataRow}
 use Rattle.link_laws.proofs.PulseRows.{target_next_is, initiator_next_is}
 use Rattle.link_laws.proofs.Enters.{no_fall}
-use Rattle.bus_base.proofs.Tests.{or_false, eq_self}
+use Rattle.bus_due.specs.bus_base.proofs.Tests.{or_false, eq_self}
 
 pub linked_fault : (p : List Row) (n : Connection) (e : EndLines) (t d bit : ℕ) → Linked p n e → Linked (row_of_fault t d bit ∷ p) n e
 linked_fault p n e t d bit h = record {

@@ -2,31 +2,31 @@
 use Rattle.std.proofs.Common.{◌⊎◌, inl, inr, ℕ, ◌≡◌, ◌≤◌, ◌<◌, ◌+◌, Bool, true, false, not, ◌&&◌, ◌||◌, ◌==◌, ◌∙◌, List, Some, refl, sym, ap, subst, arith}
 use Rattle.std.specs.Prelude.{if◌then◌else◌, max, nat_le, nat_lt}
 use Rattle.std.proofs.lemmas.Bool.Decides.{nat_tests}
-use Rattle.bus_trace.specs.LineSet.{LineSet, none, bit_value, parity_of}
+use Rattle.bus_due.specs.bus_trace.specs.LineSet.{LineSet, none, bit_value, parity_of}
 use lib.Count.{ones}
-use Rattle.bus_trace.specs.declared.Row.{Row}
-use Rattle.bus_trace.specs.declared.connection.Connection.{Connection}
-use Rattle.bus_trace.specs.Agreements.{times_of}
-use Rattle.bus_trace.specs.Changes.{implies}
-use Rattle.bus_trace.specs.Trace.{drives, last_time, line_times, phase_time}
-use Rattle.bus_phases.specs.declared.attention.Duty.{Duty}
-use Rattle.bus_phases.specs.declared.attention.Duty.TheVariants as duties
-use Rattle.bus_phases.specs.Phases.{duty}
-use Rattle.bus_phases.specs.Dialogue.{dialogue}
-use Rattle.bus_rules.specs.Messages.{is_owed}
-use Rattle.bus_lines.specs.Handshakes.{handshakes}
-use Rattle.scenario.specs.Value.{ScenarioValue}
-use Rattle.bus_story.specs.Samples.{latency_of}
-use Rattle.bus_reactions.specs.declared.due.Due.{Due}
-use Rattle.bus_reactions.specs.Reactions.{due_at}
-use Rattle.bus_reactions.specs.Target.{byte_bits, bits_if}
-use Rattle.bus_reactions.specs.Initiator.{attends_by}
-use Rattle.bus_dialogue.specs.Ends.{is_pulsed_phase}
+use Rattle.bus_due.specs.bus_trace.specs.declared.Row.{Row}
+use Rattle.bus_due.specs.bus_trace.specs.declared.connection.Connection.{Connection}
+use Rattle.bus_due.specs.bus_trace.specs.Agreements.{times_of}
+use Rattle.bus_due.specs.bus_trace.specs.Changes.{implies}
+use Rattle.bus_due.specs.bus_trace.specs.Trace.{drives, last_time, line_times, phase_time}
+use Rattle.bus_due.specs.bus_phases.specs.declared.attention.Duty.{Duty}
+use Rattle.bus_due.specs.bus_phases.specs.declared.attention.Duty.TheVariants as duties
+use Rattle.bus_due.specs.bus_phases.specs.Phases.{duty}
+use Rattle.bus_due.specs.bus_phases.specs.Dialogue.{dialogue}
+use Rattle.bus_due.specs.bus_rules.specs.Messages.{is_owed}
+use Rattle.bus_due.specs.bus_lines.specs.Handshakes.{handshakes}
+use Rattle.bus_due.specs.scenario.specs.Value.{ScenarioValue}
+use Rattle.bus_due.specs.bus_story.specs.Samples.{latency_of}
+use Rattle.bus_due.specs.bus_reactions.specs.declared.due.Due.{Due}
+use Rattle.bus_due.specs.bus_reactions.specs.Reactions.{due_at}
+use Rattle.bus_due.specs.bus_reactions.specs.Target.{byte_bits, bits_if}
+use Rattle.bus_due.specs.bus_reactions.specs.Initiator.{attends_by}
+use Rattle.bus_due.specs.bus_dialogue.specs.Ends.{is_pulsed_phase}
 use Rattle.bus_due.specs.Own.{own_of}
 use Rattle.bus_due.specs.Sights.{flip_of}
 use Rattle.bus_due.specs.RunSteps.{run_state}
-use Rattle.bus_dialogue.specs.Hearing.{begun}
-use Rattle.bus_trace.specs.declared.Kind.TheVariants.{Drives}
+use Rattle.bus_due.specs.bus_dialogue.specs.Hearing.{begun}
+use Rattle.bus_due.specs.bus_trace.specs.declared.Kind.TheVariants.{Drives}
 use Rattle.bus_due.specs.Least.{IsLeast}
 use Rattle.bus_laws.specs.Reactions.{own_time, unreset_due}
 use Rattle.bus_laws.specs.Rows.{row_of_lines}
@@ -49,10 +49,10 @@ use Rattle.link_laws.proofs.Enters.{opens, hands_over}
 use Rattle.link_laws.proofs.RunLengths.{HasShortRuns}
 use Rattle.link_laws.proofs.Asks.{hold_short, releases_byte, offers_byte, Asking, asks_in, asks_out}
 use Rattle.std.specs.Prelude.{length}
-use Rattle.bus_lines.specs.Handshakes.{no_handshakes, first_of, is_struck}
-use Rattle.bus_phases.specs.Phases.{pulses, no_pulses}
-use Rattle.bus_dialogue.specs.declared.exchange.Leaving.{Leaving}
-use Rattle.bus_dialogue.specs.NextPhase.{Serving, phase_of, phase_leaving}
+use Rattle.bus_due.specs.bus_lines.specs.Handshakes.{no_handshakes, first_of, is_struck}
+use Rattle.bus_due.specs.bus_phases.specs.Phases.{pulses, no_pulses}
+use Rattle.bus_due.specs.bus_dialogue.specs.declared.exchange.Leaving.{Leaving}
+use Rattle.bus_due.specs.bus_dialogue.specs.NextPhase.{Serving, phase_of, phase_leaving}
 use Rattle.bus_due.specs.Sights.{serving_at}
 use Rattle.link_laws.specs.Pulses.{times_here, offset_here, run_count, next_bits}
 use Rattle.link_laws.proofs.Leaves.{data_out_to_initiator}
@@ -65,7 +65,7 @@ use Rattle.link_laws.proofs.PulseEnds.{pulsed_leaves_in, pulsed_leaves_out}
 use Rattle.link_laws.proofs.PhaseEnds.{leaves_lines, AfterLink, goes_on, unasked, leaves_phase}
 use Rattle.std.proofs.lemmas.Bool.{eqb-true, le-leb}
 use Rattle.std.proofs.lemmas.Option.{none-some}
-use Rattle.bus_base.proofs.Tests.{and_false, zero_of, implication_parts}
+use Rattle.bus_due.specs.bus_base.proofs.Tests.{and_false, zero_of, implication_parts}
 
 -- What the next row is due to be, of the lines of one device.
 reacts : (s : ScenarioValue) (p : List Row) (n : Connection) (row : Row) (d time : ℕ) (l : LineSet) → row.dev ≡ d → due_at time l ≡ Some (due_of row) → KeepsBooksIn p row → (row.time ≡ time → KeepsBooksIn p (row_of_lines row.time d l) → AfterLink s p (row_of_lines row.time d l) n) → AfterLink s p row n

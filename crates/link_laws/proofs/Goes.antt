@@ -2,20 +2,20 @@
 use Rattle.std.proofs.Common.{ℕ, ◌≡◌, ◌≤◌, Bool, true, false, not, ◌&&◌, ◌||◌, ◌==◌, ◌∙◌, List, ◌∷◌, Option, Some, None, refl, sym, ap, arith}
 use Rattle.std.specs.Prelude.{if◌then◌else◌, nat_le, nat_lt}
 use Rattle.std.proofs.lemmas.Bool.Decides.{nat_tests}
-use Rattle.bus_trace.specs.LineSet.{data_of}
-use Rattle.bus_trace.specs.declared.Row.{Row}
-use Rattle.bus_trace.specs.declared.connection.Connection.{Connection}
-use Rattle.bus_trace.specs.declared.agreements.Agreement.{Agreement}
-use Rattle.bus_trace.specs.Trace.{last_time, since}
-use Rattle.bus_trace.specs.Changes.{rises, falls, implies}
-use Rattle.bus_trace.proofs.Ages.{since_le}
-use Rattle.bus_phases.specs.declared.attention.Duty.{Duty}
-use Rattle.bus_phases.specs.Phases.{duty}
-use Rattle.bus_phases.specs.Dialogue.{dialogue}
-use Rattle.bus_rules.specs.Order.{is_of_device}
-use Rattle.bus_rules.specs.Rules.{broken_rule}
-use Rattle.bus_dialogue.specs.Ends.{is_pulsed_phase}
-use Rattle.scenario.specs.Value.{ScenarioValue}
+use Rattle.bus_due.specs.bus_trace.specs.LineSet.{data_of}
+use Rattle.bus_due.specs.bus_trace.specs.declared.Row.{Row}
+use Rattle.bus_due.specs.bus_trace.specs.declared.connection.Connection.{Connection}
+use Rattle.bus_due.specs.bus_trace.specs.declared.agreements.Agreement.{Agreement}
+use Rattle.bus_due.specs.bus_trace.specs.Trace.{last_time, since}
+use Rattle.bus_due.specs.bus_trace.specs.Changes.{rises, falls, implies}
+use Rattle.bus_due.specs.bus_trace.proofs.Ages.{since_le}
+use Rattle.bus_due.specs.bus_phases.specs.declared.attention.Duty.{Duty}
+use Rattle.bus_due.specs.bus_phases.specs.Phases.{duty}
+use Rattle.bus_due.specs.bus_phases.specs.Dialogue.{dialogue}
+use Rattle.bus_due.specs.bus_rules.specs.Order.{is_of_device}
+use Rattle.bus_due.specs.bus_rules.specs.Rules.{broken_rule}
+use Rattle.bus_due.specs.bus_dialogue.specs.Ends.{is_pulsed_phase}
+use Rattle.bus_due.specs.scenario.specs.Value.{ScenarioValue}
 use Rattle.bus_laws.specs.Stages.{CalmStanding}
 use Rattle.bus_laws.specs.Ends.{EndLines, connected_bus}
 use Rattle.link_laws.specs.Phases.{ends, fits_duty, InPhase, HasTurned}

@@ -1,27 +1,27 @@
 -- Whereto the target leaves a phase: to another one; to MESSAGE OUT where ATN is true after bytes to the initiator.
 use Rattle.std.proofs.Common.{ℕ, ◌≡◌, Bool, true, false, not, ◌&&◌, Option, Some, None, refl}
 use Rattle.std.specs.Prelude.{◌+◌, if◌then◌else◌, is_some, nat_lt}
-use Rattle.bus_trace.specs.Changes.{implies}
-use Rattle.bus_trace.specs.declared.agreements.Agreement.{Agreement}
-use Rattle.bus_trace.specs.Phases.{is_message_out}
-use Rattle.msg_grammar.specs.declared.message.MsgIn.{MsgIn}
-use Rattle.scenario.specs.declared.value.TargetDef.{TargetDef}
-use Rattle.scenario.specs.declared.value.Policy.{Policy}
-use Rattle.bus_dialogue.specs.declared.exchange.Arrival.{Arrival}
-use Rattle.bus_dialogue.specs.declared.exchange.Arrival.TheVariants as arrivals
-use Rattle.bus_dialogue.specs.declared.exchange.Cause.{Cause}
-use Rattle.bus_dialogue.specs.declared.exchange.Cause.TheVariants as causes
-use Rattle.bus_dialogue.specs.declared.exchange.Leaving.{Leaving}
-use Rattle.bus_dialogue.specs.declared.exchange.Next.{Next}
-use Rattle.bus_dialogue.specs.declared.exchange.Next.TheVariants as nexts
-use Rattle.bus_dialogue.specs.declared.exchange.Phase.{Phase}
-use Rattle.bus_dialogue.specs.declared.exchange.Phase.TheVariants as phases
-use Rattle.bus_dialogue.specs.declared.exchange.Plan.{Plan}
-use Rattle.bus_dialogue.specs.declared.exchange.Task.{Task}
-use Rattle.bus_dialogue.specs.Words.{request_by, is_naming}
-use Rattle.bus_dialogue.specs.NextPhase.{Serving, phase_lines, bus_free, phase_entry, recovery, recovery_limit, pointer_restoration, next_data_phase, request_or_command, after_offer, after_opening, message_repetition, after_refusal, message_out_leaving, after_messages, disconnection, disconnect_messages, after_arrival, command_leaving, after_run, data_in_leaving, data_out_leaving, phase_leaving, with_task}
-use Rattle.bus_dialogue.specs.DataRuns.{runs_in_all}
-use Rattle.bus_dialogue.specs.Arrivals.{policy_of}
+use Rattle.bus_due.specs.bus_trace.specs.Changes.{implies}
+use Rattle.bus_due.specs.bus_trace.specs.declared.agreements.Agreement.{Agreement}
+use Rattle.bus_due.specs.bus_trace.specs.Phases.{is_message_out}
+use Rattle.bus_due.specs.msg_grammar.specs.declared.message.MsgIn.{MsgIn}
+use Rattle.bus_due.specs.scenario.specs.declared.value.TargetDef.{TargetDef}
+use Rattle.bus_due.specs.scenario.specs.declared.value.Policy.{Policy}
+use Rattle.bus_due.specs.bus_dialogue.specs.declared.exchange.Arrival.{Arrival}
+use Rattle.bus_due.specs.bus_dialogue.specs.declared.exchange.Arrival.TheVariants as arrivals
+use Rattle.bus_due.specs.bus_dialogue.specs.declared.exchange.Cause.{Cause}
+use Rattle.bus_due.specs.bus_dialogue.specs.declared.exchange.Cause.TheVariants as causes
+use Rattle.bus_due.specs.bus_dialogue.specs.declared.exchange.Leaving.{Leaving}
+use Rattle.bus_due.specs.bus_dialogue.specs.declared.exchange.Next.{Next}
+use Rattle.bus_due.specs.bus_dialogue.specs.declared.exchange.Next.TheVariants as nexts
+use Rattle.bus_due.specs.bus_dialogue.specs.declared.exchange.Phase.{Phase}
+use Rattle.bus_due.specs.bus_dialogue.specs.declared.exchange.Phase.TheVariants as phases
+use Rattle.bus_due.specs.bus_dialogue.specs.declared.exchange.Plan.{Plan}
+use Rattle.bus_due.specs.bus_dialogue.specs.declared.exchange.Task.{Task}
+use Rattle.bus_due.specs.bus_dialogue.specs.Words.{request_by, is_naming}
+use Rattle.bus_due.specs.bus_dialogue.specs.NextPhase.{Serving, phase_lines, bus_free, phase_entry, recovery, recovery_limit, pointer_restoration, next_data_phase, request_or_command, after_offer, after_opening, message_repetition, after_refusal, message_out_leaving, after_messages, disconnection, disconnect_messages, after_arrival, command_leaving, after_run, data_in_leaving, data_out_leaving, phase_leaving, with_task}
+use Rattle.bus_due.specs.bus_dialogue.specs.DataRuns.{runs_in_all}
+use Rattle.bus_due.specs.bus_dialogue.specs.Arrivals.{policy_of}
 use Rattle.link_laws.proofs.LinkObeys.{same_phases}
 
 -- The target leaves the phase of these lines to BUS FREE, or to this one.

@@ -3,19 +3,19 @@ use Rattle.std.proofs.Common.{ℕ, ◌≡◌, ◌≢◌, ◌≤◌, ◌+◌, Boo
 use Rattle.std.specs.Prelude.{◌==◌, ◌&&◌, nat_le}
 use Rattle.std.specs.Int.Bits.{or_zero_r, or_self}
 use Rattle.std.proofs.lemmas.Bool.Decides.{nat_tests}
-use Rattle.bus_trace.specs.LineSet.{same}
-use Rattle.bus_trace.specs.Trace.{phase_time}
-use Rattle.bus_trace.specs.Changes.{implies}
-use Rattle.bus_trace.specs.declared.connection.Connection.{Connection}
-use Rattle.bus_rules.specs.Messages.{is_owed}
-use Rattle.bus_dialogue.specs.Ends.{is_pulsed_phase}
+use Rattle.bus_due.specs.bus_trace.specs.LineSet.{same}
+use Rattle.bus_due.specs.bus_trace.specs.Trace.{phase_time}
+use Rattle.bus_due.specs.bus_trace.specs.Changes.{implies}
+use Rattle.bus_due.specs.bus_trace.specs.declared.connection.Connection.{Connection}
+use Rattle.bus_due.specs.bus_rules.specs.Messages.{is_owed}
+use Rattle.bus_due.specs.bus_dialogue.specs.Ends.{is_pulsed_phase}
 use Rattle.bus_laws.specs.Rows.{change_to, row_of_lines}
 use Rattle.bus_laws.specs.Ends.{EndLines, initiator_side, target_side, connected_bus}
 use Rattle.link_laws.specs.Phases.{ends}
 use Rattle.link_laws.proofs.LinkSeen.{Around, seen_linked, wire_broken}
-use Rattle.bus_phases.specs.Phases.{no_pulses}
+use Rattle.bus_due.specs.bus_phases.specs.Phases.{no_pulses}
 use Rattle.std.proofs.lemmas.Bool.{ne_eqb, true≢false}
-use Rattle.bus_base.proofs.Tests.{eq_self}
+use Rattle.bus_due.specs.bus_base.proofs.Tests.{eq_self}
 
 -- What a row of the target, or of the initiator, from these lines to those meets, and whether it obeys the rules by the wires.
 abbrev pub target_breaks : Around → Connection → EndLines → EndLines → ℕ → Option ℕ

@@ -1,28 +1,28 @@
 -- A row of one end of a connection: what it leaves on the bus, and of the terms of the rules.
 use Rattle.std.proofs.Common.{ℕ, ◌≡◌, ◌≢◌, ◌<◌, ◌%◌, Bool, true, false, not, ◌&&◌, ◌||◌, List, ◌∷◌, ◌∙◌, refl, sym, ap, Some, None}
 use Rattle.std.specs.Prelude.{◌+◌, if◌then◌else◌, max, is_some, nat_le}
-use Rattle.bus_trace.specs.LineSet.{LineSet, none, union, data_of}
-use Rattle.bus_trace.specs.declared.Row.{Row}
-use Rattle.bus_trace.specs.declared.line_times.LineTimes.{LineTimes}
-use Rattle.bus_trace.specs.declared.connection.Connection.{Connection}
-use Rattle.bus_trace.specs.declared.changes.Change.{Change}
-use Rattle.bus_trace.specs.Changes.{change_of, rises, falls}
-use Rattle.bus_trace.specs.Phases.{changes_phase}
-use Rattle.bus_trace.specs.Terms.{connection, is_fault, receiver, receiver_in, receiver_of, when}
-use Rattle.bus_trace.specs.Trace.{drives, bus, since, newer, newer_line, line_times, times_after, phase_time}
-use Rattle.bus_trace.proofs.Buses.{bus_two}
-use Rattle.bus_trace.proofs.Sets.{same_self}
-use Rattle.bus_phases.specs.declared.attention.Duty.TheVariants as duties
-use Rattle.bus_phases.specs.declared.dialogue.Dialogue.{Dialogue}
-use Rattle.bus_phases.specs.Phases.{pulses, pulses_after, pulses_on, no_pulses, count_after, duty, duty_after, duty_if_held, duty_left, turned, turned_after, is_attention_held}
-use Rattle.bus_phases.specs.Dialogue.{dialogue, dialogue_after, dialogue_on, agreed, byte_out, byte_in, byte_crosses, phase_begins, heard_with_command}
-use Rattle.bus_lines.specs.Handshakes.{handshakes, handshakes_after, no_handshakes, answered_if, asked_if}
-use Rattle.bus_dialogue.specs.Hearing.{begun, begun_after}
+use Rattle.bus_due.specs.bus_trace.specs.LineSet.{LineSet, none, union, data_of}
+use Rattle.bus_due.specs.bus_trace.specs.declared.Row.{Row}
+use Rattle.bus_due.specs.bus_trace.specs.declared.line_times.LineTimes.{LineTimes}
+use Rattle.bus_due.specs.bus_trace.specs.declared.connection.Connection.{Connection}
+use Rattle.bus_due.specs.bus_trace.specs.declared.changes.Change.{Change}
+use Rattle.bus_due.specs.bus_trace.specs.Changes.{change_of, rises, falls}
+use Rattle.bus_due.specs.bus_trace.specs.Phases.{changes_phase}
+use Rattle.bus_due.specs.bus_trace.specs.Terms.{connection, is_fault, receiver, receiver_in, receiver_of, when}
+use Rattle.bus_due.specs.bus_trace.specs.Trace.{drives, bus, since, newer, newer_line, line_times, times_after, phase_time}
+use Rattle.bus_due.specs.bus_trace.proofs.Buses.{bus_two}
+use Rattle.bus_due.specs.bus_trace.proofs.Sets.{same_self}
+use Rattle.bus_due.specs.bus_phases.specs.declared.attention.Duty.TheVariants as duties
+use Rattle.bus_due.specs.bus_phases.specs.declared.dialogue.Dialogue.{Dialogue}
+use Rattle.bus_due.specs.bus_phases.specs.Phases.{pulses, pulses_after, pulses_on, no_pulses, count_after, duty, duty_after, duty_if_held, duty_left, turned, turned_after, is_attention_held}
+use Rattle.bus_due.specs.bus_phases.specs.Dialogue.{dialogue, dialogue_after, dialogue_on, agreed, byte_out, byte_in, byte_crosses, phase_begins, heard_with_command}
+use Rattle.bus_due.specs.bus_lines.specs.Handshakes.{handshakes, handshakes_after, no_handshakes, answered_if, asked_if}
+use Rattle.bus_due.specs.bus_dialogue.specs.Hearing.{begun, begun_after}
 use Rattle.bus_laws.specs.Rows.{change_to, row_of_lines}
 use Rattle.bus_laws.specs.Ends.{EndLines, initiator_side, target_side, connected_bus, Linked}
 use Rattle.bus_laws.proofs.Rows.{change_is, stands_after, drives_own, drives_other}
 use Rattle.link_laws.specs.Phases.{ends}
-use Rattle.bus_base.proofs.Tests.{or_true, or_false}
+use Rattle.bus_due.specs.bus_base.proofs.Tests.{or_true, or_false}
 
 pub both_sides : (e : EndLines) → union (initiator_side e) (target_side e) ≡ connected_bus e
 both_sides e = λ i. record (connected_bus e) { bsy = or_true e.bsy i; ack = or_false e.ack i; atn = or_false e.atn i }

@@ -1,31 +1,31 @@
 -- The rows with which the target leaves a phase: to another one, or the bus (6.1.1, 6.1.5.1, 6.1.10).
 use Rattle.std.proofs.Common.{inl, inr, ℕ, ◌≡◌, ◌≤◌, ◌<◌, ◌+◌, Bool, true, false, not, ◌&&◌, ◌||◌, ◌==◌, ◌∙◌, List, ◌∷◌, Option, Some, None, refl, sym, ap, subst, arith}
 use Rattle.std.specs.Prelude.{if◌then◌else◌, nat_lt, length}
-use Rattle.bus_dialogue.specs.Exchange.{bytes_of_messages}
+use Rattle.bus_due.specs.bus_dialogue.specs.Exchange.{bytes_of_messages}
 use Rattle.std.proofs.lemmas.Bool.{cases_eq, and_parts, not-true}
-use Rattle.bus_trace.specs.LineSet.{LineSet, none}
-use Rattle.bus_trace.specs.declared.Row.{Row}
-use Rattle.bus_trace.specs.declared.connection.Connection.{Connection}
-use Rattle.bus_trace.specs.declared.changes.Change.{Change}
-use Rattle.bus_trace.specs.Changes.{change_of, implies}
-use Rattle.bus_trace.specs.Terms.{connection_after, free_since, connection}
-use Rattle.bus_trace.specs.Trace.{bus, drives, last_time, line_times, since_line}
-use Rattle.bus_trace.proofs.Buses.{bus_none}
-use Rattle.bus_phases.specs.Phases.{turned}
-use Rattle.bus_rules.specs.Rules.{broken_rule}
-use Rattle.bus_lines.specs.declared.stage.Stage.TheVariants.{OnFreeBus}
-use Rattle.bus_lines.specs.Stage.{stage}
-use Rattle.bus_lines.specs.Handshakes.{handshakes}
-use Rattle.scenario.specs.Value.{ScenarioValue}
-use Rattle.bus_story.specs.BusState.{row_reading}
-use Rattle.bus_story.specs.TraceHistory.{story_on_bus}
-use Rattle.bus_story.specs.HistoryEvents.{row_events_by}
-use Rattle.bus_dialogue.specs.declared.exchange.Leaving.{Leaving}
-use Rattle.bus_dialogue.specs.declared.exchange.Phase.{Phase}
-use Rattle.bus_dialogue.specs.declared.exchange.Phase.TheVariants as phases
-use Rattle.bus_dialogue.specs.NextPhase.{Serving, phase_of, phase_leaving}
-use Rattle.bus_dialogue.specs.PhaseBytes.{lines_by, follows_in, run_length_if}
-use Rattle.bus_dialogue.specs.Arrivals.{policy_of}
+use Rattle.bus_due.specs.bus_trace.specs.LineSet.{LineSet, none}
+use Rattle.bus_due.specs.bus_trace.specs.declared.Row.{Row}
+use Rattle.bus_due.specs.bus_trace.specs.declared.connection.Connection.{Connection}
+use Rattle.bus_due.specs.bus_trace.specs.declared.changes.Change.{Change}
+use Rattle.bus_due.specs.bus_trace.specs.Changes.{change_of, implies}
+use Rattle.bus_due.specs.bus_trace.specs.Terms.{connection_after, free_since, connection}
+use Rattle.bus_due.specs.bus_trace.specs.Trace.{bus, drives, last_time, line_times, since_line}
+use Rattle.bus_due.specs.bus_trace.proofs.Buses.{bus_none}
+use Rattle.bus_due.specs.bus_phases.specs.Phases.{turned}
+use Rattle.bus_due.specs.bus_rules.specs.Rules.{broken_rule}
+use Rattle.bus_due.specs.bus_lines.specs.declared.stage.Stage.TheVariants.{OnFreeBus}
+use Rattle.bus_due.specs.bus_lines.specs.Stage.{stage}
+use Rattle.bus_due.specs.bus_lines.specs.Handshakes.{handshakes}
+use Rattle.bus_due.specs.scenario.specs.Value.{ScenarioValue}
+use Rattle.bus_due.specs.bus_story.specs.BusState.{row_reading}
+use Rattle.bus_due.specs.bus_story.specs.TraceHistory.{story_on_bus}
+use Rattle.bus_due.specs.bus_story.specs.HistoryEvents.{row_events_by}
+use Rattle.bus_due.specs.bus_dialogue.specs.declared.exchange.Leaving.{Leaving}
+use Rattle.bus_due.specs.bus_dialogue.specs.declared.exchange.Phase.{Phase}
+use Rattle.bus_due.specs.bus_dialogue.specs.declared.exchange.Phase.TheVariants as phases
+use Rattle.bus_due.specs.bus_dialogue.specs.NextPhase.{Serving, phase_of, phase_leaving}
+use Rattle.bus_due.specs.bus_dialogue.specs.PhaseBytes.{lines_by, follows_in, run_length_if}
+use Rattle.bus_due.specs.bus_dialogue.specs.Arrivals.{policy_of}
 use Rattle.bus_due.specs.RunSteps.{run_state}
 use Rattle.bus_due.specs.Sights.{serving_at}
 use Rattle.bus_due.specs.Wants.{want_time}
@@ -50,7 +50,7 @@ use Rattle.link_laws.proofs.Goes.{NextLinked, turn_test}
 use Rattle.link_laws.proofs.Leaves.{may_leave, leaves_well}
 use Rattle.link_laws.proofs.Shakes.{target_row}
 use Rattle.link_laws.proofs.Enters.{settles_in, settles_out, turns_in}
-use Rattle.bus_story.proofs.StorySteps.{events_link}
+use Rattle.bus_due.specs.bus_story.proofs.StorySteps.{events_link}
 
 -- What a row does with which the connection ends.
 pub record NextFree (s : ScenarioValue) (p : List Row) (row : Row) : Type 0 where

@@ -1,23 +1,23 @@
 -- What is due of the two ends of a data phase by pulses (6.1.5.2).
 use Rattle.std.proofs.Common.{ℕ, ◌≡◌, ◌+◌, Bool, true, false, not, ◌&&◌, ◌||◌, ◌==◌, ◌∙◌, List, Option, None, sym, ap}
 use Rattle.std.specs.Prelude.{if◌then◌else◌, max, length, nat_lt}
-use Rattle.bus_trace.specs.declared.Row.{Row}
-use Rattle.bus_trace.specs.declared.connection.Connection.{Connection}
-use Rattle.bus_trace.specs.Trace.{line_times}
-use Rattle.bus_lines.specs.Handshakes.{Handshakes, handshakes, first_of, time_of, is_struck, room_by}
-use Rattle.scenario.specs.Value.{ScenarioValue}
-use Rattle.bus_reactions.specs.declared.due.Due.{Due}
-use Rattle.bus_reactions.specs.declared.due.Myself.{Myself}
-use Rattle.bus_reactions.specs.declared.sight.Sight.{Sight}
-use Rattle.bus_reactions.specs.declared.ends.Pace.{Pace}
-use Rattle.bus_reactions.specs.declared.ends.Offering.{Offering}
-use Rattle.bus_reactions.specs.declared.ends.Answering.{Answering}
-use Rattle.bus_reactions.specs.Reactions.{due_at}
-use Rattle.bus_reactions.specs.Target.{first_req, target_pulse, target_handshake, req_pulse_end, byte_change, pulse_turn, byte_bits, bits_if}
-use Rattle.bus_reactions.specs.Initiator.{initiator_pulse, initiator_handshake, byte_release}
-use Rattle.bus_reactions.specs.Ends.{owes_release}
-use Rattle.bus_dialogue.specs.NextPhase.{phase_of}
-use Rattle.bus_dialogue.specs.Ends.{offering_by, lag_by}
+use Rattle.bus_due.specs.bus_trace.specs.declared.Row.{Row}
+use Rattle.bus_due.specs.bus_trace.specs.declared.connection.Connection.{Connection}
+use Rattle.bus_due.specs.bus_trace.specs.Trace.{line_times}
+use Rattle.bus_due.specs.bus_lines.specs.Handshakes.{Handshakes, handshakes, first_of, time_of, is_struck, room_by}
+use Rattle.bus_due.specs.scenario.specs.Value.{ScenarioValue}
+use Rattle.bus_due.specs.bus_reactions.specs.declared.due.Due.{Due}
+use Rattle.bus_due.specs.bus_reactions.specs.declared.due.Myself.{Myself}
+use Rattle.bus_due.specs.bus_reactions.specs.declared.sight.Sight.{Sight}
+use Rattle.bus_due.specs.bus_reactions.specs.declared.ends.Pace.{Pace}
+use Rattle.bus_due.specs.bus_reactions.specs.declared.ends.Offering.{Offering}
+use Rattle.bus_due.specs.bus_reactions.specs.declared.ends.Answering.{Answering}
+use Rattle.bus_due.specs.bus_reactions.specs.Reactions.{due_at}
+use Rattle.bus_due.specs.bus_reactions.specs.Target.{first_req, target_pulse, target_handshake, req_pulse_end, byte_change, pulse_turn, byte_bits, bits_if}
+use Rattle.bus_due.specs.bus_reactions.specs.Initiator.{initiator_pulse, initiator_handshake, byte_release}
+use Rattle.bus_due.specs.bus_reactions.specs.Ends.{owes_release}
+use Rattle.bus_due.specs.bus_dialogue.specs.NextPhase.{phase_of}
+use Rattle.bus_due.specs.bus_dialogue.specs.Ends.{offering_by, lag_by}
 use Rattle.bus_due.specs.Defs.{host_of}
 use Rattle.bus_due.specs.Own.{own_of}
 use Rattle.bus_due.specs.RunSteps.{run_state}

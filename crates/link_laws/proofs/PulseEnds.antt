@@ -3,35 +3,35 @@ use Rattle.std.proofs.Common.{ℕ, ◌≡◌, ◌≤◌, ◌+◌, Bool, true, fa
 use Rattle.std.specs.Prelude.{if◌then◌else◌, is_some, max}
 use Rattle.std.proofs.lemmas.Bool.{and_parts, le-leb, eq-eqb}
 use Rattle.std.proofs.lemmas.Bool.Decides.{nat_tests}
-use Rattle.bus_trace.specs.LineSet.{LineSet, none, union}
-use Rattle.bus_trace.specs.declared.Row.{Row}
-use Rattle.bus_trace.specs.declared.agreements.Agreement.{Agreement}
-use Rattle.bus_trace.specs.declared.connection.Connection.{Connection}
-use Rattle.bus_trace.specs.declared.changes.Change.{Change}
-use Rattle.bus_trace.specs.Agreements.{times_of}
-use Rattle.bus_trace.specs.Changes.{falls, implies}
-use Rattle.bus_trace.specs.Phases.{changes_phase, is_data}
-use Rattle.bus_trace.specs.Trace.{bus, drives, last_time, line_times}
-use Rattle.bus_phases.specs.declared.dialogue.Dialogue.{Dialogue}
-use Rattle.bus_phases.specs.declared.pulses.Pulses.{Pulses}
-use Rattle.bus_phases.specs.Phases.{pulses, turned}
-use Rattle.bus_phases.specs.Dialogue.{dialogue, phase_begins}
-use Rattle.bus_rules.specs.Transfer.{is_after}
-use Rattle.bus_lines.specs.Handshakes.{handshakes}
-use Rattle.scenario.specs.Value.{ScenarioValue}
-use Rattle.bus_dialogue.specs.declared.exchange.Leaving.{Leaving}
-use Rattle.bus_dialogue.specs.declared.exchange.Phase.{Phase}
-use Rattle.bus_dialogue.specs.declared.exchange.Phase.TheVariants as phases
-use Rattle.bus_dialogue.specs.NextPhase.{Serving}
-use Rattle.bus_dialogue.specs.PhaseBytes.{lines_by}
-use Rattle.bus_dialogue.specs.Ends.{lag_by}
+use Rattle.bus_due.specs.bus_trace.specs.LineSet.{LineSet, none, union}
+use Rattle.bus_due.specs.bus_trace.specs.declared.Row.{Row}
+use Rattle.bus_due.specs.bus_trace.specs.declared.agreements.Agreement.{Agreement}
+use Rattle.bus_due.specs.bus_trace.specs.declared.connection.Connection.{Connection}
+use Rattle.bus_due.specs.bus_trace.specs.declared.changes.Change.{Change}
+use Rattle.bus_due.specs.bus_trace.specs.Agreements.{times_of}
+use Rattle.bus_due.specs.bus_trace.specs.Changes.{falls, implies}
+use Rattle.bus_due.specs.bus_trace.specs.Phases.{changes_phase, is_data}
+use Rattle.bus_due.specs.bus_trace.specs.Trace.{bus, drives, last_time, line_times}
+use Rattle.bus_due.specs.bus_phases.specs.declared.dialogue.Dialogue.{Dialogue}
+use Rattle.bus_due.specs.bus_phases.specs.declared.pulses.Pulses.{Pulses}
+use Rattle.bus_due.specs.bus_phases.specs.Phases.{pulses, turned}
+use Rattle.bus_due.specs.bus_phases.specs.Dialogue.{dialogue, phase_begins}
+use Rattle.bus_due.specs.bus_rules.specs.Transfer.{is_after}
+use Rattle.bus_due.specs.bus_lines.specs.Handshakes.{handshakes}
+use Rattle.bus_due.specs.scenario.specs.Value.{ScenarioValue}
+use Rattle.bus_due.specs.bus_dialogue.specs.declared.exchange.Leaving.{Leaving}
+use Rattle.bus_due.specs.bus_dialogue.specs.declared.exchange.Phase.{Phase}
+use Rattle.bus_due.specs.bus_dialogue.specs.declared.exchange.Phase.TheVariants as phases
+use Rattle.bus_due.specs.bus_dialogue.specs.NextPhase.{Serving}
+use Rattle.bus_due.specs.bus_dialogue.specs.PhaseBytes.{lines_by}
+use Rattle.bus_due.specs.bus_dialogue.specs.Ends.{lag_by}
 use Rattle.bus_due.specs.Defs.{host_of}
 use Rattle.bus_due.specs.Own.{own_of}
 use Rattle.bus_laws.specs.Rows.{row_of_lines, change_to}
 use Rattle.bus_laws.specs.Stages.{CalmStanding}
 use Rattle.bus_laws.specs.Ends.{EndLines, initiator_side, target_side, connected_bus, Linked}
 use Rattle.bus_laws.proofs.Rows.{drives_own, drives_other}
-use Rattle.bus_trace.proofs.Buses.{bus_two}
+use Rattle.bus_due.specs.bus_trace.proofs.Buses.{bus_two}
 use Rattle.link_laws.specs.Books.{is_row_of_connection, KeepsBooksIn}
 use Rattle.link_laws.specs.Phases.{ends}
 use Rattle.link_laws.specs.LinkStages.{when_settling, when_turning}
@@ -47,7 +47,7 @@ use Rattle.link_laws.proofs.PhaseEnds.{freeing_change}
 use Rattle.link_laws.proofs.PulseObeys.{pulsed_goes_on_in, pulsed_turns_out, pulsed_turns_in}
 use Rattle.link_laws.proofs.PulseSteps.{of_no_sooner}
 use Rattle.link_laws.proofs.PulseRows.{PulseHere, later_initiator_out, own_ack_other}
-use Rattle.bus_base.proofs.Tests.{eq_self, zero_of}
+use Rattle.bus_due.specs.bus_base.proofs.Tests.{eq_self, zero_of}
 
 some_of : (a b : ℕ) → a ≡ b → (a == 0) ≡ false → (b == 0) ≡ false
 some_of a b e f = grind (arith, nat_tests)

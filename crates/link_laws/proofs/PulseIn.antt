@@ -2,27 +2,27 @@
 use Rattle.std.proofs.Common.{◌⊎◌, inl, inr, ℕ, ◌≡◌, ◌≤◌, ◌<◌, ◌+◌, Bool, true, false, not, ◌&&◌, ◌||◌, ◌==◌, ◌∙◌, List, ◌∷◌, length, drop, Some, None, refl, sym, ap, subst, arith}
 use Rattle.std.specs.Prelude.{if◌then◌else◌, max, nat_le, nat_lt, is_some}
 use Rattle.std.proofs.lemmas.Bool.Decides.{nat_tests}
-use Rattle.bus_base.specs.Faults.{counted_on}
-use Rattle.bus_trace.specs.declared.Row.{Row}
-use Rattle.bus_trace.specs.declared.agreements.Agreement.{Agreement}
-use Rattle.bus_trace.specs.declared.agreements.TransferTimes.{TransferTimes}
-use Rattle.bus_trace.specs.declared.connection.Connection.{Connection}
-use Rattle.bus_trace.specs.declared.changes.Change.{Change}
-use Rattle.bus_trace.specs.Agreements.{times_of}
-use Rattle.bus_trace.specs.Changes.{implies}
-use Rattle.bus_trace.specs.Terms.{receiver}
-use Rattle.bus_trace.specs.Trace.{last_time, line_times}
-use Rattle.bus_phases.specs.declared.pulses.Pulses.{Pulses}
-use Rattle.bus_phases.specs.Phases.{pulses, count_after, duty, turned}
-use Rattle.bus_trace.specs.Terms.{when}
-use Rattle.bus_rules.specs.Messages.{is_owed}
-use Rattle.bus_rules.specs.Transfer.{is_after}
-use Rattle.bus_lines.specs.declared.handshakes.Request.{Request}
-use Rattle.bus_lines.specs.Handshakes.{Handshakes, handshakes, asked, answered, answered_if, asked_if, opened, first_of, time_of, room_by}
-use Rattle.bus_lines.proofs.Early.{push_length}
-use Rattle.scenario.specs.Value.{ScenarioValue}
-use Rattle.bus_story.specs.Samples.{latency_of}
-use Rattle.bus_dialogue.specs.Ends.{lag_by}
+use Rattle.bus_due.specs.bus_base.specs.Faults.{counted_on}
+use Rattle.bus_due.specs.bus_trace.specs.declared.Row.{Row}
+use Rattle.bus_due.specs.bus_trace.specs.declared.agreements.Agreement.{Agreement}
+use Rattle.bus_due.specs.bus_trace.specs.declared.agreements.TransferTimes.{TransferTimes}
+use Rattle.bus_due.specs.bus_trace.specs.declared.connection.Connection.{Connection}
+use Rattle.bus_due.specs.bus_trace.specs.declared.changes.Change.{Change}
+use Rattle.bus_due.specs.bus_trace.specs.Agreements.{times_of}
+use Rattle.bus_due.specs.bus_trace.specs.Changes.{implies}
+use Rattle.bus_due.specs.bus_trace.specs.Terms.{receiver}
+use Rattle.bus_due.specs.bus_trace.specs.Trace.{last_time, line_times}
+use Rattle.bus_due.specs.bus_phases.specs.declared.pulses.Pulses.{Pulses}
+use Rattle.bus_due.specs.bus_phases.specs.Phases.{pulses, count_after, duty, turned}
+use Rattle.bus_due.specs.bus_trace.specs.Terms.{when}
+use Rattle.bus_due.specs.bus_rules.specs.Messages.{is_owed}
+use Rattle.bus_due.specs.bus_rules.specs.Transfer.{is_after}
+use Rattle.bus_due.specs.bus_lines.specs.declared.handshakes.Request.{Request}
+use Rattle.bus_due.specs.bus_lines.specs.Handshakes.{Handshakes, handshakes, asked, answered, answered_if, asked_if, opened, first_of, time_of, room_by}
+use Rattle.bus_due.specs.bus_lines.proofs.Early.{push_length}
+use Rattle.bus_due.specs.scenario.specs.Value.{ScenarioValue}
+use Rattle.bus_due.specs.bus_story.specs.Samples.{latency_of}
+use Rattle.bus_due.specs.bus_dialogue.specs.Ends.{lag_by}
 use Rattle.bus_due.specs.Defs.{host_of}
 use Rattle.bus_due.specs.Own.{own_of}
 use Rattle.bus_laws.specs.Rows.{change_to}
@@ -37,7 +37,7 @@ use Rattle.link_laws.proofs.PulseObeys.{byte_change_obeys, req_pulse_in, MayAnsw
 use Rattle.link_laws.proofs.PulseRows.{NextPulsing, PulseHere, later_target_in, later_initiator_in, data_row, target_next_is, initiator_next_is, own_ack_other, own_ack_own, pulsing_goes, fresh_next, same_latency, data_stands, room_same, room_now}
 use Rattle.link_laws.proofs.PulseSteps.{more_asked, req_rises_facts, ack_rises_facts, ack_falls_facts, still_facts, opened_is, first_stays, first_new, one_less, target_after, none_no_sooner, some_no_sooner, of_no_sooner}
 use Rattle.std.proofs.lemmas.Bool.{lt-ltb, ltb-true, le-leb}
-use Rattle.bus_base.proofs.Tests.{or_true}
+use Rattle.bus_due.specs.bus_base.proofs.Tests.{or_true}
 
 -- ---- REQ rises again
 

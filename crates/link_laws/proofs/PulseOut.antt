@@ -3,35 +3,35 @@ use Rattle.std.proofs.Common.{◌⊎◌, inl, inr, ℕ, ◌≡◌, ◌≤◌, �
 use Rattle.std.specs.Prelude.{if◌then◌else◌, max, nat_le, nat_lt, is_some}
 use Rattle.std.specs.Int.RustNames.{bit_or}
 use Rattle.std.proofs.lemmas.Bool.Decides.{nat_tests}
-use Rattle.bus_base.specs.Faults.{counted_on}
-use Rattle.bus_trace.specs.LineSet.{LineSet, data_of}
-use Rattle.bus_trace.specs.declared.Row.{Row}
-use Rattle.bus_trace.specs.declared.agreements.TransferTimes.{TransferTimes}
-use Rattle.bus_trace.specs.declared.connection.Connection.{Connection}
-use Rattle.bus_trace.specs.declared.changes.Change.{Change}
-use Rattle.bus_trace.specs.Agreements.{times_of}
-use Rattle.bus_trace.specs.Changes.{implies}
-use Rattle.bus_trace.specs.Terms.{receiver, receiver_in}
-use Rattle.bus_trace.specs.Trace.{last_time, since, line_times}
-use Rattle.bus_phases.specs.declared.pulses.Pulses.{Pulses}
-use Rattle.bus_phases.specs.Phases.{pulses, count_after, duty}
-use Rattle.bus_trace.specs.Terms.{when}
-use Rattle.bus_phases.specs.Dialogue.{dialogue}
-use Rattle.bus_rules.specs.Messages.{is_owed}
-use Rattle.bus_rules.specs.Transfer.{is_after}
-use Rattle.bus_lines.specs.declared.handshakes.Request.{Request}
-use Rattle.bus_lines.specs.Handshakes.{Handshakes, handshakes, asked, answered, answered_if, asked_if, opened, first_of, time_of, room_by}
-use Rattle.scenario.specs.Value.{ScenarioValue}
-use Rattle.bus_story.specs.Samples.{latency_of}
-use Rattle.bus_dialogue.specs.Ends.{lag_by}
+use Rattle.bus_due.specs.bus_base.specs.Faults.{counted_on}
+use Rattle.bus_due.specs.bus_trace.specs.LineSet.{LineSet, data_of}
+use Rattle.bus_due.specs.bus_trace.specs.declared.Row.{Row}
+use Rattle.bus_due.specs.bus_trace.specs.declared.agreements.TransferTimes.{TransferTimes}
+use Rattle.bus_due.specs.bus_trace.specs.declared.connection.Connection.{Connection}
+use Rattle.bus_due.specs.bus_trace.specs.declared.changes.Change.{Change}
+use Rattle.bus_due.specs.bus_trace.specs.Agreements.{times_of}
+use Rattle.bus_due.specs.bus_trace.specs.Changes.{implies}
+use Rattle.bus_due.specs.bus_trace.specs.Terms.{receiver, receiver_in}
+use Rattle.bus_due.specs.bus_trace.specs.Trace.{last_time, since, line_times}
+use Rattle.bus_due.specs.bus_phases.specs.declared.pulses.Pulses.{Pulses}
+use Rattle.bus_due.specs.bus_phases.specs.Phases.{pulses, count_after, duty}
+use Rattle.bus_due.specs.bus_trace.specs.Terms.{when}
+use Rattle.bus_due.specs.bus_phases.specs.Dialogue.{dialogue}
+use Rattle.bus_due.specs.bus_rules.specs.Messages.{is_owed}
+use Rattle.bus_due.specs.bus_rules.specs.Transfer.{is_after}
+use Rattle.bus_due.specs.bus_lines.specs.declared.handshakes.Request.{Request}
+use Rattle.bus_due.specs.bus_lines.specs.Handshakes.{Handshakes, handshakes, asked, answered, answered_if, asked_if, opened, first_of, time_of, room_by}
+use Rattle.bus_due.specs.scenario.specs.Value.{ScenarioValue}
+use Rattle.bus_due.specs.bus_story.specs.Samples.{latency_of}
+use Rattle.bus_due.specs.bus_dialogue.specs.Ends.{lag_by}
 use Rattle.bus_due.specs.Defs.{host_of}
 use Rattle.bus_due.specs.Own.{own_of}
 use Rattle.bus_due.specs.RunSteps.{run_state}
 use Rattle.bus_laws.specs.Rows.{row_of_lines, change_to}
 use Rattle.bus_laws.specs.Ends.{EndLines, initiator_side, target_side, connected_bus, Linked}
 use Rattle.link_laws.specs.Phases.{ends}
-use Rattle.bus_dialogue.specs.Sending.{Sending, byte_to_send}
-use Rattle.bus_reactions.specs.Target.{byte_bits}
+use Rattle.bus_due.specs.bus_dialogue.specs.Sending.{Sending, byte_to_send}
+use Rattle.bus_due.specs.bus_reactions.specs.Target.{byte_bits}
 use Rattle.bus_due.specs.Sights.{sending_of}
 use Rattle.std.specs.Prelude.{slice_index_or}
 use Rattle.link_laws.specs.Pulses.{drives_by, times_here, offset_here, pulses_of, HasDrivenPulsed, run_count, next_bits, given_here, initiator_next, answers_at, drives_at, NoSooner}
@@ -45,7 +45,7 @@ use Rattle.link_laws.proofs.PulseIn.{waits_more, oldest_stays, oldest_new, last_
 use Rattle.link_laws.proofs.PulseRows.{NextPulsing, PulseHere, later_target_out, later_initiator_out, data_row, target_next_is, initiator_next_is, own_ack_other, own_ack_own, pulsing_goes, fresh_next, same_latency, data_stands}
 use Rattle.link_laws.proofs.PulseSteps.{more_asked, req_falls_facts, req_rises_facts, ack_rises_facts, ack_falls_facts, still_facts, assertion_short, none_no_sooner, some_no_sooner}
 use Rattle.std.proofs.lemmas.Bool.{lt-ltb, ltb-true, le-leb}
-use Rattle.bus_base.proofs.Tests.{or_true}
+use Rattle.bus_due.specs.bus_base.proofs.Tests.{or_true}
 
 -- ---- what the initiator gives stays while no byte crosses
 

@@ -2,26 +2,26 @@
 use Rattle.std.proofs.Common.{ℕ, ◌≡◌, ◌≢◌, ◌≤◌, ◌<◌, ◌+◌, ◌^◌, Bool, true, false, not, ◌&&◌, ◌||◌, ◌==◌, ◌∙◌, List, ◌∷◌, length, Option, Some, None, refl, sym, ap, subst, arith}
 use Rattle.std.specs.Prelude.{if◌then◌else◌, max, nat_lt, is_some}
 use Rattle.std.proofs.lemmas.Bool.Decides.{nat_tests}
-use Rattle.bus_trace.specs.LineSet.{LineSet, data_of}
-use Rattle.bus_trace.specs.declared.Row.{Row}
-use Rattle.bus_trace.specs.declared.agreements.Agreement.{Agreement}
-use Rattle.bus_trace.specs.declared.agreements.TransferTimes.{TransferTimes}
-use Rattle.bus_trace.specs.declared.connection.Connection.{Connection}
-use Rattle.bus_trace.specs.declared.changes.Change.{Change}
-use Rattle.bus_trace.specs.Agreements.{times_of}
-use Rattle.bus_trace.specs.Changes.{change_of, rises, implies}
-use Rattle.bus_trace.specs.Terms.{receiver}
-use Rattle.bus_trace.specs.Trace.{drives, last_time, since, line_times}
-use Rattle.bus_phases.specs.Phases.{pulses, count_after, turned}
-use Rattle.bus_trace.specs.Terms.{when}
-use Rattle.bus_phases.specs.Dialogue.{dialogue}
-use Rattle.bus_rules.specs.Order.{is_of_device}
-use Rattle.bus_rules.specs.Rules.{broken_rule}
-use Rattle.bus_lines.specs.Handshakes.{Handshakes, handshakes, answered, answered_if, or_now, or_zero, room_by}
-use Rattle.scenario.specs.Value.{ScenarioValue}
-use Rattle.bus_story.specs.Samples.{latency_of}
-use Rattle.bus_reactions.specs.Target.{bits_if}
-use Rattle.bus_dialogue.specs.Ends.{lag_by}
+use Rattle.bus_due.specs.bus_trace.specs.LineSet.{LineSet, data_of}
+use Rattle.bus_due.specs.bus_trace.specs.declared.Row.{Row}
+use Rattle.bus_due.specs.bus_trace.specs.declared.agreements.Agreement.{Agreement}
+use Rattle.bus_due.specs.bus_trace.specs.declared.agreements.TransferTimes.{TransferTimes}
+use Rattle.bus_due.specs.bus_trace.specs.declared.connection.Connection.{Connection}
+use Rattle.bus_due.specs.bus_trace.specs.declared.changes.Change.{Change}
+use Rattle.bus_due.specs.bus_trace.specs.Agreements.{times_of}
+use Rattle.bus_due.specs.bus_trace.specs.Changes.{change_of, rises, implies}
+use Rattle.bus_due.specs.bus_trace.specs.Terms.{receiver}
+use Rattle.bus_due.specs.bus_trace.specs.Trace.{drives, last_time, since, line_times}
+use Rattle.bus_due.specs.bus_phases.specs.Phases.{pulses, count_after, turned}
+use Rattle.bus_due.specs.bus_trace.specs.Terms.{when}
+use Rattle.bus_due.specs.bus_phases.specs.Dialogue.{dialogue}
+use Rattle.bus_due.specs.bus_rules.specs.Order.{is_of_device}
+use Rattle.bus_due.specs.bus_rules.specs.Rules.{broken_rule}
+use Rattle.bus_due.specs.bus_lines.specs.Handshakes.{Handshakes, handshakes, answered, answered_if, or_now, or_zero, room_by}
+use Rattle.bus_due.specs.scenario.specs.Value.{ScenarioValue}
+use Rattle.bus_due.specs.bus_story.specs.Samples.{latency_of}
+use Rattle.bus_due.specs.bus_reactions.specs.Target.{bits_if}
+use Rattle.bus_due.specs.bus_dialogue.specs.Ends.{lag_by}
 use Rattle.bus_due.specs.Defs.{host_of}
 use Rattle.bus_due.specs.Least.{IsLeast}
 use Rattle.bus_due.specs.Own.{Own, own_of, own_after}
@@ -41,7 +41,7 @@ use Rattle.link_laws.proofs.DataRows.{DataRow, count_stays, bytes_stay}
 use Rattle.link_laws.proofs.PulseObeys.{req_end_in}
 use Rattle.link_laws.proofs.PulseSteps.{req_falls_facts, assertion_short, none_no_sooner, some_no_sooner}
 use Rattle.link_laws.proofs.PulseAhead.{ByPulses, target_due_in, target_due_out, initiator_due_in, initiator_due_out, row_by_target, row_by_initiator}
-use Rattle.bus_base.proofs.Tests.{eq_self}
+use Rattle.bus_due.specs.bus_base.proofs.Tests.{eq_self}
 
 -- What a row does with which the pulses go on.
 pub record NextPulsing (s : ScenarioValue) (p : List Row) (row : Row) (n : Connection) (io req ack atn : Bool) (x y : ℕ) : Type 0 where

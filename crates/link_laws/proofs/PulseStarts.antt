@@ -2,21 +2,21 @@
 use Rattle.std.proofs.Common.{ℕ, ◌≡◌, ◌≤◌, ◌<◌, ◌+◌, Bool, true, false, not, ◌&&◌, ◌||◌, ◌==◌, ◌∙◌, List, ◌∷◌, Option, Some, None, refl, sym, ap, subst, arith}
 use Rattle.std.specs.Prelude.{if◌then◌else◌, max, nat_le, nat_lt, is_some}
 use Rattle.std.proofs.lemmas.Bool.Decides.{nat_tests}
-use Rattle.bus_base.specs.Faults.{counted_on}
-use Rattle.bus_trace.specs.declared.Row.{Row}
-use Rattle.bus_trace.specs.declared.agreements.Agreement.{Agreement}
-use Rattle.bus_trace.specs.declared.connection.Connection.{Connection}
-use Rattle.bus_trace.specs.declared.changes.Change.{Change}
-use Rattle.bus_trace.specs.Agreements.{times_of, times_or_slow, fast_times, slow_times}
-use Rattle.bus_trace.specs.Terms.{receiver}
-use Rattle.bus_trace.specs.Trace.{last_time, line_times}
-use Rattle.bus_phases.specs.declared.pulses.Pulses.{Pulses}
-use Rattle.bus_phases.specs.Phases.{pulses, no_pulses, turned}
-use Rattle.bus_phases.specs.Dialogue.{dialogue}
-use Rattle.bus_rules.specs.Transfer.{is_after}
-use Rattle.bus_lines.specs.Handshakes.{Handshakes, handshakes, no_handshakes, asked}
-use Rattle.scenario.specs.Value.{ScenarioValue}
-use Rattle.bus_dialogue.specs.Ends.{lag_by}
+use Rattle.bus_due.specs.bus_base.specs.Faults.{counted_on}
+use Rattle.bus_due.specs.bus_trace.specs.declared.Row.{Row}
+use Rattle.bus_due.specs.bus_trace.specs.declared.agreements.Agreement.{Agreement}
+use Rattle.bus_due.specs.bus_trace.specs.declared.connection.Connection.{Connection}
+use Rattle.bus_due.specs.bus_trace.specs.declared.changes.Change.{Change}
+use Rattle.bus_due.specs.bus_trace.specs.Agreements.{times_of, times_or_slow, fast_times, slow_times}
+use Rattle.bus_due.specs.bus_trace.specs.Terms.{receiver}
+use Rattle.bus_due.specs.bus_trace.specs.Trace.{last_time, line_times}
+use Rattle.bus_due.specs.bus_phases.specs.declared.pulses.Pulses.{Pulses}
+use Rattle.bus_due.specs.bus_phases.specs.Phases.{pulses, no_pulses, turned}
+use Rattle.bus_due.specs.bus_phases.specs.Dialogue.{dialogue}
+use Rattle.bus_due.specs.bus_rules.specs.Transfer.{is_after}
+use Rattle.bus_due.specs.bus_lines.specs.Handshakes.{Handshakes, handshakes, no_handshakes, asked}
+use Rattle.bus_due.specs.scenario.specs.Value.{ScenarioValue}
+use Rattle.bus_due.specs.bus_dialogue.specs.Ends.{lag_by}
 use Rattle.bus_due.specs.Defs.{host_of}
 use Rattle.bus_due.specs.Own.{own_of}
 use Rattle.bus_laws.specs.Rows.{change_to}

@@ -2,32 +2,32 @@
 use Rattle.std.proofs.Common.{ℕ, ◌≡◌, ◌≤◌, ◌+◌, ◌-◌, ◌*◌, ◌^◌, Bool, true, false, ◌&&◌, List, [], ◌∷◌, length, Option, Some, None, refl, arith}
 use Rattle.std.specs.Prelude.{if◌then◌else◌, min, nat_lt, ◌==◌}
 use Rattle.std.proofs.lemmas.Bool.{ltb-true}
-use Rattle.bus_base.specs.declared.Event.{Event}
-use Rattle.bus_trace.specs.declared.Row.{Row}
-use Rattle.bus_trace.specs.declared.connection.Connection.{Connection}
-use Rattle.cdb_codec.specs.declared.status.TheConstants.{GOOD}
-use Rattle.scenario.specs.Value.{ScenarioValue}
-use Rattle.scenario.specs.declared.value.Policy.{Policy}
-use Rattle.scenario.specs.declared.value.Policy.TheVariants as policies
-use Rattle.disk_array.specs.ArrayHistory as Play
-use Rattle.disk_array.specs.Execution.{Reply}
-use Rattle.disk_array.specs.Processes.{Process}
-use Rattle.disk_array.specs.Units.{Array, unit_state_at, nexus_of}
-use Rattle.disk_array.specs.Steps
-use Rattle.bus_story.specs.BusState.{row_reading}
-use Rattle.bus_story.specs.HistoryEvents.{row_events_by}
-use Rattle.bus_story.specs.Items.{Item, process, abort}
-use Rattle.bus_dialogue.specs.Arrivals.{policy_of}
-use Rattle.bus_dialogue.specs.DataRuns.{run_by, run_in, run_length}
-use Rattle.bus_dialogue.specs.PhaseBytes.{run_length_if}
-use Rattle.bus_dialogue.specs.declared.exchange.Task.{Task}
+use Rattle.bus_due.specs.bus_base.specs.declared.Event.{Event}
+use Rattle.bus_due.specs.bus_trace.specs.declared.Row.{Row}
+use Rattle.bus_due.specs.bus_trace.specs.declared.connection.Connection.{Connection}
+use Rattle.bus_due.specs.cdb_codec.specs.declared.status.TheConstants.{GOOD}
+use Rattle.bus_due.specs.scenario.specs.Value.{ScenarioValue}
+use Rattle.bus_due.specs.scenario.specs.declared.value.Policy.{Policy}
+use Rattle.bus_due.specs.scenario.specs.declared.value.Policy.TheVariants as policies
+use Rattle.bus_due.specs.disk_array.specs.ArrayHistory as Play
+use Rattle.bus_due.specs.disk_array.specs.Execution.{Reply}
+use Rattle.bus_due.specs.disk_array.specs.Processes.{Process}
+use Rattle.bus_due.specs.disk_array.specs.Units.{Array, unit_state_at, nexus_of}
+use Rattle.bus_due.specs.disk_array.specs.Steps
+use Rattle.bus_due.specs.bus_story.specs.BusState.{row_reading}
+use Rattle.bus_due.specs.bus_story.specs.HistoryEvents.{row_events_by}
+use Rattle.bus_due.specs.bus_story.specs.Items.{Item, process, abort}
+use Rattle.bus_due.specs.bus_dialogue.specs.Arrivals.{policy_of}
+use Rattle.bus_due.specs.bus_dialogue.specs.DataRuns.{run_by, run_in, run_length}
+use Rattle.bus_due.specs.bus_dialogue.specs.PhaseBytes.{run_length_if}
+use Rattle.bus_due.specs.bus_dialogue.specs.declared.exchange.Task.{Task}
 use Rattle.bus_due.specs.Defs.{target_def_of}
 use Rattle.bus_due.specs.RunState.{RunState, or_start, array_of, process_item, process_served, carried_here}
 use Rattle.bus_due.specs.RunSteps.{run_state, array_after_events}
 use Rattle.bus_due.specs.LastingState.{progress_in}
 use Rattle.bus_due.specs.Tasks.{is_writing, moved_count, reply_now, task_if, task_with}
-use Rattle.scsi_device.specs.Lines.{FitsBus}
-use Rattle.scsi_device.proofs.SentBytes.{process_few}
+use Rattle.bus_laws.specs.scsi_device.specs.Lines.{FitsBus}
+use Rattle.bus_laws.specs.scsi_device.proofs.SentBytes.{process_few}
 use Rattle.link_laws.specs.Pulses.{run_count}
 use Rattle.link_laws.proofs.UnitContents.{HasShortUnits, HasShortUnitsIf, gives_few, context_at_short, event_short, start_short, settled_start_short}
 

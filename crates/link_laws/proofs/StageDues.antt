@@ -1,28 +1,28 @@
 -- What is due of the two ends in each stage of a connection, and that nothing of it lies in the past.
 use Rattle.std.proofs.Common.{ℕ, ◌≡◌, ◌+◌, Bool, true, false, not, ◌&&◌, ◌||◌, ◌==◌, ◌∙◌, List, None, refl, ap}
 use Rattle.std.specs.Prelude.{if◌then◌else◌, max}
-use Rattle.bus_trace.specs.declared.Row.{Row}
-use Rattle.bus_trace.specs.Agreements.{times_of}
-use Rattle.bus_trace.specs.declared.connection.Connection.{Connection}
-use Rattle.bus_trace.specs.Trace.{line_times, phase_time}
-use Rattle.bus_phases.specs.Dialogue.{dialogue}
-use Rattle.bus_lines.specs.Handshakes.{Handshakes, handshakes, no_handshakes}
-use Rattle.scenario.specs.Value.{ScenarioValue}
-use Rattle.bus_reactions.specs.declared.due.Myself.{Myself}
-use Rattle.bus_reactions.specs.declared.sight.Sight.{Sight}
-use Rattle.bus_reactions.specs.declared.ends.Pace.{Pace}
-use Rattle.bus_reactions.specs.declared.ends.Offering.{Offering}
-use Rattle.bus_reactions.specs.declared.ends.Answering.{Answering}
-use Rattle.bus_reactions.specs.Reactions.{due_at}
-use Rattle.bus_reactions.specs.Target.{req_pulse_end, req_negation, first_req, first_byte, req_assertion, target_pulse, target_handshake, next_req, phase_end, byte_bits, bits_if}
-use Rattle.bus_reactions.specs.Initiator.{ack_pulse_end, ack_negation, received_byte_ack, initiator_byte, sent_byte_ack, initiator_pulse, initiator_handshake, byte_release, attends_by}
-use Rattle.bus_reactions.specs.Ends.{target_due, initiator_due, owes_release}
+use Rattle.bus_due.specs.bus_trace.specs.declared.Row.{Row}
+use Rattle.bus_due.specs.bus_trace.specs.Agreements.{times_of}
+use Rattle.bus_due.specs.bus_trace.specs.declared.connection.Connection.{Connection}
+use Rattle.bus_due.specs.bus_trace.specs.Trace.{line_times, phase_time}
+use Rattle.bus_due.specs.bus_phases.specs.Dialogue.{dialogue}
+use Rattle.bus_due.specs.bus_lines.specs.Handshakes.{Handshakes, handshakes, no_handshakes}
+use Rattle.bus_due.specs.scenario.specs.Value.{ScenarioValue}
+use Rattle.bus_due.specs.bus_reactions.specs.declared.due.Myself.{Myself}
+use Rattle.bus_due.specs.bus_reactions.specs.declared.sight.Sight.{Sight}
+use Rattle.bus_due.specs.bus_reactions.specs.declared.ends.Pace.{Pace}
+use Rattle.bus_due.specs.bus_reactions.specs.declared.ends.Offering.{Offering}
+use Rattle.bus_due.specs.bus_reactions.specs.declared.ends.Answering.{Answering}
+use Rattle.bus_due.specs.bus_reactions.specs.Reactions.{due_at}
+use Rattle.bus_due.specs.bus_reactions.specs.Target.{req_pulse_end, req_negation, first_req, first_byte, req_assertion, target_pulse, target_handshake, next_req, phase_end, byte_bits, bits_if}
+use Rattle.bus_due.specs.bus_reactions.specs.Initiator.{ack_pulse_end, ack_negation, received_byte_ack, initiator_byte, sent_byte_ack, initiator_pulse, initiator_handshake, byte_release, attends_by}
+use Rattle.bus_due.specs.bus_reactions.specs.Ends.{target_due, initiator_due, owes_release}
 use Rattle.bus_due.specs.Own.{own_of}
 use Rattle.bus_laws.specs.Reactions.{own_time, device_with}
 use Rattle.bus_laws.specs.Ends.{EndLines, initiator_side, target_side, connected_bus, ends_selected}
 use Rattle.link_laws.specs.Phases.{ends, Settling, Turning, Offering as OfferingStage, Shaking}
 use Rattle.link_laws.proofs.EndDues.{sight_with, pace_with, offering_with, answering_with, target_plain, initiator_plain}
-use Rattle.bus_base.proofs.Tests.{and_false}
+use Rattle.bus_due.specs.bus_base.proofs.Tests.{and_false}
 
 -- ---- before REQ has risen
 

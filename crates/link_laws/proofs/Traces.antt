@@ -2,14 +2,14 @@
 use Rattle.std.proofs.Common.{◌≡◌, ◌≤◌, Bool, true, false, not, ◌&&◌, ◌∙◌, List, [], ◌∷◌, None, refl, sym, ap, subst, arith}
 use Rattle.std.specs.Prelude.{is_some}
 use Rattle.std.proofs.lemmas.Bool.{and_parts}
-use Rattle.bus_trace.specs.LineSet.{LineSet, data_of}
-use Rattle.bus_trace.specs.declared.Row.{Row}
-use Rattle.bus_trace.specs.declared.connection.Connection.{Connection}
-use Rattle.bus_trace.specs.Trace.{bus, last_time, since, line_times, phase_time}
-use Rattle.bus_trace.specs.Terms.{connection}
-use Rattle.bus_trace.proofs.Ages.{since_le}
-use Rattle.bus_phases.specs.declared.attention.Duty.{Duty}
-use Rattle.scenario.specs.Value.{ScenarioValue}
+use Rattle.bus_due.specs.bus_trace.specs.LineSet.{LineSet, data_of}
+use Rattle.bus_due.specs.bus_trace.specs.declared.Row.{Row}
+use Rattle.bus_due.specs.bus_trace.specs.declared.connection.Connection.{Connection}
+use Rattle.bus_due.specs.bus_trace.specs.Trace.{bus, last_time, since, line_times, phase_time}
+use Rattle.bus_due.specs.bus_trace.specs.Terms.{connection}
+use Rattle.bus_due.specs.bus_trace.proofs.Ages.{since_le}
+use Rattle.bus_due.specs.bus_phases.specs.declared.attention.Duty.{Duty}
+use Rattle.bus_due.specs.scenario.specs.Value.{ScenarioValue}
 use Rattle.bus_due.specs.Next.{due, IsPrompt}
 use Rattle.bus_due.specs.Least.{IsLeast}
 use Rattle.bus_due.specs.Plain.{AreOfDevices}
@@ -27,7 +27,7 @@ use Rattle.link_laws.proofs.Enters.{below_differs}
 use Rattle.link_laws.proofs.PhaseEnds.{AfterLink, goes_on, frees}
 use Rattle.link_laws.proofs.FromLink.{from_link}
 use Rattle.link_laws.proofs.RunLengths.{HasShortRuns}
-use Rattle.bus_base.proofs.Tests.{and_false, implied}
+use Rattle.bus_due.specs.bus_base.proofs.Tests.{and_false, implied}
 
 -- ---- a connection begins
 

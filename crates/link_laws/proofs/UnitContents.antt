@@ -5,37 +5,37 @@ use Rattle.std.specs.List.{AllByRecursion}
 use Rattle.std.proofs.lemmas.Bool.{and_parts}
 use Rattle.std.proofs.lemmas.Bool.Decides.{nat_tests}
 use Rattle.std.proofs.lemmas.List.{length-append, length-replicate, length-take}
-use Rattle.bus_base.specs.declared.AbortKind.{AbortKind}
-use Rattle.bus_base.specs.declared.AbortKind.TheVariants as aborts
-use Rattle.bus_base.specs.declared.Event.{Event}
-use Rattle.bus_base.specs.declared.Event.TheVariants as events
-use Rattle.bus_base.specs.declared.ProcId.{ProcId}
-use Rattle.cdb_codec.specs.Blocks.{blocks_moved}
-use Rattle.cdb_codec.specs.Cdb.{command_of}
-use Rattle.cdb_codec.specs.Replies.{sense_data, inquiry_data, capacity_data}
-use Rattle.cdb_codec.specs.declared.Sense.{Sense}
-use Rattle.cdb_codec.specs.declared.command.CdbFault.{CdbFault}
-use Rattle.cdb_codec.specs.declared.command.CdbFault.TheVariants as faults
-use Rattle.cdb_codec.specs.declared.command.Command.{Command}
-use Rattle.cdb_codec.specs.declared.command.Command.TheVariants as commands
-use Rattle.cdb_codec.specs.declared.replies.TheConstants.{SENSE_LEN, INQUIRY_LEN}
-use Rattle.cdb_codec.specs.declared.sense.TheConstants.{ABORTED_COMMAND}
-use Rattle.cdb_codec.specs.declared.status.TheConstants.{GOOD, CHECK_CONDITION}
-use Rattle.scenario.specs.declared.value.FillDef.{FillDef}
-use Rattle.scenario.specs.declared.value.HostDef.{HostDef}
-use Rattle.scenario.specs.declared.value.UnitDef.{UnitDef}
-use Rattle.scenario.specs.Lookups.{unit_of}
-use Rattle.scenario.specs.Reasons.{is_block_in}
-use Rattle.scenario.specs.Value.{ScenarioValue}
-use Rattle.disk_array.specs.ArrayHistory as Play
-use Rattle.disk_array.specs.Contents.{Contents, no_contents, zero_block, touched_block, block_at, touched_with, with_block, bytes_at, with_bytes, blank_contents, filled_contents}
-use Rattle.disk_array.specs.Execution.{Reply, CommandContext, Execution, good, check_condition, queue_full, sense_of, needs_unit, heeds_attention, range_of, is_good_range, returned_sense, reply_execution, write_execution, command_execution, range_execution, cdb_execution, attention_execution, execution, invalid_opcode, invalid_field, block_out_of_range, unit_not_supported, commands_cleared, is_request_sense}
-use Rattle.disk_array.specs.Order.{choice}
-use Rattle.disk_array.specs.Processes.{Process, process_of}
-use Rattle.disk_array.specs.Steps
-use Rattle.disk_array.specs.Units.{RunningProcess, UnitState, Nexus, Array, unit_state_at, with_unit, guest_at, with_current, has_no_current, is_held, units_after_choice, settled_array, starting_array, starting_units, nexus_of, sense_of_nexus, senses_without, nexuses_without}
-use Rattle.scsi_device.specs.Lines.{FitsBus, IsUnitLine}
-use Rattle.scsi_device.proofs.FitLines.{unit_fits}
+use Rattle.bus_due.specs.bus_base.specs.declared.AbortKind.{AbortKind}
+use Rattle.bus_due.specs.bus_base.specs.declared.AbortKind.TheVariants as aborts
+use Rattle.bus_due.specs.bus_base.specs.declared.Event.{Event}
+use Rattle.bus_due.specs.bus_base.specs.declared.Event.TheVariants as events
+use Rattle.bus_due.specs.bus_base.specs.declared.ProcId.{ProcId}
+use Rattle.bus_due.specs.cdb_codec.specs.Blocks.{blocks_moved}
+use Rattle.bus_due.specs.cdb_codec.specs.Cdb.{command_of}
+use Rattle.bus_due.specs.cdb_codec.specs.Replies.{sense_data, inquiry_data, capacity_data}
+use Rattle.bus_due.specs.cdb_codec.specs.declared.Sense.{Sense}
+use Rattle.bus_due.specs.cdb_codec.specs.declared.command.CdbFault.{CdbFault}
+use Rattle.bus_due.specs.cdb_codec.specs.declared.command.CdbFault.TheVariants as faults
+use Rattle.bus_due.specs.cdb_codec.specs.declared.command.Command.{Command}
+use Rattle.bus_due.specs.cdb_codec.specs.declared.command.Command.TheVariants as commands
+use Rattle.bus_due.specs.cdb_codec.specs.declared.replies.TheConstants.{SENSE_LEN, INQUIRY_LEN}
+use Rattle.bus_due.specs.cdb_codec.specs.declared.sense.TheConstants.{ABORTED_COMMAND}
+use Rattle.bus_due.specs.cdb_codec.specs.declared.status.TheConstants.{GOOD, CHECK_CONDITION}
+use Rattle.bus_due.specs.scenario.specs.declared.value.FillDef.{FillDef}
+use Rattle.bus_due.specs.scenario.specs.declared.value.HostDef.{HostDef}
+use Rattle.bus_due.specs.scenario.specs.declared.value.UnitDef.{UnitDef}
+use Rattle.bus_due.specs.scenario.specs.Lookups.{unit_of}
+use Rattle.bus_due.specs.scenario.specs.Reasons.{is_block_in}
+use Rattle.bus_due.specs.scenario.specs.Value.{ScenarioValue}
+use Rattle.bus_due.specs.disk_array.specs.ArrayHistory as Play
+use Rattle.bus_due.specs.disk_array.specs.Contents.{Contents, no_contents, zero_block, touched_block, block_at, touched_with, with_block, bytes_at, with_bytes, blank_contents, filled_contents}
+use Rattle.bus_due.specs.disk_array.specs.Execution.{Reply, CommandContext, Execution, good, check_condition, queue_full, sense_of, needs_unit, heeds_attention, range_of, is_good_range, returned_sense, reply_execution, write_execution, command_execution, range_execution, cdb_execution, attention_execution, execution, invalid_opcode, invalid_field, block_out_of_range, unit_not_supported, commands_cleared, is_request_sense}
+use Rattle.bus_due.specs.disk_array.specs.Order.{choice}
+use Rattle.bus_due.specs.disk_array.specs.Processes.{Process, process_of}
+use Rattle.bus_due.specs.disk_array.specs.Steps
+use Rattle.bus_due.specs.disk_array.specs.Units.{RunningProcess, UnitState, Nexus, Array, unit_state_at, with_unit, guest_at, with_current, has_no_current, is_held, units_after_choice, settled_array, starting_array, starting_units, nexus_of, sense_of_nexus, senses_without, nexuses_without}
+use Rattle.bus_laws.specs.scsi_device.specs.Lines.{FitsBus, IsUnitLine}
+use Rattle.bus_laws.specs.scsi_device.proofs.FitLines.{unit_fits}
 
 -- ---- blocks: at most 2^32 of at most 2048 bytes
 

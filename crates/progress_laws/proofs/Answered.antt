@@ -4,24 +4,24 @@ use Rattle.std.proofs.Common.{ℕ, zero, suc, ◌≡◌, ◌+◌, ◌<◌, Bool,
 use Rattle.std.specs.Prelude.{if◌then◌else◌, ◌==◌, is_some}
 use Rattle.std.specs.List.{list_all, list_any}
 use Rattle.std.proofs.lemmas.Option.{same_Some}
-use Rattle.scenario.specs.declared.value.CmdDef.{CmdDef}
-use Rattle.scenario.specs.Value.{ScenarioValue}
-use Rattle.scenario.specs.Writing.{Obeys}
-use Rattle.disk_array.specs.Processes.{Process, command_at, process_by, process_if, process_of}
-use Rattle.disk_array.specs.SoundArray.{IsSound}
-use Rattle.disk_array.specs.Units.{Array, Nexus, UnitState, is_at_unit, is_held, unit_state_at}
-use Rattle.disk_array.specs.Seats.{is_initiator}
-use Rattle.bus_story.specs.Items.{Item, Sent, command_item, has_item, is_done, is_of_host, is_open, sense_from, sense_item, command_id}
-use Rattle.bus_story.specs.Outcomes.{Outcome, ending_of, outcome_if, outcome_of, outcomes_from}
-use Rattle.bus_story.specs.Samples.{latency_of}
-use Rattle.bus_story.specs.Story.{Ending, Story, is_ended}
-use Rattle.bus_dialogue.specs.Wants.{Ready}
+use Rattle.bus_due.specs.scenario.specs.declared.value.CmdDef.{CmdDef}
+use Rattle.bus_due.specs.scenario.specs.Value.{ScenarioValue}
+use Rattle.bus_due.specs.scenario.specs.Writing.{Obeys}
+use Rattle.bus_due.specs.disk_array.specs.Processes.{Process, command_at, process_by, process_if, process_of}
+use Rattle.bus_due.specs.disk_array.specs.SoundArray.{IsSound}
+use Rattle.bus_due.specs.disk_array.specs.Units.{Array, Nexus, UnitState, is_at_unit, is_held, unit_state_at}
+use Rattle.bus_due.specs.disk_array.specs.Seats.{is_initiator}
+use Rattle.bus_due.specs.bus_story.specs.Items.{Item, Sent, command_item, has_item, is_done, is_of_host, is_open, sense_from, sense_item, command_id}
+use Rattle.bus_due.specs.bus_story.specs.Outcomes.{Outcome, ending_of, outcome_if, outcome_of, outcomes_from}
+use Rattle.bus_due.specs.bus_story.specs.Samples.{latency_of}
+use Rattle.bus_due.specs.bus_story.specs.Story.{Ending, Story, is_ended}
+use Rattle.bus_due.specs.bus_dialogue.specs.Wants.{Ready}
 use Rattle.bus_due.specs.RunState.{RunState, array_of}
 use Rattle.bus_due.specs.Wants.{item_want_time, ready_of, ready_time, seek_of, want_time}
-use Rattle.bus_books.specs.Accounts.{is_served_by}
-use Rattle.scsi_device.specs.Lines.{IsCommandLine}
-use Rattle.scsi_device.proofs.FitLines.{command_fits, obeys_fits}
-use Rattle.bus_laws.specs.Stages.{HasDevice}
+use Rattle.trace_laws.specs.bus_books.specs.Accounts.{is_served_by}
+use Rattle.trace_laws.specs.scsi_device.specs.Lines.{IsCommandLine}
+use Rattle.trace_laws.specs.scsi_device.proofs.FitLines.{command_fits, obeys_fits}
+use Rattle.trace_laws.specs.bus_laws.specs.Stages.{HasDevice}
 use Rattle.trace_laws.specs.ItemFacts.{Items}
 use Rattle.trace_laws.specs.WriteFacts.{AllUnits}
 use Rattle.trace_laws.proofs.Tests.{plus_one}
@@ -31,7 +31,7 @@ use Rattle.progress_laws.proofs.Rooms.{initiator_there, some_open}
 use Rattle.progress_laws.proofs.Unsent.{DoneBy, NoneOpen, no_sense_wanted, sent_all}
 use Rattle.progress_laws.specs.Queued.{AreOwed, AreQueued, IsOwed}
 use Rattle.std.proofs.lemmas.Bool.{eqb-true, and_from}
-use Rattle.bus_base.proofs.Tests.{wrong, eq_self, plus_none}
+use Rattle.bus_due.specs.bus_base.proofs.Tests.{wrong, eq_self, plus_none}
 
 -- ---- what is kept row by row
 

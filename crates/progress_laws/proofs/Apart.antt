@@ -7,33 +7,33 @@ use Rattle.std.proofs.lemmas.Bool.{cases_eq, true≢false}
 use Rattle.std.proofs.lemmas.Bool.Decides.{nat_tests}
 use Rattle.std.proofs.lemmas.Nat.{pow_pos, pow_below}
 use Rattle.std.proofs.lemmas.Option.{none-some}
-use Rattle.bus_trace.specs.LineSet.{LineSet, none, has_id_above}
-use Rattle.bus_trace.proofs.Buses.{bus_none, bus_off, bus_data_below}
-use Rattle.bus_trace.specs.declared.Row.{Row}
-use Rattle.bus_trace.specs.declared.arbitration.Arbitration.{Arbitration}
-use Rattle.bus_trace.specs.Trace.{bus, drives}
-use Rattle.bus_trace.specs.declared.selection.Calling.{Calling}
-use Rattle.bus_lines.specs.declared.stage.Stage.TheVariants.{InArbitration, InCalling}
-use Rattle.bus_lines.specs.Stage.{stage}
-use Rattle.scenario.specs.Value.{ScenarioValue}
-use Rattle.bus_story.specs.Samples.{latency_of}
-use Rattle.bus_reactions.specs.declared.due.Due.{Due}
-use Rattle.bus_reactions.specs.Reactions.{due_at, due_where}
-use Rattle.bus_reactions.specs.declared.due.Myself.{Myself}
-use Rattle.bus_reactions.specs.declared.due.Want.{Want}
-use Rattle.bus_reactions.specs.Calling.{answered_due, calling_start}
-use Rattle.bus_reactions.specs.FreeBus.{contender_lines}
+use Rattle.bus_due.specs.bus_trace.specs.LineSet.{LineSet, none, has_id_above}
+use Rattle.bus_due.specs.bus_trace.proofs.Buses.{bus_none, bus_off, bus_data_below}
+use Rattle.bus_due.specs.bus_trace.specs.declared.Row.{Row}
+use Rattle.bus_due.specs.bus_trace.specs.declared.arbitration.Arbitration.{Arbitration}
+use Rattle.bus_due.specs.bus_trace.specs.Trace.{bus, drives}
+use Rattle.bus_due.specs.bus_trace.specs.declared.selection.Calling.{Calling}
+use Rattle.bus_due.specs.bus_lines.specs.declared.stage.Stage.TheVariants.{InArbitration, InCalling}
+use Rattle.bus_due.specs.bus_lines.specs.Stage.{stage}
+use Rattle.bus_due.specs.scenario.specs.Value.{ScenarioValue}
+use Rattle.bus_due.specs.bus_story.specs.Samples.{latency_of}
+use Rattle.bus_due.specs.bus_reactions.specs.declared.due.Due.{Due}
+use Rattle.bus_due.specs.bus_reactions.specs.Reactions.{due_at, due_where}
+use Rattle.bus_due.specs.bus_reactions.specs.declared.due.Myself.{Myself}
+use Rattle.bus_due.specs.bus_reactions.specs.declared.due.Want.{Want}
+use Rattle.bus_due.specs.bus_reactions.specs.Calling.{answered_due, calling_start}
+use Rattle.bus_due.specs.bus_reactions.specs.FreeBus.{contender_lines}
 use Rattle.bus_due.specs.Next.{IsEnded}
-use Rattle.bus_laws.specs.Callings.{calling_lines, answered_calling, resumed_calling, won_call}
-use Rattle.bus_laws.specs.Reactions.{device_with, own_time, unreset_due}
-use Rattle.bus_laws.specs.Stages.{Standing, Arbitrating, ArbitrationWon, IsContender, BusStage, on_free_bus, in_arbitration, after_arbitration, with_both_ids, awaiting_answer, after_withdrawal, after_answer, after_takeover, in_reset, in_connection, FreeBus, is_connected}
-use Rattle.bus_laws.proofs.CallDues.{want_at, asks_due, calls_due, gives_up_due, goes_on_due, waits_due}
-use Rattle.bus_laws.proofs.Dues.{due_in}
-use Rattle.bus_laws.proofs.Resets.{due_holding}
-use Rattle.bus_laws.proofs.Rows.{stage_is}
+use Rattle.trace_laws.specs.bus_laws.specs.Callings.{calling_lines, answered_calling, resumed_calling, won_call}
+use Rattle.trace_laws.specs.bus_laws.specs.Reactions.{device_with, own_time, unreset_due}
+use Rattle.trace_laws.specs.bus_laws.specs.Stages.{Standing, Arbitrating, ArbitrationWon, IsContender, BusStage, on_free_bus, in_arbitration, after_arbitration, with_both_ids, awaiting_answer, after_withdrawal, after_answer, after_takeover, in_reset, in_connection, FreeBus, is_connected}
+use Rattle.trace_laws.specs.bus_laws.proofs.CallDues.{want_at, asks_due, calls_due, gives_up_due, goes_on_due, waits_due}
+use Rattle.trace_laws.specs.bus_laws.proofs.Dues.{due_in}
+use Rattle.trace_laws.specs.bus_laws.proofs.Resets.{due_holding}
+use Rattle.trace_laws.specs.bus_laws.proofs.Rows.{stage_is}
 use Rattle.trace_laws.proofs.Called.{callee_at}
 use Rattle.progress_laws.proofs.Acts.{SomeDue, calm_end, moved, nothing_due, there_by}
-use Rattle.disk_array.specs.Seats.{is_initiator}
+use Rattle.bus_due.specs.disk_array.specs.Seats.{is_initiator}
 
 -- ---- under RST
 

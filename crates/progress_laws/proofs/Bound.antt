@@ -3,48 +3,48 @@ use Rattle.std.proofs.Common.{inl, inr, ℕ, ◌≡◌, ◌<◌, Bool, true, fal
 use Rattle.std.specs.Prelude.{if◌then◌else◌, ◌==◌}
 use Rattle.std.proofs.lemmas.Bool.{cases_eq}
 use Rattle.std.proofs.lemmas.Option.{same_Some, none-some}
-use Rattle.bus_trace.specs.LineSet.{LineSet, none, union}
-use Rattle.bus_trace.proofs.Buses.{bus_on}
-use Rattle.bus_trace.proofs.OneRow.{drives-other, drives-own}
-use Rattle.bus_trace.proofs.Sets.{same_set-eq}
-use Rattle.bus_trace.specs.declared.Kind.TheVariants.{Drives}
-use Rattle.bus_trace.specs.declared.Row.{Row}
-use Rattle.bus_trace.specs.declared.arbitration.Arbitration.{Arbitration}
-use Rattle.bus_trace.specs.declared.changes.Change.{Change}
-use Rattle.bus_trace.specs.declared.connection.Connection.{Connection}
-use Rattle.bus_trace.specs.declared.selection.Call.{Call}
-use Rattle.bus_trace.specs.declared.selection.Calling.{Calling}
-use Rattle.bus_trace.specs.Changes.{change_of, falls, is_within, rises}
-use Rattle.bus_trace.specs.Terms.{arbitration, arbitration_after, call, call_goes_on, calling_after, called_goes_on, caller_goes_on, connection, connection_after, free_since, is_free}
-use Rattle.bus_trace.specs.Trace.{bus, drives, driven_after}
-use Rattle.bus_lines.specs.declared.stage.Stage.TheVariants.{InArbitration, OnFreeBus}
-use Rattle.bus_lines.specs.Stage.{stage}
-use Rattle.bus_rules.specs.Reset.{only_rst}
-use Rattle.bus_rules.specs.Rules.{broken_rule}
-use Rattle.scenario.specs.Value.{ScenarioValue}
-use Rattle.bus_reactions.specs.declared.due.Due.{Due}
-use Rattle.bus_reactions.specs.FreeBus.{contender_lines, free_due}
+use Rattle.bus_due.specs.bus_trace.specs.LineSet.{LineSet, none, union}
+use Rattle.bus_due.specs.bus_trace.proofs.Buses.{bus_on}
+use Rattle.bus_due.specs.bus_trace.proofs.OneRow.{drives-other, drives-own}
+use Rattle.bus_due.specs.bus_trace.proofs.Sets.{same_set-eq}
+use Rattle.bus_due.specs.bus_trace.specs.declared.Kind.TheVariants.{Drives}
+use Rattle.bus_due.specs.bus_trace.specs.declared.Row.{Row}
+use Rattle.bus_due.specs.bus_trace.specs.declared.arbitration.Arbitration.{Arbitration}
+use Rattle.bus_due.specs.bus_trace.specs.declared.changes.Change.{Change}
+use Rattle.bus_due.specs.bus_trace.specs.declared.connection.Connection.{Connection}
+use Rattle.bus_due.specs.bus_trace.specs.declared.selection.Call.{Call}
+use Rattle.bus_due.specs.bus_trace.specs.declared.selection.Calling.{Calling}
+use Rattle.bus_due.specs.bus_trace.specs.Changes.{change_of, falls, is_within, rises}
+use Rattle.bus_due.specs.bus_trace.specs.Terms.{arbitration, arbitration_after, call, call_goes_on, calling_after, called_goes_on, caller_goes_on, connection, connection_after, free_since, is_free}
+use Rattle.bus_due.specs.bus_trace.specs.Trace.{bus, drives, driven_after}
+use Rattle.bus_due.specs.bus_lines.specs.declared.stage.Stage.TheVariants.{InArbitration, OnFreeBus}
+use Rattle.bus_due.specs.bus_lines.specs.Stage.{stage}
+use Rattle.bus_due.specs.bus_rules.specs.Reset.{only_rst}
+use Rattle.bus_due.specs.bus_rules.specs.Rules.{broken_rule}
+use Rattle.bus_due.specs.scenario.specs.Value.{ScenarioValue}
+use Rattle.bus_due.specs.bus_reactions.specs.declared.due.Due.{Due}
+use Rattle.bus_due.specs.bus_reactions.specs.FreeBus.{contender_lines, free_due}
 use Rattle.bus_due.specs.Least.{IsLeast}
 use Rattle.bus_due.specs.Next.{due, IsPrompt}
 use Rattle.bus_due.specs.RunSteps.{run_state}
 use Rattle.bus_due.specs.Wants.{want_time}
-use Rattle.scsi_device.specs.Lines.{FitsBus}
-use Rattle.bus_laws.specs.Callings.{won_call}
-use Rattle.bus_laws.specs.Reactions.{device_with, own_time, unreset_due}
-use Rattle.bus_laws.specs.Rows.{row_of_lines}
-use Rattle.bus_laws.specs.Stages.{Arbitrating, ArbitrationWon, BusStage, CalmStanding, FreeBus, IsContender, is_connected, UnderRst, on_free_bus, in_arbitration, after_arbitration, with_both_ids, awaiting_answer, after_withdrawal, after_answer, after_takeover, in_reset, in_connection}
-use Rattle.bus_laws.proofs.Apart.{still_keeps}
-use Rattle.bus_laws.proofs.Dues.{free_due_is, idle_due, is_entry, is_entry_in, is_there, win_due}
-use Rattle.bus_laws.proofs.Prompt.{least_is}
-use Rattle.bus_laws.proofs.Rows.{drives_own, stage_is}
-use Rattle.bus_laws.proofs.Together.{by_calm, by_reset, reset_or_calm, not_linked}
-use Rattle.link_laws.specs.LinkStages.{AnyStage, apart, linked}
+use Rattle.trace_laws.specs.scsi_device.specs.Lines.{FitsBus}
+use Rattle.trace_laws.specs.bus_laws.specs.Callings.{won_call}
+use Rattle.trace_laws.specs.bus_laws.specs.Reactions.{device_with, own_time, unreset_due}
+use Rattle.trace_laws.specs.bus_laws.specs.Rows.{row_of_lines}
+use Rattle.trace_laws.specs.bus_laws.specs.Stages.{Arbitrating, ArbitrationWon, BusStage, CalmStanding, FreeBus, IsContender, is_connected, UnderRst, on_free_bus, in_arbitration, after_arbitration, with_both_ids, awaiting_answer, after_withdrawal, after_answer, after_takeover, in_reset, in_connection}
+use Rattle.trace_laws.specs.bus_laws.proofs.Apart.{still_keeps}
+use Rattle.trace_laws.specs.bus_laws.proofs.Dues.{free_due_is, idle_due, is_entry, is_entry_in, is_there, win_due}
+use Rattle.trace_laws.specs.bus_laws.proofs.Prompt.{least_is}
+use Rattle.trace_laws.specs.bus_laws.proofs.Rows.{drives_own, stage_is}
+use Rattle.trace_laws.specs.bus_laws.proofs.Together.{by_calm, by_reset, reset_or_calm, not_linked}
+use Rattle.trace_laws.specs.link_laws.specs.LinkStages.{AnyStage, apart, linked}
 use Rattle.trace_laws.proofs.FirstRows.{under_rst}
 use Rattle.trace_laws.proofs.Joint.{Stood, link_connection}
 use Rattle.trace_laws.proofs.UnderRst.{line_off, quiet_at_end, reset_rule, drives_next}
 use Rattle.progress_laws.proofs.Apart.{IsBound}
 use Rattle.progress_laws.proofs.Entries.{IsApart, WantsAreItems, enters_bound, enters_by, entry_wanted, others_bound, row_apart, still_bound}
-use Rattle.bus_base.proofs.Tests.{wrong, wrong', and_false, implied}
+use Rattle.bus_due.specs.bus_base.proofs.Tests.{wrong, wrong', and_false, implied}
 
 pub record AreBound (s : ScenarioValue) (p : List Row) : Type 0 where
   pub contenders : (a : Arbitration) → Arbitrating s p a → (d : ℕ) → d < 8 → IsContender s p a d → IsBound s p d

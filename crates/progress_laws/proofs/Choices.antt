@@ -1,11 +1,11 @@
 -- A queue in which a command waits has one that may run: the last HEAD OF QUEUE one, or else the first (6.6.17, 7.8.2).
 use Rattle.std.proofs.Common.{ℕ, zero, suc, ◌≡◌, ◌+◌, ◌<◌, ◌≤◌, Bool, true, false, ◌∙◌, List, [], ◌∷◌, ◌++◌, length, Option, Some, None, refl, sym, ap, subst, arith}
 use Rattle.std.specs.Prelude.{if◌then◌else◌}
-use Rattle.bus_base.specs.declared.events.Pick.{Pick}
-use Rattle.bus_base.specs.declared.events.Pick.TheVariants as picks
-use Rattle.disk_array.specs.declared.entries.Entry.{Entry}
-use Rattle.disk_array.specs.Processes.{Process}
-use Rattle.disk_array.specs.Order.{choice, chosen_place, entries_of, entry_of, is_head, last_head, last_of, may_run_after, picked_place, process_at, process_at_if, runnable_after, runnable_by}
+use Rattle.bus_due.specs.bus_base.specs.declared.events.Pick.{Pick}
+use Rattle.bus_due.specs.bus_base.specs.declared.events.Pick.TheVariants as picks
+use Rattle.bus_due.specs.disk_array.specs.declared.entries.Entry.{Entry}
+use Rattle.bus_due.specs.disk_array.specs.Processes.{Process}
+use Rattle.bus_due.specs.disk_array.specs.Order.{choice, chosen_place, entries_of, entry_of, is_head, last_head, last_of, may_run_after, picked_place, process_at, process_at_if, runnable_after, runnable_by}
 use Rattle.tag_queue.proofs.Chosen.{first_runs}
 
 -- ---- places

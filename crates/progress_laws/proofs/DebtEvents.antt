@@ -2,21 +2,21 @@
 use Rattle.std.proofs.Common.{inl, inr, ℕ, ◌≡◌, ◌⊎◌, Bool, true, false, not, ◌&&◌, ◌∙◌, List, [], ◌∷◌, ◌++◌, Option, Some, None, refl, sym, ap, subst}
 use Rattle.std.specs.Prelude.{if◌then◌else◌, ◌==◌, ⊤}
 use Rattle.std.specs.List.{list_any}
-use Rattle.bus_base.specs.declared.Event.{Event}
-use Rattle.bus_base.specs.declared.Event.TheVariants as events
-use Rattle.bus_base.specs.declared.ProcId.{ProcId}
-use Rattle.cdb_codec.specs.declared.status.TheConstants.{CHECK_CONDITION}
-use Rattle.scenario.specs.Value.{ScenarioValue}
-use Rattle.disk_array.specs.ArrayHistory.{array_step}
-use Rattle.disk_array.specs.SoundArray.{HasSeats, IsSound}
-use Rattle.disk_array.specs.Units.{Array, Nexus}
-use Rattle.disk_array.proofs.SoundArrays.{step_sound}
-use Rattle.bus_story.specs.Items.{Item, Sent, has_item, process, sense_item}
-use Rattle.bus_story.specs.Story.{Story, by_abort, by_reset, by_status, is_aborted, is_sense_stopped, story_after_event, story_after_events, story_with_end}
+use Rattle.bus_due.specs.bus_base.specs.declared.Event.{Event}
+use Rattle.bus_due.specs.bus_base.specs.declared.Event.TheVariants as events
+use Rattle.bus_due.specs.bus_base.specs.declared.ProcId.{ProcId}
+use Rattle.bus_due.specs.cdb_codec.specs.declared.status.TheConstants.{CHECK_CONDITION}
+use Rattle.bus_due.specs.scenario.specs.Value.{ScenarioValue}
+use Rattle.bus_due.specs.disk_array.specs.ArrayHistory.{array_step}
+use Rattle.bus_due.specs.disk_array.specs.SoundArray.{HasSeats, IsSound}
+use Rattle.bus_due.specs.disk_array.specs.Units.{Array, Nexus}
+use Rattle.bus_due.specs.disk_array.proofs.SoundArrays.{step_sound}
+use Rattle.bus_due.specs.bus_story.specs.Items.{Item, Sent, has_item, process, sense_item}
+use Rattle.bus_due.specs.bus_story.specs.Story.{Story, by_abort, by_reset, by_status, is_aborted, is_sense_stopped, story_after_event, story_after_events, story_with_end}
 use Rattle.bus_due.specs.RunSteps.{array_after_events}
 use Rattle.trace_laws.specs.ItemFacts.{AreChecked}
 use Rattle.trace_laws.proofs.OverItems.{ends_over, events_checked, events_grow, in_append}
-use Rattle.bus_story.proofs.StorySteps.{ends_checks}
+use Rattle.bus_due.specs.bus_story.proofs.StorySteps.{ends_checks}
 use Rattle.trace_laws.proofs.RowEvents.{AllOf, IsOf}
 use Rattle.progress_laws.proofs.DebtSteps.{debt_before, is_checked, same_debt, step_pays}
 use Rattle.progress_laws.proofs.FetchedSenses.{step_fetches}

@@ -3,32 +3,32 @@ use Rattle.std.proofs.Common.{inl, inr, ℕ, ◌≡◌, ◌⊎◌, ◌<◌, Bool
 use Rattle.std.specs.Prelude.{◌==◌, is_none, is_some, slice_index}
 use Rattle.std.specs.List.{list_any}
 use Rattle.std.proofs.lemmas.Option.{same_Some}
-use Rattle.bus_base.specs.declared.Event.TheVariants as events
-use Rattle.bus_base.specs.declared.ProcId.{ProcId}
-use Rattle.bus_base.proofs.Tests.{wrong, and_first, and_second, or_other}
-use Rattle.bus_trace.specs.declared.Row.{Row}
-use Rattle.bus_trace.specs.declared.changes.Change.{Change}
-use Rattle.bus_trace.specs.declared.connection.Connection.{Connection}
-use Rattle.bus_trace.specs.Changes.{change_of, rises}
-use Rattle.bus_trace.specs.LineSet.{LineSet}
-use Rattle.bus_trace.specs.Phases.{is_message_in}
-use Rattle.bus_trace.specs.Trace.{bus}
-use Rattle.cdb_codec.specs.declared.status.TheConstants.{GOOD}
-use Rattle.scenario.specs.declared.value.CmdDef.{CmdDef}
-use Rattle.scenario.specs.Value.{ScenarioValue}
-use Rattle.disk_array.specs.ArrayHistory.{reply_in}
-use Rattle.disk_array.specs.Execution.{Reply}
-use Rattle.disk_array.specs.Processes.{Process, command_at, process_of}
-use Rattle.disk_array.specs.Units.{nexus_of}
-use Rattle.disk_array.proofs.SoundArrays.{id_is}
-use Rattle.bus_story.specs.BusState.{RowReading, row_reading}
-use Rattle.bus_story.specs.CarriedBytes.{CarriedBytes}
-use Rattle.bus_story.specs.HistoryEvents.{carried_if, is_complete, is_completion, row_events_by}
-use Rattle.bus_story.specs.Items.{Item, Sent, command_item, has_item, process, sense_item}
-use Rattle.bus_story.specs.Links.{Link}
-use Rattle.bus_story.specs.Story.{Story}
-use Rattle.bus_story.specs.TraceHistory.{story_by_change}
-use Rattle.bus_dialogue.specs.NextPhase.{phase_of}
+use Rattle.bus_due.specs.bus_base.specs.declared.Event.TheVariants as events
+use Rattle.bus_due.specs.bus_base.specs.declared.ProcId.{ProcId}
+use Rattle.bus_due.specs.bus_base.proofs.Tests.{wrong, and_first, and_second, or_other}
+use Rattle.bus_due.specs.bus_trace.specs.declared.Row.{Row}
+use Rattle.bus_due.specs.bus_trace.specs.declared.changes.Change.{Change}
+use Rattle.bus_due.specs.bus_trace.specs.declared.connection.Connection.{Connection}
+use Rattle.bus_due.specs.bus_trace.specs.Changes.{change_of, rises}
+use Rattle.bus_due.specs.bus_trace.specs.LineSet.{LineSet}
+use Rattle.bus_due.specs.bus_trace.specs.Phases.{is_message_in}
+use Rattle.bus_due.specs.bus_trace.specs.Trace.{bus}
+use Rattle.bus_due.specs.cdb_codec.specs.declared.status.TheConstants.{GOOD}
+use Rattle.bus_due.specs.scenario.specs.declared.value.CmdDef.{CmdDef}
+use Rattle.bus_due.specs.scenario.specs.Value.{ScenarioValue}
+use Rattle.bus_due.specs.disk_array.specs.ArrayHistory.{reply_in}
+use Rattle.bus_due.specs.disk_array.specs.Execution.{Reply}
+use Rattle.bus_due.specs.disk_array.specs.Processes.{Process, command_at, process_of}
+use Rattle.bus_due.specs.disk_array.specs.Units.{nexus_of}
+use Rattle.bus_due.specs.disk_array.proofs.SoundArrays.{id_is}
+use Rattle.bus_due.specs.bus_story.specs.BusState.{RowReading, row_reading}
+use Rattle.bus_due.specs.bus_story.specs.CarriedBytes.{CarriedBytes}
+use Rattle.bus_due.specs.bus_story.specs.HistoryEvents.{carried_if, is_complete, is_completion, row_events_by}
+use Rattle.bus_due.specs.bus_story.specs.Items.{Item, Sent, command_item, has_item, process, sense_item}
+use Rattle.bus_due.specs.bus_story.specs.Links.{Link}
+use Rattle.bus_due.specs.bus_story.specs.Story.{Story}
+use Rattle.bus_due.specs.bus_story.specs.TraceHistory.{story_by_change}
+use Rattle.bus_due.specs.bus_dialogue.specs.NextPhase.{phase_of}
 use Rattle.bus_due.specs.Defs.{target_def_of}
 use Rattle.bus_due.specs.Plain.{IsPlain}
 use Rattle.bus_due.specs.RunState.{RunState, array_of, bus_of, carried_here, item_of, process_item}
@@ -37,12 +37,12 @@ use Rattle.bus_due.specs.Sights.{leaving}
 use Rattle.bus_due.specs.Tasks.{task_if}
 use Rattle.bus_due.specs.Telling.{is_true_telling, telling}
 use Rattle.bus_due.proofs.Plains.{run_state_plain}
-use Rattle.ending_causes.specs.FullQueues.{has_event}
-use Rattle.ending_causes.specs.WrongParity.{gives_up, is_failure, is_left_as_due, is_left_by, is_loss, is_past_limit, left_as_due}
-use Rattle.ending_causes.proofs.GiveUps.{failure_is, lost_calm, loss_by}
-use Rattle.bus_books.specs.Hearing.{is_in_phase}
-use Rattle.bus_books.specs.Knowing.{Knows}
-use Rattle.bus_laws.proofs.Apart.{change_plain}
+use Rattle.trace_laws.specs.bus_books.specs.FullQueues.{has_event}
+use Rattle.trace_laws.specs.bus_books.specs.WrongParity.{gives_up, is_failure, is_left_as_due, is_left_by, is_loss, is_past_limit, left_as_due}
+use Rattle.trace_laws.specs.bus_books.proofs.GiveUps.{failure_is, lost_calm, loss_by}
+use Rattle.trace_laws.specs.bus_books.specs.Hearing.{is_in_phase}
+use Rattle.trace_laws.specs.bus_books.specs.Knowing.{Knows}
+use Rattle.trace_laws.specs.bus_laws.proofs.Apart.{change_plain}
 use Rattle.trace_laws.specs.ItemFacts.{IsChecked}
 use Rattle.trace_laws.specs.ItemTalks.{TalksBy, awaits, talk_of}
 use Rattle.trace_laws.specs.Statuses.{IsStatusOf}

@@ -4,42 +4,42 @@ use Rattle.std.proofs.Common.{ℕ, ◌≡◌, Bool, true, false, not, ◌&&◌, 
 use Rattle.std.specs.Prelude.{if◌then◌else◌, ◌==◌, is_some, nat_lt, slice_index, ⊤}
 use Rattle.std.specs.List.{list_any}
 use Rattle.std.proofs.lemmas.Bool.{or_left, or_right}
-use Rattle.bus_base.specs.declared.Event.{Event}
-use Rattle.bus_base.specs.declared.Event.TheVariants as events
-use Rattle.bus_base.specs.declared.ProcId.{ProcId}
-use Rattle.bus_base.proofs.Tests.{wrong', and_first, and_second, eq_self}
-use Rattle.bus_trace.specs.declared.Row.{Row}
-use Rattle.bus_trace.specs.declared.changes.Change.{Change}
-use Rattle.bus_trace.specs.declared.connection.Connection.{Connection}
-use Rattle.bus_trace.specs.Changes.{rises}
-use Rattle.bus_trace.specs.Phases.{changes_phase, is_command}
-use Rattle.scenario.specs.declared.value.AbortDef.{AbortDef}
-use Rattle.scenario.specs.declared.value.TargetDef.{TargetDef}
-use Rattle.scenario.specs.Value.{ScenarioValue}
-use Rattle.disk_array.specs.ArrayHistory.{array_after}
-use Rattle.disk_array.specs.Processes.{same_id}
-use Rattle.bus_story.specs.BusState.{RowReading, row_reading}
-use Rattle.bus_story.specs.CarriedBytes.{CarriedBytes, is_status_phase, is_whole_block}
-use Rattle.bus_story.specs.HistoryEvents.{abort_line_at, abort_line_events, bus_free_events, carried_if, end_events, is_completion, is_refuse, item_abort_events, item_loss_events, link_events, phase_events, queue_event, queue_events, row_events_by, status_event, status_events}
-use Rattle.bus_story.specs.Items.{Item, abort, process}
-use Rattle.bus_story.specs.Links.{LastMessage, Link, abortive, complete, disconnect, plain}
-use Rattle.bus_story.specs.Story.{Story}
-use Rattle.bus_dialogue.specs.declared.exchange.Cause.{Cause}
-use Rattle.bus_dialogue.specs.declared.exchange.Cause.TheVariants as causes
-use Rattle.bus_dialogue.specs.declared.exchange.Phase.{Phase}
-use Rattle.bus_dialogue.specs.declared.exchange.Phase.TheVariants as phases
-use Rattle.bus_dialogue.specs.declared.exchange.Task.{Task}
-use Rattle.bus_dialogue.specs.NextPhase.{phase_of, recovery_limit}
+use Rattle.bus_due.specs.bus_base.specs.declared.Event.{Event}
+use Rattle.bus_due.specs.bus_base.specs.declared.Event.TheVariants as events
+use Rattle.bus_due.specs.bus_base.specs.declared.ProcId.{ProcId}
+use Rattle.bus_due.specs.bus_base.proofs.Tests.{wrong', and_first, and_second, eq_self}
+use Rattle.bus_due.specs.bus_trace.specs.declared.Row.{Row}
+use Rattle.bus_due.specs.bus_trace.specs.declared.changes.Change.{Change}
+use Rattle.bus_due.specs.bus_trace.specs.declared.connection.Connection.{Connection}
+use Rattle.bus_due.specs.bus_trace.specs.Changes.{rises}
+use Rattle.bus_due.specs.bus_trace.specs.Phases.{changes_phase, is_command}
+use Rattle.bus_due.specs.scenario.specs.declared.value.AbortDef.{AbortDef}
+use Rattle.bus_due.specs.scenario.specs.declared.value.TargetDef.{TargetDef}
+use Rattle.bus_due.specs.scenario.specs.Value.{ScenarioValue}
+use Rattle.bus_due.specs.disk_array.specs.ArrayHistory.{array_after}
+use Rattle.bus_due.specs.disk_array.specs.Processes.{same_id}
+use Rattle.bus_due.specs.bus_story.specs.BusState.{RowReading, row_reading}
+use Rattle.bus_due.specs.bus_story.specs.CarriedBytes.{CarriedBytes, is_status_phase, is_whole_block}
+use Rattle.bus_due.specs.bus_story.specs.HistoryEvents.{abort_line_at, abort_line_events, bus_free_events, carried_if, end_events, is_completion, is_refuse, item_abort_events, item_loss_events, link_events, phase_events, queue_event, queue_events, row_events_by, status_event, status_events}
+use Rattle.bus_due.specs.bus_story.specs.Items.{Item, abort, process}
+use Rattle.bus_due.specs.bus_story.specs.Links.{LastMessage, Link, abortive, complete, disconnect, plain}
+use Rattle.bus_due.specs.bus_story.specs.Story.{Story}
+use Rattle.bus_due.specs.bus_dialogue.specs.declared.exchange.Cause.{Cause}
+use Rattle.bus_due.specs.bus_dialogue.specs.declared.exchange.Cause.TheVariants as causes
+use Rattle.bus_due.specs.bus_dialogue.specs.declared.exchange.Phase.{Phase}
+use Rattle.bus_due.specs.bus_dialogue.specs.declared.exchange.Phase.TheVariants as phases
+use Rattle.bus_due.specs.bus_dialogue.specs.declared.exchange.Task.{Task}
+use Rattle.bus_due.specs.bus_dialogue.specs.NextPhase.{phase_of, recovery_limit}
 use Rattle.bus_due.specs.Defs.{target_def_of}
 use Rattle.bus_due.specs.Faithful.{same_process}
 use Rattle.bus_due.specs.RunState.{RunState, bus_of}
 use Rattle.bus_due.specs.RunSteps.{run_state}
 use Rattle.bus_due.specs.Tasks.{task_of}
 use Rattle.bus_due.specs.Telling.{same_event}
-use Rattle.ending_causes.specs.FullQueues.{has_event}
-use Rattle.ending_causes.specs.WrongParity.{gives_up, is_failure, is_loss, is_past_limit, leaves_wrong_phase, is_struck_phase, is_left, is_wrong_phase, serves, wrong_phases}
-use Rattle.bus_books.specs.Hearing.{is_in_phase}
-use Rattle.bus_books.proofs.Lookups.{self_id}
+use Rattle.trace_laws.specs.bus_books.specs.FullQueues.{has_event}
+use Rattle.trace_laws.specs.bus_books.specs.WrongParity.{gives_up, is_failure, is_loss, is_past_limit, leaves_wrong_phase, is_struck_phase, is_left, is_wrong_phase, serves, wrong_phases}
+use Rattle.trace_laws.specs.bus_books.specs.Hearing.{is_in_phase}
+use Rattle.trace_laws.specs.bus_books.proofs.Lookups.{self_id}
 use Rattle.trace_laws.proofs.OpenCommands.{item_is}
 use Rattle.trace_laws.proofs.RowEvents.{AllOf}
 use Rattle.progress_laws.proofs.DebtEvents.{AllPay}

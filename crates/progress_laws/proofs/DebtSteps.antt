@@ -5,30 +5,30 @@ use Rattle.std.specs.Prelude.{if◌then◌else◌, ◌==◌, is_some}
 use Rattle.std.specs.List.{list_any}
 use Rattle.std.proofs.lemmas.Bool.{eqb-true, not-true, or_cases}
 use Rattle.std.proofs.lemmas.Option.{same_Some}
-use Rattle.bus_base.specs.declared.AbortKind.{AbortKind}
-use Rattle.bus_base.specs.declared.AbortKind.TheVariants as aborts
-use Rattle.bus_base.specs.declared.Event.{Event}
-use Rattle.bus_base.specs.declared.Event.TheVariants as events
-use Rattle.bus_base.specs.declared.ProcId.{ProcId}
-use Rattle.bus_base.proofs.Tests.{wrong, and_first, and_second, or_second}
-use Rattle.cdb_codec.specs.Cdb.{command_of}
-use Rattle.cdb_codec.specs.declared.sense.TheConstants.{ABORTED_COMMAND}
-use Rattle.cdb_codec.specs.declared.status.TheConstants.{GOOD, CHECK_CONDITION}
-use Rattle.scenario.specs.declared.value.CmdDef.{CmdDef}
-use Rattle.scenario.specs.Value.{ScenarioValue}
-use Rattle.disk_array.specs.Execution.{Reply, check_condition, is_request_sense, sense_of}
-use Rattle.disk_array.specs.Processes.{Process, command_at, process_of, same_bool}
-use Rattle.disk_array.specs.Seats.{in_hold}
-use Rattle.disk_array.specs.SoundArray.{IsSound}
-use Rattle.disk_array.specs.Steps as Steps
-use Rattle.disk_array.specs.Units.{Array, Nexus, guest_at, nexus_of, nexuses_without, same_nexus, senses_without, unit_state_at}
-use Rattle.disk_array.proofs.SeatLookups.{nexus_put_at, nexuses_without_at, same_nexus_is}
-use Rattle.bus_story.specs.Items.{Item, Sent, command_item, has_item, is_open, process, same_item, sense_item}
-use Rattle.bus_story.specs.Story.{Ending, Story, by_abort, by_reset, by_status, is_aborted, is_sense_stopped, story_after_event, story_with_end, story_with_ends, story_with_over}
-use Rattle.ending_causes.proofs.Senses.{self_nexus}
+use Rattle.bus_due.specs.bus_base.specs.declared.AbortKind.{AbortKind}
+use Rattle.bus_due.specs.bus_base.specs.declared.AbortKind.TheVariants as aborts
+use Rattle.bus_due.specs.bus_base.specs.declared.Event.{Event}
+use Rattle.bus_due.specs.bus_base.specs.declared.Event.TheVariants as events
+use Rattle.bus_due.specs.bus_base.specs.declared.ProcId.{ProcId}
+use Rattle.bus_due.specs.bus_base.proofs.Tests.{wrong, and_first, and_second, or_second}
+use Rattle.bus_due.specs.cdb_codec.specs.Cdb.{command_of}
+use Rattle.bus_due.specs.cdb_codec.specs.declared.sense.TheConstants.{ABORTED_COMMAND}
+use Rattle.bus_due.specs.cdb_codec.specs.declared.status.TheConstants.{GOOD, CHECK_CONDITION}
+use Rattle.bus_due.specs.scenario.specs.declared.value.CmdDef.{CmdDef}
+use Rattle.bus_due.specs.scenario.specs.Value.{ScenarioValue}
+use Rattle.bus_due.specs.disk_array.specs.Execution.{Reply, check_condition, is_request_sense, sense_of}
+use Rattle.bus_due.specs.disk_array.specs.Processes.{Process, command_at, process_of, same_bool}
+use Rattle.bus_due.specs.disk_array.specs.Seats.{in_hold}
+use Rattle.bus_due.specs.disk_array.specs.SoundArray.{IsSound}
+use Rattle.bus_due.specs.disk_array.specs.Steps as Steps
+use Rattle.bus_due.specs.disk_array.specs.Units.{Array, Nexus, guest_at, nexus_of, nexuses_without, same_nexus, senses_without, unit_state_at}
+use Rattle.bus_due.specs.disk_array.proofs.SeatLookups.{nexus_put_at, nexuses_without_at, same_nexus_is}
+use Rattle.bus_due.specs.bus_story.specs.Items.{Item, Sent, command_item, has_item, is_open, process, same_item, sense_item}
+use Rattle.bus_due.specs.bus_story.specs.Story.{Ending, Story, by_abort, by_reset, by_status, is_aborted, is_sense_stopped, story_after_event, story_with_end, story_with_ends, story_with_over}
+use Rattle.trace_laws.specs.bus_books.proofs.Senses.{self_nexus}
 use Rattle.trace_laws.specs.ItemFacts.{AreChecked}
 use Rattle.trace_laws.proofs.OverItems.{ends_senses, events_grow, in_append, later, not_grown}
-use Rattle.bus_story.proofs.StorySteps.{ends_checks}
+use Rattle.bus_due.specs.bus_story.proofs.StorySteps.{ends_checks}
 use Rattle.trace_laws.proofs.SentItems.{more_has, own_has}
 use Rattle.progress_laws.proofs.Owed.{all_reset_holds, cleared_holds, command_apart, nexus_at}
 use Rattle.progress_laws.proofs.OwedEvents.{IfHolds, OfCommand, accepted, ended_so, failed, if_none, if_settled, no_check, other_over, refused, run}

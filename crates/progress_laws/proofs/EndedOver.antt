@@ -1,36 +1,36 @@
 -- What has ended in the plain disk array is over, after any rows.
 use Rattle.std.proofs.Common.{ℕ, ◌≡◌, Bool, true, false, not, ◌&&◌, ◌||◌, ◌∙◌, List, [], ◌∷◌, Option, Some, None, refl, sym, ap, subst}
 use Rattle.std.specs.Prelude.{if◌then◌else◌, ◌==◌, is_none, is_some, nat_lt, ⊤}
-use Rattle.bus_base.specs.declared.AbortKind.{AbortKind}
-use Rattle.bus_base.specs.declared.AbortKind.TheVariants as aborts
-use Rattle.bus_base.specs.declared.Event.{Event}
-use Rattle.bus_base.specs.declared.Event.TheVariants as events
-use Rattle.bus_base.specs.declared.ProcId.{ProcId}
-use Rattle.cdb_codec.specs.declared.sense.TheConstants.{ABORTED_COMMAND}
-use Rattle.cdb_codec.specs.declared.status.TheConstants.{GOOD, CHECK_CONDITION}
-use Rattle.cdb_codec.specs.Cdb.{command_of}
-use Rattle.scenario.specs.declared.value.HostDef.{HostDef}
-use Rattle.scenario.specs.Value.{ScenarioValue}
-use Rattle.disk_array.specs.Execution.{Execution, Reply, check_condition, execution, is_request_sense, sense_of}
-use Rattle.disk_array.specs.ArrayHistory.{array_step}
-use Rattle.disk_array.specs.Processes.{Process, process_of, same_id}
-use Rattle.disk_array.specs.Steps as Steps
-use Rattle.disk_array.specs.Steps.{has_ended}
-use Rattle.disk_array.specs.Units.{Array, RunningProcess, UnitState, guest_at, is_held, nexus_of, nexuses_without, senses_without, unit_state_at}
-use Rattle.bus_story.specs.Items.{Item, has_item, process}
-use Rattle.bus_story.specs.BusState.{RowReading, row_reading}
-use Rattle.bus_story.specs.HistoryEvents.{row_events_by}
-use Rattle.bus_story.specs.Story.{Story, story_after_event, story_after_events}
-use Rattle.bus_story.specs.TraceHistory.{story_by_change}
-use Rattle.bus_trace.specs.declared.Row.{Row}
+use Rattle.bus_due.specs.bus_base.specs.declared.AbortKind.{AbortKind}
+use Rattle.bus_due.specs.bus_base.specs.declared.AbortKind.TheVariants as aborts
+use Rattle.bus_due.specs.bus_base.specs.declared.Event.{Event}
+use Rattle.bus_due.specs.bus_base.specs.declared.Event.TheVariants as events
+use Rattle.bus_due.specs.bus_base.specs.declared.ProcId.{ProcId}
+use Rattle.bus_due.specs.cdb_codec.specs.declared.sense.TheConstants.{ABORTED_COMMAND}
+use Rattle.bus_due.specs.cdb_codec.specs.declared.status.TheConstants.{GOOD, CHECK_CONDITION}
+use Rattle.bus_due.specs.cdb_codec.specs.Cdb.{command_of}
+use Rattle.bus_due.specs.scenario.specs.declared.value.HostDef.{HostDef}
+use Rattle.bus_due.specs.scenario.specs.Value.{ScenarioValue}
+use Rattle.bus_due.specs.disk_array.specs.Execution.{Execution, Reply, check_condition, execution, is_request_sense, sense_of}
+use Rattle.bus_due.specs.disk_array.specs.ArrayHistory.{array_step}
+use Rattle.bus_due.specs.disk_array.specs.Processes.{Process, process_of, same_id}
+use Rattle.bus_due.specs.disk_array.specs.Steps as Steps
+use Rattle.bus_due.specs.disk_array.specs.Steps.{has_ended}
+use Rattle.bus_due.specs.disk_array.specs.Units.{Array, RunningProcess, UnitState, guest_at, is_held, nexus_of, nexuses_without, senses_without, unit_state_at}
+use Rattle.bus_due.specs.bus_story.specs.Items.{Item, has_item, process}
+use Rattle.bus_due.specs.bus_story.specs.BusState.{RowReading, row_reading}
+use Rattle.bus_due.specs.bus_story.specs.HistoryEvents.{row_events_by}
+use Rattle.bus_due.specs.bus_story.specs.Story.{Story, story_after_event, story_after_events}
+use Rattle.bus_due.specs.bus_story.specs.TraceHistory.{story_by_change}
+use Rattle.bus_due.specs.bus_trace.specs.declared.Row.{Row}
 use Rattle.bus_due.specs.RunState.{RunState}
 use Rattle.bus_due.specs.RunSteps.{array_after_events, run_state}
-use Rattle.bus_books.proofs.Lookups.{id_is}
+use Rattle.trace_laws.specs.bus_books.proofs.Lookups.{id_is}
 use Rattle.std.specs.List.{list_any}
 use Rattle.trace_laws.proofs.OverItems.{ends_over, events_grow, lost_over}
 use Rattle.trace_laws.proofs.PointerWaits.{change_over}
 use Rattle.trace_laws.proofs.ListedReplies.{running_id}
-use Rattle.bus_base.proofs.Tests.{wrong}
+use Rattle.bus_due.specs.bus_base.proofs.Tests.{wrong}
 
 -- ---- of a list of what has ended
 

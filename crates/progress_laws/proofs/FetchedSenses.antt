@@ -2,25 +2,25 @@
 use Rattle.std.proofs.Common.{ℕ, ◌≡◌, Bool, true, false, not, ◌&&◌, ◌||◌, ◌∙◌, List, ◌∷◌, Option, Some, None, refl, sym, ap, subst}
 use Rattle.std.specs.Prelude.{if◌then◌else◌, ◌==◌, is_none, is_some}
 use Rattle.std.proofs.lemmas.Option.{same_Some}
-use Rattle.bus_base.specs.declared.Event.{Event}
-use Rattle.bus_base.specs.declared.Event.TheVariants as events
-use Rattle.bus_base.specs.declared.ProcId.{ProcId}
-use Rattle.bus_base.proofs.Tests.{wrong, wrong', and_second}
-use Rattle.cdb_codec.specs.Cdb.{command_of}
-use Rattle.cdb_codec.specs.declared.Sense.{Sense}
-use Rattle.cdb_codec.specs.declared.sense.TheConstants.{ABORTED_COMMAND}
-use Rattle.cdb_codec.specs.declared.status.TheConstants.{GOOD}
-use Rattle.scenario.specs.declared.value.CmdDef.{CmdDef}
-use Rattle.scenario.specs.Value.{ScenarioValue}
-use Rattle.disk_array.specs.ArrayHistory.{reply_in}
-use Rattle.disk_array.specs.Execution.{CommandContext, Reply, attention_execution, check_condition, execution, is_request_sense, needs_unit, queue_full, reply_execution, sense_of, unit_not_supported}
-use Rattle.disk_array.specs.Processes.{Process, process_by, process_if, process_of, command_at, same_bool, same_id, sense_block}
-use Rattle.disk_array.specs.SoundArray.{IsSound}
-use Rattle.disk_array.specs.Steps as Steps
-use Rattle.disk_array.specs.Units.{Array, RunningProcess, UnitState, guest_at, is_held, nexus_of, unit_state_at}
-use Rattle.disk_array.proofs.ArrayReplies.{abort_lists, fail_lists, loss_lists, reset_lists, took, end_lists}
-use Rattle.disk_array.proofs.SoundArrays.{id_is}
-use Rattle.bus_story.specs.Items.{Sent, sense_id}
+use Rattle.bus_due.specs.bus_base.specs.declared.Event.{Event}
+use Rattle.bus_due.specs.bus_base.specs.declared.Event.TheVariants as events
+use Rattle.bus_due.specs.bus_base.specs.declared.ProcId.{ProcId}
+use Rattle.bus_due.specs.bus_base.proofs.Tests.{wrong, wrong', and_second}
+use Rattle.bus_due.specs.cdb_codec.specs.Cdb.{command_of}
+use Rattle.bus_due.specs.cdb_codec.specs.declared.Sense.{Sense}
+use Rattle.bus_due.specs.cdb_codec.specs.declared.sense.TheConstants.{ABORTED_COMMAND}
+use Rattle.bus_due.specs.cdb_codec.specs.declared.status.TheConstants.{GOOD}
+use Rattle.bus_due.specs.scenario.specs.declared.value.CmdDef.{CmdDef}
+use Rattle.bus_due.specs.scenario.specs.Value.{ScenarioValue}
+use Rattle.bus_due.specs.disk_array.specs.ArrayHistory.{reply_in}
+use Rattle.bus_due.specs.disk_array.specs.Execution.{CommandContext, Reply, attention_execution, check_condition, execution, is_request_sense, needs_unit, queue_full, reply_execution, sense_of, unit_not_supported}
+use Rattle.bus_due.specs.disk_array.specs.Processes.{Process, process_by, process_if, process_of, command_at, same_bool, same_id, sense_block}
+use Rattle.bus_due.specs.disk_array.specs.SoundArray.{IsSound}
+use Rattle.bus_due.specs.disk_array.specs.Steps as Steps
+use Rattle.bus_due.specs.disk_array.specs.Units.{Array, RunningProcess, UnitState, guest_at, is_held, nexus_of, unit_state_at}
+use Rattle.bus_due.specs.disk_array.proofs.ArrayReplies.{abort_lists, fail_lists, loss_lists, reset_lists, took, end_lists}
+use Rattle.bus_due.specs.disk_array.proofs.SoundArrays.{id_is}
+use Rattle.bus_due.specs.bus_story.specs.Items.{Sent, sense_id}
 use Rattle.trace_laws.proofs.ListedReplies.{accepted, settles, running_id}
 use Rattle.trace_laws.proofs.OtherProcesses.{executed, reply_at}
 use Rattle.progress_laws.proofs.OwedEvents.{running_own}

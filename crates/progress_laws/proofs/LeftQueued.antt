@@ -1,22 +1,22 @@
 -- A command whose connection ends, and which is open after it, was disconnected: it was not lost, and did not end (6.6.5, 6.6.6).
 use Rattle.std.proofs.Common.{inl, inr, ℕ, ◌≡◌, ◌⊎◌, Bool, true, false, ◌∙◌, List, [], ◌∷◌, Some, None, refl, sym, ap, subst}
-use Rattle.bus_base.specs.declared.Event.TheVariants as events
-use Rattle.bus_base.specs.declared.Event.{Event}
-use Rattle.bus_trace.specs.declared.Row.{Row}
-use Rattle.bus_trace.specs.declared.connection.Connection.{Connection}
-use Rattle.msg_grammar.specs.declared.message.MsgIn.TheVariants as to_initiator
-use Rattle.scenario.specs.Value.{ScenarioValue}
-use Rattle.disk_array.specs.Processes.{Process}
-use Rattle.bus_story.specs.BusState.{row_reading}
-use Rattle.bus_story.specs.HistoryEvents.{bus_free_events, item_loss_events, row_events_by}
-use Rattle.bus_story.specs.Items.{command_item, is_open, command_id}
-use Rattle.bus_story.specs.Links.{Link, plain}
-use Rattle.bus_story.specs.Story.{Story, story_after_events}
-use Rattle.bus_story.specs.TraceHistory.{story_by_change}
-use Rattle.bus_dialogue.specs.Exchange.{one_message}
-use Rattle.bus_dialogue.specs.NextPhase.{phase_of}
-use Rattle.bus_dialogue.specs.declared.exchange.Phase.TheVariants as phases
-use Rattle.bus_dialogue.specs.declared.exchange.Phase.{Phase}
+use Rattle.bus_due.specs.bus_base.specs.declared.Event.TheVariants as events
+use Rattle.bus_due.specs.bus_base.specs.declared.Event.{Event}
+use Rattle.bus_due.specs.bus_trace.specs.declared.Row.{Row}
+use Rattle.bus_due.specs.bus_trace.specs.declared.connection.Connection.{Connection}
+use Rattle.bus_due.specs.msg_grammar.specs.declared.message.MsgIn.TheVariants as to_initiator
+use Rattle.bus_due.specs.scenario.specs.Value.{ScenarioValue}
+use Rattle.bus_due.specs.disk_array.specs.Processes.{Process}
+use Rattle.bus_due.specs.bus_story.specs.BusState.{row_reading}
+use Rattle.bus_due.specs.bus_story.specs.HistoryEvents.{bus_free_events, item_loss_events, row_events_by}
+use Rattle.bus_due.specs.bus_story.specs.Items.{command_item, is_open, command_id}
+use Rattle.bus_due.specs.bus_story.specs.Links.{Link, plain}
+use Rattle.bus_due.specs.bus_story.specs.Story.{Story, story_after_events}
+use Rattle.bus_due.specs.bus_story.specs.TraceHistory.{story_by_change}
+use Rattle.bus_due.specs.bus_dialogue.specs.Exchange.{one_message}
+use Rattle.bus_due.specs.bus_dialogue.specs.NextPhase.{phase_of}
+use Rattle.bus_due.specs.bus_dialogue.specs.declared.exchange.Phase.TheVariants as phases
+use Rattle.bus_due.specs.bus_dialogue.specs.declared.exchange.Phase.{Phase}
 use Rattle.bus_due.specs.RunState.{RunState, bus_of, process_served}
 use Rattle.bus_due.specs.RunSteps.{run_state_after}
 use Rattle.trace_laws.specs.Places.{Closes, HasPlaces, IsTaken, PlacedBefore, PlacedIf, PlacedIn, completes, disconnects, is_queued}

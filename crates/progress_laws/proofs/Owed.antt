@@ -4,20 +4,20 @@ use Rattle.std.proofs.Common.{ℕ, suc, ◌≡◌, ◌+◌, Bool, true, false, �
 use Rattle.std.specs.Prelude.{if◌then◌else◌, ◌==◌}
 use Rattle.std.specs.List.{list_any}
 use Rattle.std.proofs.lemmas.Option.{same_Some}
-use Rattle.bus_base.specs.declared.AbortKind.{AbortKind}
-use Rattle.bus_base.specs.declared.AbortKind.TheVariants as aborts
-use Rattle.scenario.specs.declared.value.CmdDef.{CmdDef}
-use Rattle.scenario.specs.declared.value.HostDef.{HostDef}
-use Rattle.scenario.specs.Value.{ScenarioValue}
-use Rattle.disk_array.specs.Processes.{Process, command_at, same_bool}
-use Rattle.disk_array.specs.Steps as Steps
-use Rattle.disk_array.specs.Units.{Array, Nexus, UnitState, nexus_of, nexuses_without, same_nexus, unit_state_at}
-use Rattle.bus_story.specs.Items.{Sent, command_item, has_item, is_open, same_item, sense_item}
-use Rattle.bus_story.specs.Story.{Ending, Story, by_abort, is_aborted, is_sense_stopped, story_with_end, story_with_ends, story_with_over}
+use Rattle.bus_due.specs.bus_base.specs.declared.AbortKind.{AbortKind}
+use Rattle.bus_due.specs.bus_base.specs.declared.AbortKind.TheVariants as aborts
+use Rattle.bus_due.specs.scenario.specs.declared.value.CmdDef.{CmdDef}
+use Rattle.bus_due.specs.scenario.specs.declared.value.HostDef.{HostDef}
+use Rattle.bus_due.specs.scenario.specs.Value.{ScenarioValue}
+use Rattle.bus_due.specs.disk_array.specs.Processes.{Process, command_at, same_bool}
+use Rattle.bus_due.specs.disk_array.specs.Steps as Steps
+use Rattle.bus_due.specs.disk_array.specs.Units.{Array, Nexus, UnitState, nexus_of, nexuses_without, same_nexus, unit_state_at}
+use Rattle.bus_due.specs.bus_story.specs.Items.{Sent, command_item, has_item, is_open, same_item, sense_item}
+use Rattle.bus_due.specs.bus_story.specs.Story.{Ending, Story, by_abort, is_aborted, is_sense_stopped, story_with_end, story_with_ends, story_with_over}
 use Rattle.progress_laws.specs.Queued.{AreOwed, IsOwed}
 use Rattle.std.proofs.lemmas.Bool.{eqb-true, or_from}
-use Rattle.bus_base.proofs.Tests.{wrong, and_first, and_true}
-use Rattle.bus_story.proofs.StorySteps.{ends_checks}
+use Rattle.bus_due.specs.bus_base.proofs.Tests.{wrong, and_first, and_true}
+use Rattle.bus_due.specs.bus_story.proofs.StorySteps.{ends_checks}
 
 -- ---- what stays owed
 

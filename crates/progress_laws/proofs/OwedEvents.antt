@@ -4,30 +4,30 @@ use Rattle.std.proofs.Common.{ℕ, ◌≡◌, Bool, true, false, not, ◌&&◌, 
 use Rattle.std.specs.Prelude.{if◌then◌else◌, ◌==◌, is_none, is_some, nat_lt, ⊤}
 use Rattle.std.specs.List.{list_any}
 use Rattle.std.proofs.lemmas.Option.{same_Some}
-use Rattle.bus_base.specs.declared.Event.{Event}
-use Rattle.bus_base.specs.declared.Event.TheVariants as events
-use Rattle.bus_base.specs.declared.ProcId.{ProcId}
-use Rattle.cdb_codec.specs.declared.sense.TheConstants.{ABORTED_COMMAND}
-use Rattle.cdb_codec.specs.declared.status.TheConstants.{GOOD, CHECK_CONDITION}
-use Rattle.cdb_codec.specs.Cdb.{command_of}
-use Rattle.scenario.specs.declared.value.CmdDef.{CmdDef}
-use Rattle.scenario.specs.Value.{ScenarioValue}
-use Rattle.disk_array.specs.Execution.{Reply, check_condition, is_request_sense, sense_of}
-use Rattle.disk_array.specs.Processes.{Process, command_at, process_by, process_if, process_of, same_bool}
-use Rattle.disk_array.specs.SoundArray.{IsSound}
-use Rattle.disk_array.specs.Steps as Steps
-use Rattle.disk_array.specs.Steps.{running_if}
-use Rattle.disk_array.specs.Units.{Array, Nexus, RunningProcess, UnitState, guest_at, is_held, nexus_of, nexuses_without, same_nexus, senses_without, unit_state_at}
-use Rattle.bus_story.specs.Items.{Item, Sent, has_item, process, same_item, sense_item}
-use Rattle.bus_story.specs.Story.{Story, by_status, story_after_event, story_with_end}
+use Rattle.bus_due.specs.bus_base.specs.declared.Event.{Event}
+use Rattle.bus_due.specs.bus_base.specs.declared.Event.TheVariants as events
+use Rattle.bus_due.specs.bus_base.specs.declared.ProcId.{ProcId}
+use Rattle.bus_due.specs.cdb_codec.specs.declared.sense.TheConstants.{ABORTED_COMMAND}
+use Rattle.bus_due.specs.cdb_codec.specs.declared.status.TheConstants.{GOOD, CHECK_CONDITION}
+use Rattle.bus_due.specs.cdb_codec.specs.Cdb.{command_of}
+use Rattle.bus_due.specs.scenario.specs.declared.value.CmdDef.{CmdDef}
+use Rattle.bus_due.specs.scenario.specs.Value.{ScenarioValue}
+use Rattle.bus_due.specs.disk_array.specs.Execution.{Reply, check_condition, is_request_sense, sense_of}
+use Rattle.bus_due.specs.disk_array.specs.Processes.{Process, command_at, process_by, process_if, process_of, same_bool}
+use Rattle.bus_due.specs.disk_array.specs.SoundArray.{IsSound}
+use Rattle.bus_due.specs.disk_array.specs.Steps as Steps
+use Rattle.bus_due.specs.disk_array.specs.Steps.{running_if}
+use Rattle.bus_due.specs.disk_array.specs.Units.{Array, Nexus, RunningProcess, UnitState, guest_at, is_held, nexus_of, nexuses_without, same_nexus, senses_without, unit_state_at}
+use Rattle.bus_due.specs.bus_story.specs.Items.{Item, Sent, has_item, process, same_item, sense_item}
+use Rattle.bus_due.specs.bus_story.specs.Story.{Story, by_status, story_after_event, story_with_end}
 use Rattle.progress_laws.proofs.Owed.{aborts_owe, owed_all, owed_without, reset_owes}
 use Rattle.progress_laws.specs.Queued.{AreOwed, IsOwed}
 use Rattle.std.proofs.lemmas.Bool.{eqb-true, or_from}
-use Rattle.bus_base.proofs.Tests.{wrong, eq_self}
+use Rattle.bus_due.specs.bus_base.proofs.Tests.{wrong, eq_self}
 use Rattle.trace_laws.proofs.OtherProcesses.{executed}
 use Rattle.trace_laws.proofs.OverItems.{later}
 use Rattle.trace_laws.proofs.ListedReplies.{running_id}
-use Rattle.ending_causes.proofs.Senses.{running_own as own_process}
+use Rattle.trace_laws.specs.bus_books.proofs.Senses.{running_own as own_process}
 
 -- An automatic REQUEST SENSE that ends does so with GOOD, and none is lost; and that of a command is not over as the command ends.
 abbrev pub EndsWell : Story → Event → Type 0

@@ -3,23 +3,23 @@ use Rattle.std.proofs.Common.{ℕ, ◌≡◌, Bool, true, false, not, ◌&&◌, 
 use Rattle.std.specs.Prelude.{if◌then◌else◌, ◌==◌, is_none, nat_lt, ⊤}
 use Rattle.std.specs.List.{list_any}
 use Rattle.std.proofs.lemmas.Option.{same_Some}
-use Rattle.bus_base.specs.declared.Event.{Event}
-use Rattle.bus_trace.specs.declared.Row.{Row}
-use Rattle.bus_trace.specs.declared.connection.Connection.{Connection}
-use Rattle.bus_trace.specs.declared.selection.Call.{Call}
-use Rattle.bus_trace.specs.declared.selection.Calling.{Calling}
-use Rattle.bus_trace.specs.Changes.{falls}
-use Rattle.scenario.specs.Value.{ScenarioValue}
-use Rattle.disk_array.specs.ArrayHistory.{array_step}
-use Rattle.disk_array.specs.SoundArray.{HasSeats, IsSound}
-use Rattle.disk_array.specs.Units.{Array, Nexus}
-use Rattle.disk_array.proofs.SoundArrays.{step_sound}
-use Rattle.bus_story.specs.BusState.{RowReading, row_reading}
-use Rattle.bus_story.specs.HistoryEvents.{row_events_by}
-use Rattle.bus_story.specs.Items.{Item, Sent, abort, count_item, has_item, process, sense_item}
-use Rattle.bus_story.specs.Links.{link_of}
-use Rattle.bus_story.specs.Story.{Story, story_after_event, story_after_events}
-use Rattle.bus_story.specs.TraceHistory.{aim_of, is_arbitration_entry, is_counted, retries_of, story_after_calling, story_after_calling_by, story_after_connection, story_by_change, story_on_bus, story_on_free_bus, story_with_aim, story_with_restored, story_with_sent, story_with_try, story_without_answer}
+use Rattle.bus_due.specs.bus_base.specs.declared.Event.{Event}
+use Rattle.bus_due.specs.bus_trace.specs.declared.Row.{Row}
+use Rattle.bus_due.specs.bus_trace.specs.declared.connection.Connection.{Connection}
+use Rattle.bus_due.specs.bus_trace.specs.declared.selection.Call.{Call}
+use Rattle.bus_due.specs.bus_trace.specs.declared.selection.Calling.{Calling}
+use Rattle.bus_due.specs.bus_trace.specs.Changes.{falls}
+use Rattle.bus_due.specs.scenario.specs.Value.{ScenarioValue}
+use Rattle.bus_due.specs.disk_array.specs.ArrayHistory.{array_step}
+use Rattle.bus_due.specs.disk_array.specs.SoundArray.{HasSeats, IsSound}
+use Rattle.bus_due.specs.disk_array.specs.Units.{Array, Nexus}
+use Rattle.bus_due.specs.disk_array.proofs.SoundArrays.{step_sound}
+use Rattle.bus_due.specs.bus_story.specs.BusState.{RowReading, row_reading}
+use Rattle.bus_due.specs.bus_story.specs.HistoryEvents.{row_events_by}
+use Rattle.bus_due.specs.bus_story.specs.Items.{Item, Sent, abort, count_item, has_item, process, sense_item}
+use Rattle.bus_due.specs.bus_story.specs.Links.{link_of}
+use Rattle.bus_due.specs.bus_story.specs.Story.{Story, story_after_event, story_after_events}
+use Rattle.bus_due.specs.bus_story.specs.TraceHistory.{aim_of, is_arbitration_entry, is_counted, retries_of, story_after_calling, story_after_calling_by, story_after_connection, story_by_change, story_on_bus, story_on_free_bus, story_with_aim, story_with_restored, story_with_sent, story_with_try, story_without_answer}
 use Rattle.bus_due.specs.RunState.{RunState, array_of, or_start}
 use Rattle.bus_due.specs.RunSteps.{array_after_events, run_state}
 use Rattle.progress_laws.proofs.Owed.{owed_all}

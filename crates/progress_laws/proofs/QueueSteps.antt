@@ -3,27 +3,27 @@ use Rattle.std.proofs.Common.{ℕ, zero, suc, ◌≡◌, ◌+◌, Bool, true, fa
 use Rattle.std.specs.Prelude.{if◌then◌else◌, ◌==◌, is_none, is_some, nat_lt, ⊤}
 use Rattle.std.specs.List.{list_any}
 use Rattle.std.proofs.lemmas.Option.{same_Some}
-use Rattle.bus_base.specs.declared.AbortKind.{AbortKind}
-use Rattle.bus_base.specs.declared.AbortKind.TheVariants as aborts
-use Rattle.bus_base.specs.declared.Event.{Event}
-use Rattle.bus_base.specs.declared.Event.TheVariants as events
-use Rattle.bus_base.specs.declared.ProcId.{ProcId}
-use Rattle.bus_base.proofs.Tests.{either_stays}
-use Rattle.cdb_codec.specs.declared.sense.TheConstants.{ABORTED_COMMAND}
-use Rattle.cdb_codec.specs.declared.status.TheConstants.{GOOD, CHECK_CONDITION}
-use Rattle.cdb_codec.specs.Cdb.{command_of}
-use Rattle.scenario.specs.declared.value.CmdDef.{CmdDef}
-use Rattle.scenario.specs.Value.{ScenarioValue}
-use Rattle.disk_array.specs.Execution.{Execution, Reply, check_condition, execution, is_request_sense, sense_of}
-use Rattle.disk_array.specs.Processes.{Process, command_at, process_of, same_id}
-use Rattle.disk_array.specs.SoundArray.{AllOwnUnits}
-use Rattle.disk_array.specs.Steps as Steps
-use Rattle.disk_array.specs.Steps.{has_tag, is_of_unit, running_if}
-use Rattle.disk_array.specs.Units.{Array, RunningProcess, UnitState, guest_at, is_held, nexus_of, nexuses_without, senses_without, unit_state_at, with_unit}
-use Rattle.disk_array.specs.Seats.{waits_in}
-use Rattle.disk_array.proofs.ArrayUnits.{unit_reset_units, cleared_units}
-use Rattle.bus_story.specs.Items.{command_item, has_item, is_open, sense_item}
-use Rattle.bus_story.specs.Story.{Ending, Story, story_with_end, story_with_ends, story_with_over}
+use Rattle.bus_due.specs.bus_base.specs.declared.AbortKind.{AbortKind}
+use Rattle.bus_due.specs.bus_base.specs.declared.AbortKind.TheVariants as aborts
+use Rattle.bus_due.specs.bus_base.specs.declared.Event.{Event}
+use Rattle.bus_due.specs.bus_base.specs.declared.Event.TheVariants as events
+use Rattle.bus_due.specs.bus_base.specs.declared.ProcId.{ProcId}
+use Rattle.bus_due.specs.bus_base.proofs.Tests.{either_stays}
+use Rattle.bus_due.specs.cdb_codec.specs.declared.sense.TheConstants.{ABORTED_COMMAND}
+use Rattle.bus_due.specs.cdb_codec.specs.declared.status.TheConstants.{GOOD, CHECK_CONDITION}
+use Rattle.bus_due.specs.cdb_codec.specs.Cdb.{command_of}
+use Rattle.bus_due.specs.scenario.specs.declared.value.CmdDef.{CmdDef}
+use Rattle.bus_due.specs.scenario.specs.Value.{ScenarioValue}
+use Rattle.bus_due.specs.disk_array.specs.Execution.{Execution, Reply, check_condition, execution, is_request_sense, sense_of}
+use Rattle.bus_due.specs.disk_array.specs.Processes.{Process, command_at, process_of, same_id}
+use Rattle.bus_due.specs.disk_array.specs.SoundArray.{AllOwnUnits}
+use Rattle.bus_due.specs.disk_array.specs.Steps as Steps
+use Rattle.bus_due.specs.disk_array.specs.Steps.{has_tag, is_of_unit, running_if}
+use Rattle.bus_due.specs.disk_array.specs.Units.{Array, RunningProcess, UnitState, guest_at, is_held, nexus_of, nexuses_without, senses_without, unit_state_at, with_unit}
+use Rattle.bus_due.specs.disk_array.specs.Seats.{waits_in}
+use Rattle.bus_due.specs.disk_array.proofs.ArrayUnits.{unit_reset_units, cleared_units}
+use Rattle.bus_due.specs.bus_story.specs.Items.{command_item, has_item, is_open, sense_item}
+use Rattle.bus_due.specs.bus_story.specs.Story.{Ending, Story, story_with_end, story_with_ends, story_with_over}
 use Rattle.trace_laws.proofs.QueuedProcesses.{is_dropped}
 use Rattle.trace_laws.proofs.SentItems.{more_has, own_has}
 use Rattle.trace_laws.proofs.QueueEvents.{Spares, chosen_all, kept_all, left_all, replied_all, waits_last, with_unit_all}
@@ -31,7 +31,7 @@ use Rattle.trace_laws.specs.Places.{is_in_queue, is_queued}
 use Rattle.trace_laws.proofs.Impossible.{none_some}
 use Rattle.trace_laws.proofs.PointerStories.{ends_over}
 use Rattle.trace_laws.proofs.ListedReplies.{running_id}
-use Rattle.target_units.proofs.UnitTimes.{place_found}
+use Rattle.trace_laws.specs.target_units.proofs.UnitTimes.{place_found}
 
 abbrev pub IfQueued : ProcId → Option Array → Type 0
 IfQueued id None = ⊤

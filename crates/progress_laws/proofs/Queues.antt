@@ -4,23 +4,23 @@ use Rattle.std.proofs.Common.{ℕ, zero, suc, ◌≡◌, ◌+◌, ◌<◌, Bool,
 use Rattle.std.specs.Prelude.{if◌then◌else◌, ◌==◌, is_some}
 use Rattle.std.specs.List.{list_any}
 use Rattle.std.proofs.lemmas.Option.{same_Some}
-use Rattle.bus_base.specs.declared.ProcId.{ProcId}
-use Rattle.scenario.specs.Value.{ScenarioValue}
-use Rattle.disk_array.specs.Order.{choice}
-use Rattle.disk_array.specs.Processes.{Process, process_of, same_id}
-use Rattle.disk_array.specs.Seats.{in_hold, is_any_held, nexus_at, unit_mapped, unit_with_choice, current_of}
-use Rattle.disk_array.specs.SoundArray.{AllOwn, AllOwnUnits, AreApart, IsOwn, IsOwnRunning, IsOwnUnit, IsSound}
-use Rattle.disk_array.specs.Steps.{running_if}
-use Rattle.disk_array.specs.Units.{Array, Nexus, RunningProcess, UnitState, has_no_current, is_at_unit, is_held, unit_state_at, with_current}
-use Rattle.disk_array.proofs.SeatSteps.{any_none}
-use Rattle.bus_dialogue.specs.Wants.{Ready, first_ready, is_ready_before, ready_by, ready_in}
+use Rattle.bus_due.specs.bus_base.specs.declared.ProcId.{ProcId}
+use Rattle.bus_due.specs.scenario.specs.Value.{ScenarioValue}
+use Rattle.bus_due.specs.disk_array.specs.Order.{choice}
+use Rattle.bus_due.specs.disk_array.specs.Processes.{Process, process_of, same_id}
+use Rattle.bus_due.specs.disk_array.specs.Seats.{in_hold, is_any_held, nexus_at, unit_mapped, unit_with_choice, current_of}
+use Rattle.bus_due.specs.disk_array.specs.SoundArray.{AllOwn, AllOwnUnits, AreApart, IsOwn, IsOwnRunning, IsOwnUnit, IsSound}
+use Rattle.bus_due.specs.disk_array.specs.Steps.{running_if}
+use Rattle.bus_due.specs.disk_array.specs.Units.{Array, Nexus, RunningProcess, UnitState, has_no_current, is_at_unit, is_held, unit_state_at, with_current}
+use Rattle.bus_due.specs.disk_array.proofs.SeatSteps.{any_none}
+use Rattle.bus_due.specs.bus_dialogue.specs.Wants.{Ready, first_ready, is_ready_before, ready_by, ready_in}
 use Rattle.bus_due.specs.Wants.{ready_among, ready_at, since_of}
-use Rattle.bus_books.proofs.Lookups.{id_is}
+use Rattle.trace_laws.specs.bus_books.proofs.Lookups.{id_is}
 use Rattle.progress_laws.proofs.Choices.{some_chosen}
 use Rattle.trace_laws.specs.Places.{is_in_queue, is_queued}
 use Rattle.trace_laws.proofs.Impossible.{some_none, none_some}
 use Rattle.std.proofs.lemmas.Bool.{eqb-true, and_right, or_parts}
-use Rattle.bus_base.proofs.Tests.{wrong, and_first, and_second, eq_self}
+use Rattle.bus_due.specs.bus_base.proofs.Tests.{wrong, and_first, and_second, eq_self}
 
 -- ---- the unit
 

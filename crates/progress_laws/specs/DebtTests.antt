@@ -1,16 +1,16 @@
 -- The senses that are owed, as tests that are computed on runs.
 use Rattle.std.specs.Prelude.{ℕ, ◌+◌, ◌==◌, ◌&&◌, ◌||◌, Bool, true, not, List, [], ◌∷◌, Option, Some, None, nat_le, if◌then◌else◌}
 use Rattle.std.specs.List.{list_any}
-use Rattle.bus_trace.specs.declared.Row.{Row}
-use Rattle.cdb_codec.specs.declared.status.TheConstants.{GOOD}
-use Rattle.scenario.specs.declared.value.CmdDef.{CmdDef}
-use Rattle.scenario.specs.Value.{ScenarioValue}
-use Rattle.disk_array.specs.ArrayHistory.{reply_in}
-use Rattle.disk_array.specs.Execution.{Reply}
-use Rattle.disk_array.specs.Processes.{command_at}
-use Rattle.disk_array.specs.Seats.{in_hold}
-use Rattle.disk_array.specs.Units.{Array, Nexus, same_nexus}
-use Rattle.bus_story.specs.Items.{Item, Sent, abort, has_item, process, sense_item, sense_id}
+use Rattle.bus_due.specs.bus_trace.specs.declared.Row.{Row}
+use Rattle.bus_due.specs.cdb_codec.specs.declared.status.TheConstants.{GOOD}
+use Rattle.bus_due.specs.scenario.specs.declared.value.CmdDef.{CmdDef}
+use Rattle.bus_due.specs.scenario.specs.Value.{ScenarioValue}
+use Rattle.bus_due.specs.disk_array.specs.ArrayHistory.{reply_in}
+use Rattle.bus_due.specs.disk_array.specs.Execution.{Reply}
+use Rattle.bus_due.specs.disk_array.specs.Processes.{command_at}
+use Rattle.bus_due.specs.disk_array.specs.Seats.{in_hold}
+use Rattle.bus_due.specs.disk_array.specs.Units.{Array, Nexus, same_nexus}
+use Rattle.bus_due.specs.bus_story.specs.Items.{Item, Sent, abort, has_item, process, sense_item, sense_id}
 use Rattle.bus_due.specs.RunState.{RunState, array_of}
 use Rattle.bus_due.specs.RunSteps.{run_state_after}
 use Rattle.progress_laws.specs.Debts.{is_owed, nexus_of_command}

@@ -2,13 +2,13 @@
 -- and to those that stand in a hold a sense is owed (7.6, 7.8).
 use Rattle.std.specs.Prelude.{ℕ, ◌≡◌, ◌==◌, true, false, List, [], ◌∷◌, Some, ⊤}
 use Rattle.std.specs.List.{list_any}
-use Rattle.scenario.specs.declared.value.CmdDef.{CmdDef}
-use Rattle.scenario.specs.Value.{ScenarioValue}
-use Rattle.disk_array.specs.Processes.{command_at}
-use Rattle.disk_array.specs.Units.{Nexus}
-use Rattle.bus_story.specs.Items.{Sent, has_item, is_open, sense_item, command_id}
+use Rattle.bus_due.specs.scenario.specs.declared.value.CmdDef.{CmdDef}
+use Rattle.bus_due.specs.scenario.specs.Value.{ScenarioValue}
+use Rattle.bus_due.specs.disk_array.specs.Processes.{command_at}
+use Rattle.bus_due.specs.disk_array.specs.Units.{Nexus}
+use Rattle.bus_due.specs.bus_story.specs.Items.{Sent, has_item, is_open, sense_item, command_id}
 use Rattle.bus_due.specs.RunState.{RunState, array_of}
-use Rattle.bus_books.specs.Accounts.{is_served_by}
+use Rattle.trace_laws.specs.bus_books.specs.Accounts.{is_served_by}
 use Rattle.trace_laws.specs.Places.{is_queued}
 
 -- Each command that was sent, is not over and has no connection stands in a queue.

@@ -2,15 +2,15 @@
 
 ghost use Rattle.std.specs.Prelude.{ℕ, ◌≡◌, ◌<◌, true, is_some, List, Option, Some, None};
 ghost use Rattle.std.specs.List.{list_all};
-ghost use Rattle.bus_trace.specs.LineSet.{none};
-ghost use Rattle.bus_trace.specs.Trace.{bus, last_time};
-ghost use Rattle.bus_trace.specs.declared.Row.{Row};
-ghost use Rattle.bus_rules.specs.Lawful.{IsLawful};
-ghost use Rattle.scenario.specs.Value.{ScenarioValue};
-ghost use Rattle.scenario.specs.Writing.{Obeys};
-ghost use Rattle.bus_story.specs.Outcomes.{Outcome, outcomes};
-ghost use Rattle.bus_story.specs.Samples.{latency_of};
-ghost use Rattle.bus_story.specs.TraceHistory.{story};
+ghost use Rattle.bus_due.specs.bus_trace.specs.LineSet.{none};
+ghost use Rattle.bus_due.specs.bus_trace.specs.Trace.{bus, last_time};
+ghost use Rattle.bus_due.specs.bus_trace.specs.declared.Row.{Row};
+ghost use Rattle.bus_due.specs.bus_rules.specs.Lawful.{IsLawful};
+ghost use Rattle.bus_due.specs.scenario.specs.Value.{ScenarioValue};
+ghost use Rattle.bus_due.specs.scenario.specs.Writing.{Obeys};
+ghost use Rattle.bus_due.specs.bus_story.specs.Outcomes.{Outcome, outcomes};
+ghost use Rattle.bus_due.specs.bus_story.specs.Samples.{latency_of};
+ghost use Rattle.bus_due.specs.bus_story.specs.TraceHistory.{story};
 ghost use Rattle.bus_due.specs.Next.{IsEnded, IsPrompt};
 ghost use Rattle.bus_due.specs.RunSteps.{run_state};
 ghost use Rattle.bus_due.specs.Wants.{want_time};

@@ -2,33 +2,33 @@
 -- 6.6.19, 7.2).
 use Rattle.std.proofs.Common.{ℕ, ◌≡◌, ◌≤◌, arith, Bool, true, false, not, ◌&&◌, ◌==◌, ◌%◌, ◌∙◌, List, [], ◌∷◌, ◌++◌, length, length-append, Option, Some, None, refl, sym, ap, subst, true≢false}
 use Rattle.std.specs.Prelude.{if◌then◌else◌, is_some}
-use Rattle.bus_base.specs.declared.Event.{Event}
-use Rattle.bus_base.specs.declared.ProcId.{ProcId}
-use Rattle.bus_trace.specs.LineSet.{LineSet}
-use Rattle.bus_trace.specs.Phases.{changes_phase, is_command, is_data}
-use Rattle.bus_trace.specs.declared.Row.{Row}
-use Rattle.bus_trace.specs.declared.changes.Change.{Change}
-use Rattle.bus_trace.specs.declared.connection.Connection.{Connection}
-use Rattle.cdb_codec.specs.Cdb.{has_group_len}
-use Rattle.scenario.specs.Value.{ScenarioValue}
-use Rattle.disk_array.specs.Processes.{process_of, same_id}
-use Rattle.bus_story.specs.BusState.{RowReading, row_reading}
-use Rattle.bus_story.specs.CarriedBytes.{CarriedBytes, area_with, carried_after_byte, is_status_phase, is_whole_block}
-use Rattle.bus_story.specs.HistoryEvents.{row_events_by}
-use Rattle.bus_story.specs.Items.{Item, process, abort}
-use Rattle.bus_story.specs.Links.{Link}
-use Rattle.bus_dialogue.specs.declared.exchange.Phase.TheVariants as phases
-use Rattle.bus_dialogue.specs.NextPhase.{phase_of}
+use Rattle.bus_due.specs.bus_base.specs.declared.Event.{Event}
+use Rattle.bus_due.specs.bus_base.specs.declared.ProcId.{ProcId}
+use Rattle.bus_due.specs.bus_trace.specs.LineSet.{LineSet}
+use Rattle.bus_due.specs.bus_trace.specs.Phases.{changes_phase, is_command, is_data}
+use Rattle.bus_due.specs.bus_trace.specs.declared.Row.{Row}
+use Rattle.bus_due.specs.bus_trace.specs.declared.changes.Change.{Change}
+use Rattle.bus_due.specs.bus_trace.specs.declared.connection.Connection.{Connection}
+use Rattle.bus_due.specs.cdb_codec.specs.Cdb.{has_group_len}
+use Rattle.bus_due.specs.scenario.specs.Value.{ScenarioValue}
+use Rattle.bus_due.specs.disk_array.specs.Processes.{process_of, same_id}
+use Rattle.bus_due.specs.bus_story.specs.BusState.{RowReading, row_reading}
+use Rattle.bus_due.specs.bus_story.specs.CarriedBytes.{CarriedBytes, area_with, carried_after_byte, is_status_phase, is_whole_block}
+use Rattle.bus_due.specs.bus_story.specs.HistoryEvents.{row_events_by}
+use Rattle.bus_due.specs.bus_story.specs.Items.{Item, process, abort}
+use Rattle.bus_due.specs.bus_story.specs.Links.{Link}
+use Rattle.bus_due.specs.bus_dialogue.specs.declared.exchange.Phase.TheVariants as phases
+use Rattle.bus_due.specs.bus_dialogue.specs.NextPhase.{phase_of}
 use Rattle.bus_due.specs.RunState.{RunState, or_start, bus_of, carried_here, process_item, process_served}
 use Rattle.bus_due.specs.RunSteps.{run_state, run_state_after, array_after_events, is_for_process}
-use Rattle.bus_books.specs.Carrying.{TakesBlock}
-use Rattle.bus_books.specs.Rows.{RowKind, still, strikes, crosses, turns}
-use Rattle.bus_books.specs.Traces.{GoesOn, RowOf, Books}
-use Rattle.bus_books.proofs.Blocks.{block_is_all}
-use Rattle.bus_books.proofs.CarriedBlocks.{own_of}
-use Rattle.bus_books.proofs.CarriedRows.{process_id}
-use Rattle.bus_books.proofs.InConnection.{reading_is}
-use Rattle.bus_books.proofs.Lookups.{self_id}
+use Rattle.trace_laws.specs.bus_books.specs.Carrying.{TakesBlock}
+use Rattle.trace_laws.specs.bus_books.specs.Rows.{RowKind, still, strikes, crosses, turns}
+use Rattle.trace_laws.specs.bus_books.specs.Traces.{GoesOn, RowOf, Books}
+use Rattle.trace_laws.specs.bus_books.proofs.Blocks.{block_is_all}
+use Rattle.trace_laws.specs.bus_books.proofs.CarriedBlocks.{own_of}
+use Rattle.trace_laws.specs.bus_books.proofs.CarriedRows.{process_id}
+use Rattle.trace_laws.specs.bus_books.proofs.InConnection.{reading_is}
+use Rattle.trace_laws.specs.bus_books.proofs.Lookups.{self_id}
 use Rattle.trace_laws.specs.ItemFacts.{ItemFacts}
 use Rattle.trace_laws.specs.Places.{IsAway, HasPlaces, PlaceFacts}
 use Rattle.trace_laws.proofs.Joint.{Stood, NextStood}
@@ -39,7 +39,7 @@ use Rattle.right_laws.proofs.OpenProcesses.{IfAccepts, each_both, each_map, open
 use Rattle.right_laws.proofs.RowCrossings.{GoesSo, crossing_goes, here_goes, known_served, new_here}
 use Rattle.right_laws.proofs.ShownRows.{IsArrival, ShownAs, row_shown}
 use Rattle.right_laws.proofs.UndoneLoads.{lasting_load, load_asks}
-use Rattle.bus_base.proofs.Tests.{wrong, wrong'}
+use Rattle.bus_due.specs.bus_base.proofs.Tests.{wrong, wrong'}
 use Rattle.trace_laws.proofs.PhaseLines.{command_phase}
 use Rattle.trace_laws.proofs.Impossible.{none_some}
 

@@ -1,21 +1,21 @@
 -- Each process that ran and ended has carried just its command block, just the bytes that it moves, and its status.
 use Rattle.std.proofs.Common.{ℕ, ◌≡◌, Bool, true, false, not, ◌&&◌, ◌||◌, ◌∙◌, List, [], ◌∷◌, Option, Some, None, refl, sym, ap}
 use Rattle.std.specs.Prelude.{is_some}
-use Rattle.bus_base.specs.declared.Event.{Event}
-use Rattle.bus_base.specs.declared.Event.TheVariants as events
-use Rattle.bus_base.specs.declared.ProcId.{ProcId}
-use Rattle.scenario.specs.Value.{ScenarioValue}
-use Rattle.disk_array.specs.ArrayHistory.{array_after, reply_in, reply_of}
-use Rattle.disk_array.specs.Execution.{Reply}
-use Rattle.disk_array.specs.Processes.{process_of}
-use Rattle.disk_array.specs.Units.{Array}
-use Rattle.bus_story.specs.CarriedBytes.{CarriedBytes, carried_of}
-use Rattle.bus_story.specs.Right.{same_bytes, has_run, moved_bytes, carried_by, is_carried, all_carried}
+use Rattle.bus_due.specs.bus_base.specs.declared.Event.{Event}
+use Rattle.bus_due.specs.bus_base.specs.declared.Event.TheVariants as events
+use Rattle.bus_due.specs.bus_base.specs.declared.ProcId.{ProcId}
+use Rattle.bus_due.specs.scenario.specs.Value.{ScenarioValue}
+use Rattle.bus_due.specs.disk_array.specs.ArrayHistory.{array_after, reply_in, reply_of}
+use Rattle.bus_due.specs.disk_array.specs.Execution.{Reply}
+use Rattle.bus_due.specs.disk_array.specs.Processes.{process_of}
+use Rattle.bus_due.specs.disk_array.specs.Units.{Array}
+use Rattle.bus_due.specs.bus_story.specs.CarriedBytes.{CarriedBytes, carried_of}
+use Rattle.bus_due.specs.bus_story.specs.Right.{same_bytes, has_run, moved_bytes, carried_by, is_carried, all_carried}
 use Rattle.bus_due.specs.RunState.{RunState, array_of}
-use Rattle.bus_books.proofs.Blocks.{same_self}
+use Rattle.trace_laws.specs.bus_books.proofs.Blocks.{same_self}
 use Rattle.right_laws.specs.Open.{OnEvents}
 use Rattle.right_laws.specs.Runs.{HasRun, RanBooks, HasEnded, IsEnded}
-use Rattle.bus_base.proofs.Tests.{wrong', all_three}
+use Rattle.bus_due.specs.bus_base.proofs.Tests.{wrong', all_three}
 
 pub same_is : (xs ys : List ℕ) → xs ≡ ys → same_bytes xs ys ≡ true
 same_is xs ys e = ap (λ (z : List ℕ). same_bytes z ys) e ∙ same_self ys

@@ -2,35 +2,35 @@
 use Rattle.std.proofs.Common.{ℕ, ◌≡◌, ◌⊎◌, inl, inr, Bool, true, false, not, ◌&&◌, ◌==◌, ◌∙◌, List, [], ◌∷◌, Option, Some, None, refl, sym, ap, subst}
 use Rattle.std.specs.Prelude.{if◌then◌else◌, is_some}
 use Rattle.std.proofs.lemmas.Option.{same_Some}
-use Rattle.bus_base.specs.declared.Event.{Event}
-use Rattle.bus_base.specs.declared.ProcId.{ProcId}
-use Rattle.cdb_codec.specs.Cdb.{command_of}
-use Rattle.bus_trace.specs.Phases.{is_data}
-use Rattle.bus_trace.specs.declared.Row.{Row}
-use Rattle.bus_trace.specs.declared.changes.Change.{Change}
-use Rattle.scenario.specs.Value.{ScenarioValue}
-use Rattle.disk_array.specs.ArrayHistory.{array_step}
-use Rattle.disk_array.specs.Execution.{is_request_sense}
-use Rattle.disk_array.specs.Order.{choice}
-use Rattle.disk_array.specs.Processes.{Process, process_of, same_id}
-use Rattle.disk_array.specs.SoundArray.{IsOwn, AllOwn, IsOwnUnit, AllOwnUnits, IsSound}
-use Rattle.disk_array.specs.Steps as Steps
-use Rattle.disk_array.specs.Units.{RunningProcess, without_reply, UnitState, Nexus, Array, unit_state_at, guest_at, is_held, has_no_current, with_current, unit_after_choice, starting_array, settled_array}
-use Rattle.scsi_device.specs.Writes.{Writer}
-use Rattle.bus_story.specs.BusState.{RowReading, row_reading}
-use Rattle.bus_story.specs.CarriedBytes.{CarriedBytes}
-use Rattle.bus_story.specs.HistoryEvents.{carried_if, row_events_by}
-use Rattle.bus_story.specs.Items.{Item, process, abort}
-use Rattle.bus_story.specs.Links.{Link}
-use Rattle.bus_story.proofs.CarriedLists.{carried_id}
+use Rattle.bus_due.specs.bus_base.specs.declared.Event.{Event}
+use Rattle.bus_due.specs.bus_base.specs.declared.ProcId.{ProcId}
+use Rattle.bus_due.specs.cdb_codec.specs.Cdb.{command_of}
+use Rattle.bus_due.specs.bus_trace.specs.Phases.{is_data}
+use Rattle.bus_due.specs.bus_trace.specs.declared.Row.{Row}
+use Rattle.bus_due.specs.bus_trace.specs.declared.changes.Change.{Change}
+use Rattle.bus_due.specs.scenario.specs.Value.{ScenarioValue}
+use Rattle.bus_due.specs.disk_array.specs.ArrayHistory.{array_step}
+use Rattle.bus_due.specs.disk_array.specs.Execution.{is_request_sense}
+use Rattle.bus_due.specs.disk_array.specs.Order.{choice}
+use Rattle.bus_due.specs.disk_array.specs.Processes.{Process, process_of, same_id}
+use Rattle.bus_due.specs.disk_array.specs.SoundArray.{IsOwn, AllOwn, IsOwnUnit, AllOwnUnits, IsSound}
+use Rattle.bus_due.specs.disk_array.specs.Steps as Steps
+use Rattle.bus_due.specs.disk_array.specs.Units.{RunningProcess, without_reply, UnitState, Nexus, Array, unit_state_at, guest_at, is_held, has_no_current, with_current, unit_after_choice, starting_array, settled_array}
+use Rattle.trace_laws.specs.scsi_device.specs.Writes.{Writer}
+use Rattle.bus_due.specs.bus_story.specs.BusState.{RowReading, row_reading}
+use Rattle.bus_due.specs.bus_story.specs.CarriedBytes.{CarriedBytes}
+use Rattle.bus_due.specs.bus_story.specs.HistoryEvents.{carried_if, row_events_by}
+use Rattle.bus_due.specs.bus_story.specs.Items.{Item, process, abort}
+use Rattle.bus_due.specs.bus_story.specs.Links.{Link}
+use Rattle.bus_due.specs.bus_story.proofs.CarriedLists.{carried_id}
 use Rattle.bus_due.specs.LastingState.{ProcessProgress}
 use Rattle.bus_due.specs.RunState.{RunState, array_of, bus_of, carried_here}
 use Rattle.bus_due.specs.RunSteps.{run_state, array_after_events}
-use Rattle.bus_books.proofs.CarriedRows.{process_id}
-use Rattle.bus_books.proofs.Lookups.{id_is, self_id}
-use Rattle.bus_dialogue.specs.declared.exchange.Phase.{Phase}
-use Rattle.bus_dialogue.specs.declared.exchange.Phase.TheVariants as phases
-use Rattle.bus_dialogue.specs.NextPhase.{phase_of}
+use Rattle.trace_laws.specs.bus_books.proofs.CarriedRows.{process_id}
+use Rattle.trace_laws.specs.bus_books.proofs.Lookups.{id_is, self_id}
+use Rattle.bus_due.specs.bus_dialogue.specs.declared.exchange.Phase.{Phase}
+use Rattle.bus_due.specs.bus_dialogue.specs.declared.exchange.Phase.TheVariants as phases
+use Rattle.bus_due.specs.bus_dialogue.specs.NextPhase.{phase_of}
 use Rattle.trace_laws.specs.ItemFacts.{AllP, RunsP, UnitsP}
 use Rattle.trace_laws.specs.Places.{Runs, MayRun, RunsOpen, PlacedIn}
 use Rattle.trace_laws.specs.WriteFacts.{AllUnits, IsEmptyUnit, IsOther, IsWrittenUnit}
@@ -45,7 +45,7 @@ use Rattle.right_laws.specs.Given.{NoneAtArrival}
 use Rattle.right_laws.proofs.GivenBytes.{moved_stays, no_data_in_command}
 use Rattle.right_laws.proofs.RanFacts.{Known, here_is, steps_of, then_is}
 use Rattle.right_laws.proofs.RowCrossings.{GoesSo, InBytes, IsPlaced, byte_phase, crossing_goes, in_command, in_data, in_status, known_served, placed_here}
-use Rattle.bus_base.proofs.Tests.{wrong, wrong', eq_self}
+use Rattle.bus_due.specs.bus_base.proofs.Tests.{wrong, wrong', eq_self}
 
 -- ---- what is kept
 

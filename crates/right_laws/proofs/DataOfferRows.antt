@@ -2,27 +2,27 @@
 -- 6.1.5.2).
 use Rattle.std.proofs.Common.{ℕ, ◌≡◌, Bool, true, false, not, ◌&&◌, ◌%◌, ◌∙◌, List, [], ◌∷◌, Option, Some, None, refl, sym, ap}
 use Rattle.std.specs.Prelude.{if◌then◌else◌, is_some}
-use Rattle.bus_base.specs.declared.Event.{Event}
-use Rattle.bus_trace.specs.LineSet.{LineSet}
-use Rattle.bus_trace.specs.Phases.{changes_phase, is_command, is_message_out, is_message_in}
-use Rattle.bus_trace.specs.Terms.{is_fault, receiver_in}
-use Rattle.bus_trace.specs.declared.Row.{Row}
-use Rattle.bus_trace.specs.declared.changes.Change.{Change}
-use Rattle.bus_trace.specs.declared.connection.Connection.{Connection}
-use Rattle.bus_phases.specs.Dialogue.{dialogue, byte_out, byte_in, byte_else, heard_with_command}
-use Rattle.bus_phases.specs.declared.dialogue.Dialogue.{Dialogue}
-use Rattle.scenario.specs.Value.{ScenarioValue}
-use Rattle.scenario.specs.declared.value.Policy.{Policy}
-use Rattle.disk_array.specs.ArrayHistory as Play
-use Rattle.disk_array.specs.Processes.{Process}
-use Rattle.disk_array.specs.Units.{Array}
-use Rattle.bus_story.specs.BusState.{row_reading}
-use Rattle.bus_story.specs.CarriedBytes.{CarriedBytes}
-use Rattle.bus_story.specs.HistoryEvents.{end_events, carried_if, row_events_by}
-use Rattle.bus_story.specs.Links.{Link}
-use Rattle.bus_dialogue.specs.declared.exchange.Task.{Task}
-use Rattle.bus_dialogue.specs.Arrivals.{policy_of}
-use Rattle.bus_dialogue.specs.PhaseBytes.{data_byte, run_length_if}
+use Rattle.bus_due.specs.bus_base.specs.declared.Event.{Event}
+use Rattle.bus_due.specs.bus_trace.specs.LineSet.{LineSet}
+use Rattle.bus_due.specs.bus_trace.specs.Phases.{changes_phase, is_command, is_message_out, is_message_in}
+use Rattle.bus_due.specs.bus_trace.specs.Terms.{is_fault, receiver_in}
+use Rattle.bus_due.specs.bus_trace.specs.declared.Row.{Row}
+use Rattle.bus_due.specs.bus_trace.specs.declared.changes.Change.{Change}
+use Rattle.bus_due.specs.bus_trace.specs.declared.connection.Connection.{Connection}
+use Rattle.bus_due.specs.bus_phases.specs.Dialogue.{dialogue, byte_out, byte_in, byte_else, heard_with_command}
+use Rattle.bus_due.specs.bus_phases.specs.declared.dialogue.Dialogue.{Dialogue}
+use Rattle.bus_due.specs.scenario.specs.Value.{ScenarioValue}
+use Rattle.bus_due.specs.scenario.specs.declared.value.Policy.{Policy}
+use Rattle.bus_due.specs.disk_array.specs.ArrayHistory as Play
+use Rattle.bus_due.specs.disk_array.specs.Processes.{Process}
+use Rattle.bus_due.specs.disk_array.specs.Units.{Array}
+use Rattle.bus_due.specs.bus_story.specs.BusState.{row_reading}
+use Rattle.bus_due.specs.bus_story.specs.CarriedBytes.{CarriedBytes}
+use Rattle.bus_due.specs.bus_story.specs.HistoryEvents.{end_events, carried_if, row_events_by}
+use Rattle.bus_due.specs.bus_story.specs.Links.{Link}
+use Rattle.bus_due.specs.bus_dialogue.specs.declared.exchange.Task.{Task}
+use Rattle.bus_due.specs.bus_dialogue.specs.Arrivals.{policy_of}
+use Rattle.bus_due.specs.bus_dialogue.specs.PhaseBytes.{data_byte, run_length_if}
 use Rattle.bus_due.specs.Defs.{target_def_of}
 use Rattle.bus_due.specs.LastingState.{ProcessProgress, progress_in}
 use Rattle.bus_due.specs.Plain.{AreOfDevices}
@@ -30,12 +30,12 @@ use Rattle.bus_due.specs.RunState.{RunState, array_of, or_start, carried_here, p
 use Rattle.bus_due.specs.RunSteps.{run_state, run_state_after, array_after_events, progress_after, progress_by_leaving, leaving_of}
 use Rattle.bus_due.specs.Tasks.{task_with, task_if, task_of, given_if, given_of, reply_now}
 use Rattle.bus_due.proofs.Plains.{run_state_plain}
-use Rattle.bus_books.specs.Rows.{IsRowIn}
-use Rattle.bus_books.proofs.InConnection.{InConnection, in_connection, dialogue_by, reading_is}
+use Rattle.trace_laws.specs.bus_books.specs.Rows.{IsRowIn}
+use Rattle.trace_laws.specs.bus_books.proofs.InConnection.{InConnection, in_connection, dialogue_by, reading_is}
 use Rattle.trace_laws.proofs.PlaceStays.{stay_shown}
 use Rattle.trace_laws.proofs.TalkBytes.{no_completion}
 use Rattle.right_laws.proofs.DataOffers.{is_data_in, DataKept}
-use Rattle.bus_base.proofs.Tests.{wrong'}
+use Rattle.bus_due.specs.bus_base.proofs.Tests.{wrong'}
 
 -- ---- what a task tells of the bytes
 

@@ -3,40 +3,40 @@ use Rattle.std.proofs.Common.{ℕ, ◌≡◌, ◌⊎◌, inl, inr, ◌<◌, Bool
 use Rattle.std.specs.Int.RustNames.{count_ones}
 use Rattle.std.proofs.lemmas.Bool.{ltb-true}
 use Rattle.std.proofs.lemmas.Bool.Decides.{nat_tests}
-use Rattle.link_laws.specs.Pulses.{run_count}
-use Rattle.bus_trace.specs.LineSet.{LineSet}
-use Rattle.bus_trace.specs.declared.Row.{Row}
-use Rattle.bus_trace.specs.declared.connection.Connection.{Connection}
-use Rattle.bus_trace.specs.Changes.{rises}
-use Rattle.bus_trace.specs.Trace.{bus, last_time}
-use Rattle.bus_lines.specs.Handshakes.{Handshakes, handshakes, strikes_if}
-use Rattle.scenario.specs.Value.{ScenarioValue}
-use Rattle.bus_reactions.specs.Target.{byte_bits, bits_if}
-use Rattle.bus_dialogue.specs.declared.exchange.Leaving.{Leaving}
-use Rattle.bus_dialogue.specs.declared.exchange.Phase.{Phase}
-use Rattle.bus_dialogue.specs.declared.exchange.Phase.TheVariants as phases
-use Rattle.bus_dialogue.specs.Hearing.{begun}
-use Rattle.bus_dialogue.specs.NextPhase.{Serving, phase_of, phase_leaving}
-use Rattle.bus_dialogue.specs.PhaseBytes.{data_byte, run_length_if, one_if, lines_by}
+use Rattle.trace_laws.specs.link_laws.specs.Pulses.{run_count}
+use Rattle.bus_due.specs.bus_trace.specs.LineSet.{LineSet}
+use Rattle.bus_due.specs.bus_trace.specs.declared.Row.{Row}
+use Rattle.bus_due.specs.bus_trace.specs.declared.connection.Connection.{Connection}
+use Rattle.bus_due.specs.bus_trace.specs.Changes.{rises}
+use Rattle.bus_due.specs.bus_trace.specs.Trace.{bus, last_time}
+use Rattle.bus_due.specs.bus_lines.specs.Handshakes.{Handshakes, handshakes, strikes_if}
+use Rattle.bus_due.specs.scenario.specs.Value.{ScenarioValue}
+use Rattle.bus_due.specs.bus_reactions.specs.Target.{byte_bits, bits_if}
+use Rattle.bus_due.specs.bus_dialogue.specs.declared.exchange.Leaving.{Leaving}
+use Rattle.bus_due.specs.bus_dialogue.specs.declared.exchange.Phase.{Phase}
+use Rattle.bus_due.specs.bus_dialogue.specs.declared.exchange.Phase.TheVariants as phases
+use Rattle.bus_due.specs.bus_dialogue.specs.Hearing.{begun}
+use Rattle.bus_due.specs.bus_dialogue.specs.NextPhase.{Serving, phase_of, phase_leaving}
+use Rattle.bus_due.specs.bus_dialogue.specs.PhaseBytes.{data_byte, run_length_if, one_if, lines_by}
 use Rattle.bus_due.specs.RunSteps.{run_state}
 use Rattle.bus_due.specs.Sights.{serving_at, leaving}
 use Rattle.bus_due.specs.Plain.{AreOfDevices}
 use Rattle.bus_due.specs.Tasks.{task_of, given_of}
 use Rattle.bus_due.specs.Defs.{target_def_of}
-use Rattle.bus_dialogue.specs.Arrivals.{policy_of}
-use Rattle.bus_phases.specs.Dialogue.{dialogue}
-use Rattle.bus_trace.specs.declared.agreements.Agreement.{Agreement}
-use Rattle.bus_laws.specs.Rows.{row_of_lines, row_of_fault}
-use Rattle.bus_laws.specs.Ends.{EndLines, target_side, connected_bus, Linked}
-use Rattle.bus_laws.proofs.Rows.{drives_own}
-use Rattle.link_laws.specs.Phases.{ends}
-use Rattle.link_laws.proofs.EndDues.{offering_with}
-use Rattle.link_laws.proofs.Faults.{linked_fault}
-use Rattle.link_laws.proofs.Leaves.{may_leave}
-use Rattle.link_laws.proofs.LinkObeys.{same_phases}
-use Rattle.link_laws.proofs.Moves.{initiator_moves, target_moves, initiator_in_phase, target_in_phase, no_rise}
-use Rattle.link_laws.proofs.PhaseEnds.{leaves_lines}
-use Rattle.link_laws.proofs.Shakes.{target_row, initiator_row}
+use Rattle.bus_due.specs.bus_dialogue.specs.Arrivals.{policy_of}
+use Rattle.bus_due.specs.bus_phases.specs.Dialogue.{dialogue}
+use Rattle.bus_due.specs.bus_trace.specs.declared.agreements.Agreement.{Agreement}
+use Rattle.trace_laws.specs.bus_laws.specs.Rows.{row_of_lines, row_of_fault}
+use Rattle.trace_laws.specs.bus_laws.specs.Ends.{EndLines, target_side, connected_bus, Linked}
+use Rattle.trace_laws.specs.bus_laws.proofs.Rows.{drives_own}
+use Rattle.trace_laws.specs.link_laws.specs.Phases.{ends}
+use Rattle.trace_laws.specs.link_laws.proofs.EndDues.{offering_with}
+use Rattle.trace_laws.specs.link_laws.proofs.Faults.{linked_fault}
+use Rattle.trace_laws.specs.link_laws.proofs.Leaves.{may_leave}
+use Rattle.trace_laws.specs.link_laws.proofs.LinkObeys.{same_phases}
+use Rattle.trace_laws.specs.link_laws.proofs.Moves.{initiator_moves, target_moves, initiator_in_phase, target_in_phase, no_rise}
+use Rattle.trace_laws.specs.link_laws.proofs.PhaseEnds.{leaves_lines}
+use Rattle.trace_laws.specs.link_laws.proofs.Shakes.{target_row, initiator_row}
 use Rattle.trace_laws.proofs.Driven.{same_ends}
 use Rattle.trace_laws.proofs.Kept.{requests_stay}
 use Rattle.trace_laws.proofs.LinkRows as rows
@@ -45,7 +45,7 @@ use Rattle.trace_laws.proofs.LinkRows.{LinkRow, is_pulsed, is_unasked}
 use Rattle.trace_laws.proofs.Turns.{freed_connection}
 use Rattle.std.specs.Prelude.{nat_lt, if◌then◌else◌}
 use Rattle.std.specs.Int.RustNames.{bit_or}
-use Rattle.bus_base.proofs.Tests.{wrong, wrong', not_first}
+use Rattle.bus_due.specs.bus_base.proofs.Tests.{wrong, wrong', not_first}
 use Rattle.trace_laws.proofs.StatusOffers.{left_req, falls_is, zero_is, side_is, unrisen, zero_even}
 use Rattle.trace_laws.proofs.Impossible.{none_some}
 

@@ -3,34 +3,34 @@
 use Rattle.std.proofs.Common.{ℕ, ◌≡◌, ◌≤◌, ◌<◌, inl, inr, arith, Bool, true, false, not, ◌&&◌, ◌==◌, ◌%◌, ◌∙◌, List, [], ◌∷◌, ◌++◌, length, Option, Some, None, refl, sym, ap, subst}
 use Rattle.std.specs.Prelude.{if◌then◌else◌, is_some, slice_index_or}
 use Rattle.std.proofs.lemmas.Option.{same_Some}
-use Rattle.bus_base.specs.declared.Event.{Event}
-use Rattle.bus_base.specs.declared.Event.TheVariants as events
-use Rattle.bus_base.specs.declared.ProcId.{ProcId}
-use Rattle.bus_trace.specs.LineSet.{LineSet}
-use Rattle.bus_trace.specs.Phases.{is_command, is_data}
-use Rattle.bus_trace.specs.Terms.{receiver_of, receiver_in}
-use Rattle.bus_trace.specs.declared.Row.{Row}
-use Rattle.bus_trace.specs.declared.changes.Change.{Change}
-use Rattle.cdb_codec.specs.declared.status.TheConstants.{GOOD}
-use Rattle.scenario.specs.Value.{ScenarioValue}
-use Rattle.disk_array.specs.ArrayHistory.{array_step, reply_in}
-use Rattle.disk_array.specs.Execution.{Reply}
-use Rattle.disk_array.specs.Processes.{Process, same_id}
-use Rattle.disk_array.specs.SoundArray.{HasSeats}
-use Rattle.disk_array.specs.Steps as Steps
-use Rattle.disk_array.specs.Units.{Array}
-use Rattle.disk_array.proofs.SoundArrays.{step_sound}
-use Rattle.bus_story.specs.BusState.{RowReading, row_reading}
-use Rattle.bus_story.specs.CarriedBytes.{Area, CarriedBytes, area_with, carried_after_byte, is_status_phase}
-use Rattle.bus_story.specs.HistoryEvents.{row_events_by}
-use Rattle.bus_story.specs.Items.{Item, process, abort}
-use Rattle.bus_story.specs.Links.{Link}
+use Rattle.bus_due.specs.bus_base.specs.declared.Event.{Event}
+use Rattle.bus_due.specs.bus_base.specs.declared.Event.TheVariants as events
+use Rattle.bus_due.specs.bus_base.specs.declared.ProcId.{ProcId}
+use Rattle.bus_due.specs.bus_trace.specs.LineSet.{LineSet}
+use Rattle.bus_due.specs.bus_trace.specs.Phases.{is_command, is_data}
+use Rattle.bus_due.specs.bus_trace.specs.Terms.{receiver_of, receiver_in}
+use Rattle.bus_due.specs.bus_trace.specs.declared.Row.{Row}
+use Rattle.bus_due.specs.bus_trace.specs.declared.changes.Change.{Change}
+use Rattle.bus_due.specs.cdb_codec.specs.declared.status.TheConstants.{GOOD}
+use Rattle.bus_due.specs.scenario.specs.Value.{ScenarioValue}
+use Rattle.bus_due.specs.disk_array.specs.ArrayHistory.{array_step, reply_in}
+use Rattle.bus_due.specs.disk_array.specs.Execution.{Reply}
+use Rattle.bus_due.specs.disk_array.specs.Processes.{Process, same_id}
+use Rattle.bus_due.specs.disk_array.specs.SoundArray.{HasSeats}
+use Rattle.bus_due.specs.disk_array.specs.Steps as Steps
+use Rattle.bus_due.specs.disk_array.specs.Units.{Array}
+use Rattle.bus_due.specs.disk_array.proofs.SoundArrays.{step_sound}
+use Rattle.bus_due.specs.bus_story.specs.BusState.{RowReading, row_reading}
+use Rattle.bus_due.specs.bus_story.specs.CarriedBytes.{Area, CarriedBytes, area_with, carried_after_byte, is_status_phase}
+use Rattle.bus_due.specs.bus_story.specs.HistoryEvents.{row_events_by}
+use Rattle.bus_due.specs.bus_story.specs.Items.{Item, process, abort}
+use Rattle.bus_due.specs.bus_story.specs.Links.{Link}
 use Rattle.bus_due.specs.RunState.{RunState, array_of, carried_here}
 use Rattle.bus_due.specs.RunSteps.{run_state, run_state_after, array_after_events}
 use Rattle.bus_due.specs.Tasks.{is_writing, reply_now}
-use Rattle.bus_books.specs.Carrying.{IsFilled}
-use Rattle.bus_books.proofs.Areas.{puts}
-use Rattle.bus_books.proofs.Lookups.{id_is, self_id}
+use Rattle.trace_laws.specs.bus_books.specs.Carrying.{IsFilled}
+use Rattle.trace_laws.specs.bus_books.proofs.Areas.{puts}
+use Rattle.trace_laws.specs.bus_books.proofs.Lookups.{id_is, self_id}
 use Rattle.trace_laws.proofs.Impossible.{none_some}
 use Rattle.trace_laws.proofs.ListedReplies.{running_id}
 use Rattle.right_laws.specs.Asked.{GivesAtRun}
@@ -45,8 +45,8 @@ use Rattle.right_laws.proofs.OpenProcesses.{IfAccepts, each_both, each_map, open
 use Rattle.right_laws.proofs.RanFacts.{Known, here_is, run_found, steps_of, then_is, undoes_of}
 use Rattle.right_laws.proofs.RowCrossings.{GoesSo, crossing_goes}
 use Rattle.right_laws.proofs.ShownRows.{IsArrival, IsAnswer, ShownAs, row_shown, RunsAs, runs_alone, runs_arrived, row_runs}
-use Rattle.bus_base.proofs.Tests.{wrong, wrong'}
-use Rattle.target_units.proofs.ReplySteps.{run_replies}
+use Rattle.bus_due.specs.bus_base.proofs.Tests.{wrong, wrong'}
+use Rattle.trace_laws.specs.target_units.proofs.ReplySteps.{run_replies}
 
 -- ---- a byte comes to a front
 

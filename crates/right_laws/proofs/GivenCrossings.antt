@@ -3,33 +3,33 @@
 use Rattle.std.proofs.Common.{ℕ, ◌+◌, ◌≡◌, ◌≤◌, ◌<◌, arith, Bool, true, false, not, ◌&&◌, ◌==◌, ◌%◌, ◌∙◌, List, ◌∷◌, length, Option, Some, None, refl, sym, ap, subst}
 use Rattle.std.specs.Prelude.{if◌then◌else◌, is_some, slice_index_or}
 use Rattle.std.proofs.lemmas.Bool.Decides.{nat_tests}
-use Rattle.bus_base.specs.declared.ProcId.{ProcId}
-use Rattle.bus_trace.specs.LineSet.{LineSet}
-use Rattle.bus_trace.specs.Changes.{change_of, rises}
-use Rattle.bus_trace.specs.Phases.{is_data}
-use Rattle.bus_trace.specs.Terms.{call, connection, connection_after, receiver_in, receiver_of}
-use Rattle.bus_trace.specs.Trace.{bus}
-use Rattle.bus_trace.specs.declared.Row.{Row}
-use Rattle.bus_trace.specs.declared.changes.Change.{Change}
-use Rattle.bus_trace.specs.declared.connection.Connection.{Connection}
-use Rattle.bus_trace.proofs.OddParity.{byte_back}
-use Rattle.bus_lines.specs.Handshakes.{handshakes}
-use Rattle.cdb_codec.specs.declared.status.TheConstants.{GOOD}
-use Rattle.scenario.specs.Value.{ScenarioValue}
-use Rattle.scenario.specs.Writing.{Obeys}
-use Rattle.scenario.specs.declared.value.Policy.{Policy}
-use Rattle.disk_array.specs.ArrayHistory.{reply_in}
-use Rattle.disk_array.specs.Execution.{Reply}
-use Rattle.disk_array.specs.Processes.{Process}
-use Rattle.scsi_device.proofs.FitLines.{obeys_fits, seats_are}
-use Rattle.bus_story.specs.BusState.{row_reading}
-use Rattle.bus_dialogue.specs.declared.exchange.Phase.TheVariants as phases
-use Rattle.bus_dialogue.specs.declared.exchange.Task.{Task}
-use Rattle.bus_dialogue.specs.Arrivals.{policy_of}
-use Rattle.bus_dialogue.specs.DataRuns.{run_at, run_length}
-use Rattle.bus_dialogue.specs.Hearing.{begun}
-use Rattle.bus_dialogue.specs.NextPhase.{phase_of}
-use Rattle.bus_dialogue.specs.PhaseBytes.{data_byte, phase_byte, run_length_if}
+use Rattle.bus_due.specs.bus_base.specs.declared.ProcId.{ProcId}
+use Rattle.bus_due.specs.bus_trace.specs.LineSet.{LineSet}
+use Rattle.bus_due.specs.bus_trace.specs.Changes.{change_of, rises}
+use Rattle.bus_due.specs.bus_trace.specs.Phases.{is_data}
+use Rattle.bus_due.specs.bus_trace.specs.Terms.{call, connection, connection_after, receiver_in, receiver_of}
+use Rattle.bus_due.specs.bus_trace.specs.Trace.{bus}
+use Rattle.bus_due.specs.bus_trace.specs.declared.Row.{Row}
+use Rattle.bus_due.specs.bus_trace.specs.declared.changes.Change.{Change}
+use Rattle.bus_due.specs.bus_trace.specs.declared.connection.Connection.{Connection}
+use Rattle.bus_due.specs.bus_trace.proofs.OddParity.{byte_back}
+use Rattle.bus_due.specs.bus_lines.specs.Handshakes.{handshakes}
+use Rattle.bus_due.specs.cdb_codec.specs.declared.status.TheConstants.{GOOD}
+use Rattle.bus_due.specs.scenario.specs.Value.{ScenarioValue}
+use Rattle.bus_due.specs.scenario.specs.Writing.{Obeys}
+use Rattle.bus_due.specs.scenario.specs.declared.value.Policy.{Policy}
+use Rattle.bus_due.specs.disk_array.specs.ArrayHistory.{reply_in}
+use Rattle.bus_due.specs.disk_array.specs.Execution.{Reply}
+use Rattle.bus_due.specs.disk_array.specs.Processes.{Process}
+use Rattle.trace_laws.specs.scsi_device.proofs.FitLines.{obeys_fits, seats_are}
+use Rattle.bus_due.specs.bus_story.specs.BusState.{row_reading}
+use Rattle.bus_due.specs.bus_dialogue.specs.declared.exchange.Phase.TheVariants as phases
+use Rattle.bus_due.specs.bus_dialogue.specs.declared.exchange.Task.{Task}
+use Rattle.bus_due.specs.bus_dialogue.specs.Arrivals.{policy_of}
+use Rattle.bus_due.specs.bus_dialogue.specs.DataRuns.{run_at, run_length}
+use Rattle.bus_due.specs.bus_dialogue.specs.Hearing.{begun}
+use Rattle.bus_due.specs.bus_dialogue.specs.NextPhase.{phase_of}
+use Rattle.bus_due.specs.bus_dialogue.specs.PhaseBytes.{data_byte, phase_byte, run_length_if}
 use Rattle.bus_due.specs.Defs.{target_def_of}
 use Rattle.bus_due.specs.LastingState.{progress_in}
 use Rattle.bus_due.specs.Next.{IsPrompt}
@@ -39,12 +39,12 @@ use Rattle.bus_due.specs.RunSteps.{run_state}
 use Rattle.bus_due.specs.Sights.{serving_of}
 use Rattle.bus_due.specs.Tasks.{is_writing, given_if, moved_count, reply_now, task_if, task_with}
 use Rattle.bus_due.proofs.Plains.{run_state_plain}
-use Rattle.bus_books.specs.Traces.{GoesOn}
-use Rattle.bus_books.proofs.CarriedRows.{process_id}
-use Rattle.bus_laws.proofs.Apart.{change_plain}
-use Rattle.bus_laws.proofs.Prompt.{least_is}
+use Rattle.trace_laws.specs.bus_books.specs.Traces.{GoesOn}
+use Rattle.trace_laws.specs.bus_books.proofs.CarriedRows.{process_id}
+use Rattle.trace_laws.specs.bus_laws.proofs.Apart.{change_plain}
+use Rattle.trace_laws.specs.bus_laws.proofs.Prompt.{least_is}
 use Rattle.trace_laws.specs.RunCounts.{AreCounted, CountFacts, pulses_here}
-use Rattle.link_laws.specs.Pulses.{run_count}
+use Rattle.trace_laws.specs.link_laws.specs.Pulses.{run_count}
 use Rattle.trace_laws.proofs.ByteValues.{byte_values}
 use Rattle.trace_laws.proofs.Plans.{is_directed, writes_of, writes_out}
 use Rattle.trace_laws.proofs.RunAsks.{out_step, rise_of}
@@ -56,7 +56,7 @@ use Rattle.right_laws.proofs.DataOfferFacts.{DataOfferFacts, data_in_carries}
 use Rattle.right_laws.proofs.DataOffers.{is_data_in, data_at}
 use Rattle.right_laws.proofs.RanFacts.{Known}
 use Rattle.right_laws.proofs.RowCrossings.{GoesSo, crossing_goes, known_served}
-use Rattle.bus_base.proofs.Tests.{wrong, wrong', plus_none}
+use Rattle.bus_due.specs.bus_base.proofs.Tests.{wrong, wrong', plus_none}
 use Rattle.trace_laws.proofs.Tests.{risen}
 
 -- ---- what moves

@@ -1,24 +1,24 @@
 -- A reply that is not GOOD gives no bytes; and as a process runs its reply is the one that it has then (7.3, 7.5).
 use Rattle.std.proofs.Common.{ℕ, ◌≡◌, Bool, true, false, not, ◌&&◌, ◌==◌, ◌∙◌, List, [], ◌∷◌, Option, Some, None, refl, sym, ap}
 use Rattle.std.specs.Prelude.{Result, Ok, Err, if◌then◌else◌}
-use Rattle.cdb_codec.specs.Cdb.{command_of}
-use Rattle.cdb_codec.specs.declared.command.CdbFault.{CdbFault}
-use Rattle.cdb_codec.specs.declared.command.CdbFault.TheVariants as faults
-use Rattle.cdb_codec.specs.declared.command.Command.{Command}
-use Rattle.cdb_codec.specs.declared.command.Command.TheVariants as commands
-use Rattle.cdb_codec.specs.declared.status.TheConstants.{GOOD}
-use Rattle.scenario.specs.Value.{ScenarioValue}
-use Rattle.disk_array.specs.Execution.{CommandContext, Reply, check_condition, cdb_execution, command_execution, attention_execution, execution, heeds_attention, is_good_range, needs_unit, range_execution, range_of, reply_execution, block_out_of_range, unit_not_supported}
-use Rattle.disk_array.specs.Processes.{Process, process_of}
-use Rattle.disk_array.specs.SoundArray.{AllOwn, AllOwnGuests, AllOwnUnits, IsOwnRunning, IsSound}
-use Rattle.disk_array.specs.Steps as Steps
-use Rattle.disk_array.specs.Units.{Array, RunningProcess, UnitState, nexus_of, unit_state_at}
-use Rattle.cdb_codec.specs.declared.Sense.{Sense}
+use Rattle.bus_due.specs.cdb_codec.specs.Cdb.{command_of}
+use Rattle.bus_due.specs.cdb_codec.specs.declared.command.CdbFault.{CdbFault}
+use Rattle.bus_due.specs.cdb_codec.specs.declared.command.CdbFault.TheVariants as faults
+use Rattle.bus_due.specs.cdb_codec.specs.declared.command.Command.{Command}
+use Rattle.bus_due.specs.cdb_codec.specs.declared.command.Command.TheVariants as commands
+use Rattle.bus_due.specs.cdb_codec.specs.declared.status.TheConstants.{GOOD}
+use Rattle.bus_due.specs.scenario.specs.Value.{ScenarioValue}
+use Rattle.bus_due.specs.disk_array.specs.Execution.{CommandContext, Reply, check_condition, cdb_execution, command_execution, attention_execution, execution, heeds_attention, is_good_range, needs_unit, range_execution, range_of, reply_execution, block_out_of_range, unit_not_supported}
+use Rattle.bus_due.specs.disk_array.specs.Processes.{Process, process_of}
+use Rattle.bus_due.specs.disk_array.specs.SoundArray.{AllOwn, AllOwnGuests, AllOwnUnits, IsOwnRunning, IsSound}
+use Rattle.bus_due.specs.disk_array.specs.Steps as Steps
+use Rattle.bus_due.specs.disk_array.specs.Units.{Array, RunningProcess, UnitState, nexus_of, unit_state_at}
+use Rattle.bus_due.specs.cdb_codec.specs.declared.Sense.{Sense}
 use Rattle.bus_due.specs.Tasks.{reply_now}
 use Rattle.trace_laws.specs.Places.{OnGuests, OnUnits, Runs, Waits}
 use Rattle.right_laws.proofs.OpenProcesses.{running_has}
 use Rattle.std.proofs.lemmas.Option.{same_Some}
-use Rattle.bus_base.proofs.Tests.{wrong}
+use Rattle.bus_due.specs.bus_base.proofs.Tests.{wrong}
 use Rattle.trace_laws.proofs.ArrayBytes.{IsOf}
 use Rattle.trace_laws.proofs.ListedReplies.{running_id}
 

@@ -2,31 +2,31 @@
 -- brings back another (6.4, 6.6.13, 6.6.19).
 use Rattle.std.proofs.Common.{◌≡◌, Bool, true, false, ◌%◌, ◌∙◌, List, [], ◌∷◌, Option, Some, None, refl, sym, ap}
 use Rattle.std.specs.Prelude.{if◌then◌else◌, is_some, is_none}
-use Rattle.bus_base.specs.declared.Event.{Event}
-use Rattle.bus_base.specs.declared.Event.TheVariants as events
-use Rattle.bus_base.specs.declared.ProcId.{ProcId}
-use Rattle.bus_trace.specs.LineSet.{LineSet}
-use Rattle.bus_trace.specs.declared.Row.{Row}
-use Rattle.bus_trace.specs.declared.Kind.{Kind}
-use Rattle.bus_trace.specs.declared.Kind.TheVariants.{Drives, Fault}
-use Rattle.bus_trace.specs.declared.changes.Change.{Change}
-use Rattle.bus_trace.specs.declared.connection.Connection.{Connection}
-use Rattle.msg_grammar.specs.declared.message.MsgIn.{MsgIn}
-use Rattle.msg_grammar.specs.declared.message.MsgOut.{MsgOut}
-use Rattle.scenario.specs.Value.{ScenarioValue}
-use Rattle.disk_array.specs.Processes.{same_id}
-use Rattle.bus_story.specs.BusState.{RowReading, row_reading}
-use Rattle.bus_story.specs.CarriedBytes.{CarriedBytes, carried_of, with_carried, with_restored_pointers, carried_after_message, carried_after_byte, carried_after_fault}
-use Rattle.bus_story.specs.HistoryEvents.{carried_if, row_events_by}
-use Rattle.bus_story.specs.Items.{Item, process, abort}
-use Rattle.bus_story.specs.Links.{Link, link_of, last_out, last_in, link_after_name}
-use Rattle.bus_story.specs.Story.{Story, by_abort, by_reset, is_aborted, is_sense_stopped, marked_refused, marked_shown, story_with_end, story_after_event, story_after_events}
-use Rattle.bus_story.specs.TraceHistory.{aim_of, story_with_restored, story_with_sent, story_after_connection, story_with_carried, is_parity_error, story_after_out, carried_after_message_if, story_after_message, story_after_in, carried_after_byte_if, story_after_byte, carried_after_fault_if, story_after_fault, story_in_connection, story_on_bus, story_by_change}
-use Rattle.bus_story.proofs.StorySteps.{free_carried, message_id, ends_carried, check_carried}
-use Rattle.bus_story.proofs.CarriedLists.{carried_id, carried_with}
+use Rattle.bus_due.specs.bus_base.specs.declared.Event.{Event}
+use Rattle.bus_due.specs.bus_base.specs.declared.Event.TheVariants as events
+use Rattle.bus_due.specs.bus_base.specs.declared.ProcId.{ProcId}
+use Rattle.bus_due.specs.bus_trace.specs.LineSet.{LineSet}
+use Rattle.bus_due.specs.bus_trace.specs.declared.Row.{Row}
+use Rattle.bus_due.specs.bus_trace.specs.declared.Kind.{Kind}
+use Rattle.bus_due.specs.bus_trace.specs.declared.Kind.TheVariants.{Drives, Fault}
+use Rattle.bus_due.specs.bus_trace.specs.declared.changes.Change.{Change}
+use Rattle.bus_due.specs.bus_trace.specs.declared.connection.Connection.{Connection}
+use Rattle.bus_due.specs.msg_grammar.specs.declared.message.MsgIn.{MsgIn}
+use Rattle.bus_due.specs.msg_grammar.specs.declared.message.MsgOut.{MsgOut}
+use Rattle.bus_due.specs.scenario.specs.Value.{ScenarioValue}
+use Rattle.bus_due.specs.disk_array.specs.Processes.{same_id}
+use Rattle.bus_due.specs.bus_story.specs.BusState.{RowReading, row_reading}
+use Rattle.bus_due.specs.bus_story.specs.CarriedBytes.{CarriedBytes, carried_of, with_carried, with_restored_pointers, carried_after_message, carried_after_byte, carried_after_fault}
+use Rattle.bus_due.specs.bus_story.specs.HistoryEvents.{carried_if, row_events_by}
+use Rattle.bus_due.specs.bus_story.specs.Items.{Item, process, abort}
+use Rattle.bus_due.specs.bus_story.specs.Links.{Link, link_of, last_out, last_in, link_after_name}
+use Rattle.bus_due.specs.bus_story.specs.Story.{Story, by_abort, by_reset, is_aborted, is_sense_stopped, marked_refused, marked_shown, story_with_end, story_after_event, story_after_events}
+use Rattle.bus_due.specs.bus_story.specs.TraceHistory.{aim_of, story_with_restored, story_with_sent, story_after_connection, story_with_carried, is_parity_error, story_after_out, carried_after_message_if, story_after_message, story_after_in, carried_after_byte_if, story_after_byte, carried_after_fault_if, story_after_fault, story_in_connection, story_on_bus, story_by_change}
+use Rattle.bus_due.specs.bus_story.proofs.StorySteps.{free_carried, message_id, ends_carried, check_carried}
+use Rattle.bus_due.specs.bus_story.proofs.CarriedLists.{carried_id, carried_with}
 use Rattle.bus_due.specs.RunState.{RunState, carried_here}
 use Rattle.bus_due.specs.RunSteps.{run_state_after}
-use Rattle.bus_books.proofs.Lookups.{id_is}
+use Rattle.trace_laws.specs.bus_books.proofs.Lookups.{id_is}
 use Rattle.trace_laws.proofs.PointerStorySteps.{byte_id, fault_id}
 
 -- Neither pointers, marks nor faults change it.

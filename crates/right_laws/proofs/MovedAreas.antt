@@ -1,23 +1,23 @@
 -- As a byte of a data phase crosses it comes into the data that the process carries (6.1.5, 6.6.19).
 use Rattle.std.proofs.Common.{ℕ, ◌≡◌, true, false, ◌%◌, ◌∙◌, Option, Some, ap}
 use Rattle.std.specs.Prelude.{if◌then◌else◌, is_some}
-use Rattle.bus_base.specs.declared.ProcId.{ProcId}
-use Rattle.bus_trace.specs.Phases.{is_command, is_data}
-use Rattle.bus_trace.specs.Terms.{receiver_in}
-use Rattle.bus_trace.specs.declared.Row.{Row}
-use Rattle.bus_trace.specs.declared.changes.Change.{Change}
-use Rattle.bus_trace.specs.declared.connection.Connection.{Connection}
-use Rattle.scenario.specs.Value.{ScenarioValue}
-use Rattle.bus_story.specs.BusState.{RowReading}
-use Rattle.bus_story.specs.CarriedBytes.{Area, CarriedBytes, area_with, carried_of}
-use Rattle.bus_story.specs.HistoryEvents.{link_events}
-use Rattle.bus_story.specs.Items.{process}
-use Rattle.bus_story.specs.Links.{Link}
-use Rattle.bus_story.specs.Story.{Story}
-use Rattle.bus_story.specs.TraceHistory.{story_after_out, story_after_in, story_after_byte, story_in_connection}
+use Rattle.bus_due.specs.bus_base.specs.declared.ProcId.{ProcId}
+use Rattle.bus_due.specs.bus_trace.specs.Phases.{is_command, is_data}
+use Rattle.bus_due.specs.bus_trace.specs.Terms.{receiver_in}
+use Rattle.bus_due.specs.bus_trace.specs.declared.Row.{Row}
+use Rattle.bus_due.specs.bus_trace.specs.declared.changes.Change.{Change}
+use Rattle.bus_due.specs.bus_trace.specs.declared.connection.Connection.{Connection}
+use Rattle.bus_due.specs.scenario.specs.Value.{ScenarioValue}
+use Rattle.bus_due.specs.bus_story.specs.BusState.{RowReading}
+use Rattle.bus_due.specs.bus_story.specs.CarriedBytes.{Area, CarriedBytes, area_with, carried_of}
+use Rattle.bus_due.specs.bus_story.specs.HistoryEvents.{link_events}
+use Rattle.bus_due.specs.bus_story.specs.Items.{process}
+use Rattle.bus_due.specs.bus_story.specs.Links.{Link}
+use Rattle.bus_due.specs.bus_story.specs.Story.{Story}
+use Rattle.bus_due.specs.bus_story.specs.TraceHistory.{story_after_out, story_after_in, story_after_byte, story_in_connection}
 use Rattle.bus_due.specs.RunState.{RunState, carried_here}
 use Rattle.bus_due.specs.RunSteps.{run_state_after}
-use Rattle.bus_books.specs.Rows.{IsRowIn, reading_in}
+use Rattle.trace_laws.specs.bus_books.specs.Rows.{IsRowIn, reading_in}
 use Rattle.trace_laws.proofs.PointerStorySteps.{byte_moves, byte_story}
 use Rattle.trace_laws.proofs.PointerStories.{story_row}
 use Rattle.right_laws.specs.Loads.{Load, load}

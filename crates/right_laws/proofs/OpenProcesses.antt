@@ -4,19 +4,19 @@ use Rattle.std.proofs.Common.{◌≡◌, Bool, true, false, ◌∙◌, List, [],
 use Rattle.std.specs.Prelude.{if◌then◌else◌, is_some}
 use Rattle.std.proofs.lemmas.Option.{same_Some}
 use Rattle.std.proofs.lemmas.Bool.{or_parts}
-use Rattle.bus_base.specs.declared.Event.{Event}
-use Rattle.bus_base.specs.declared.Event.TheVariants as events
-use Rattle.bus_base.specs.declared.ProcId.{ProcId}
-use Rattle.scenario.specs.Value.{ScenarioValue}
-use Rattle.disk_array.specs.ArrayHistory.{array_step, reply_in}
-use Rattle.disk_array.specs.Execution.{Reply}
-use Rattle.disk_array.specs.Processes.{Process, process_of, same_id}
-use Rattle.disk_array.specs.Steps as Steps
-use Rattle.disk_array.specs.Units.{RunningProcess, UnitState, Array, guest_at, starting_array, settled_array, without_reply}
-use Rattle.disk_array.proofs.ArrayReplies.{loss_lists, end_lists}
+use Rattle.bus_due.specs.bus_base.specs.declared.Event.{Event}
+use Rattle.bus_due.specs.bus_base.specs.declared.Event.TheVariants as events
+use Rattle.bus_due.specs.bus_base.specs.declared.ProcId.{ProcId}
+use Rattle.bus_due.specs.scenario.specs.Value.{ScenarioValue}
+use Rattle.bus_due.specs.disk_array.specs.ArrayHistory.{array_step, reply_in}
+use Rattle.bus_due.specs.disk_array.specs.Execution.{Reply}
+use Rattle.bus_due.specs.disk_array.specs.Processes.{Process, process_of, same_id}
+use Rattle.bus_due.specs.disk_array.specs.Steps as Steps
+use Rattle.bus_due.specs.disk_array.specs.Units.{RunningProcess, UnitState, Array, guest_at, starting_array, settled_array, without_reply}
+use Rattle.bus_due.specs.disk_array.proofs.ArrayReplies.{loss_lists, end_lists}
 use Rattle.bus_due.specs.RunSteps.{array_after_events}
-use Rattle.bus_books.proofs.CarriedRows.{process_id}
-use Rattle.bus_books.proofs.Lookups.{self_id}
+use Rattle.trace_laws.specs.bus_books.proofs.CarriedRows.{process_id}
+use Rattle.trace_laws.specs.bus_books.proofs.Lookups.{self_id}
 use Rattle.trace_laws.specs.Places.{Each, OnUnits, OnGuests, Waits, Runs, IsAway}
 use Rattle.trace_laws.proofs.EachProcess.{Admits, AdmitsEvent, each_after}
 use Rattle.trace_laws.proofs.ListedReplies.{replies_to, listed_on, accepted}
@@ -25,7 +25,7 @@ use Rattle.trace_laws.proofs.Impossible.{none_some}
 use Rattle.trace_laws.proofs.KeptReplies.{no_array}
 use Rattle.trace_laws.proofs.PlaceReady.{on_running}
 use Rattle.right_laws.specs.Open.{OnEvents, IfOpen, OnOpen}
-use Rattle.bus_base.proofs.Tests.{wrong}
+use Rattle.bus_due.specs.bus_base.proofs.Tests.{wrong}
 
 -- ---- of each process
 

@@ -2,38 +2,38 @@
 -- trace (6.4, 6.6.5, 7.3).
 use Rattle.std.proofs.Common.{ℕ, ◌≡◌, ◌⊎◌, inl, inr, Bool, true, false, not, ◌&&◌, ◌||◌, ◌%◌, ◌∙◌, List, [], ◌∷◌, ◌++◌, Option, Some, None, refl, sym, ap, subst, true≢false}
 use Rattle.std.specs.Prelude.{if◌then◌else◌, is_some, slice_index}
-use Rattle.bus_base.specs.declared.Event.{Event}
-use Rattle.bus_base.specs.declared.Event.TheVariants as events
-use Rattle.bus_base.specs.declared.ProcId.{ProcId}
-use Rattle.bus_trace.specs.Changes.{rises}
-use Rattle.bus_trace.specs.LineSet.{LineSet}
-use Rattle.bus_trace.specs.Phases.{is_command, is_data}
-use Rattle.bus_trace.specs.declared.Row.{Row}
-use Rattle.bus_trace.specs.declared.changes.Change.{Change}
-use Rattle.scenario.specs.Value.{ScenarioValue}
-use Rattle.disk_array.specs.ArrayHistory.{array_step, reply_in}
-use Rattle.disk_array.specs.Execution.{Reply}
-use Rattle.disk_array.specs.Processes.{same_id}
-use Rattle.disk_array.specs.Steps as Steps
-use Rattle.disk_array.specs.Units.{RunningProcess, Array, guest_at}
-use Rattle.bus_story.specs.BusState.{RowReading, row_reading}
-use Rattle.bus_story.specs.CarriedBytes.{CarriedBytes, area_with, carried_after_byte, is_status_phase}
-use Rattle.bus_story.specs.HistoryEvents.{is_complete, is_completion, row_events_by}
-use Rattle.bus_story.specs.Items.{process, has_item}
-use Rattle.bus_story.specs.Links.{Link}
-use Rattle.bus_story.specs.Right.{is_run_of, has_run}
-use Rattle.bus_story.specs.Story.{story_after_events}
-use Rattle.bus_story.specs.TraceHistory.{story_by_change}
-use Rattle.bus_dialogue.specs.declared.exchange.Phase.{Phase}
-use Rattle.bus_dialogue.specs.declared.exchange.Phase.TheVariants as phases
-use Rattle.bus_dialogue.specs.NextPhase.{phase_of}
+use Rattle.bus_due.specs.bus_base.specs.declared.Event.{Event}
+use Rattle.bus_due.specs.bus_base.specs.declared.Event.TheVariants as events
+use Rattle.bus_due.specs.bus_base.specs.declared.ProcId.{ProcId}
+use Rattle.bus_due.specs.bus_trace.specs.Changes.{rises}
+use Rattle.bus_due.specs.bus_trace.specs.LineSet.{LineSet}
+use Rattle.bus_due.specs.bus_trace.specs.Phases.{is_command, is_data}
+use Rattle.bus_due.specs.bus_trace.specs.declared.Row.{Row}
+use Rattle.bus_due.specs.bus_trace.specs.declared.changes.Change.{Change}
+use Rattle.bus_due.specs.scenario.specs.Value.{ScenarioValue}
+use Rattle.bus_due.specs.disk_array.specs.ArrayHistory.{array_step, reply_in}
+use Rattle.bus_due.specs.disk_array.specs.Execution.{Reply}
+use Rattle.bus_due.specs.disk_array.specs.Processes.{same_id}
+use Rattle.bus_due.specs.disk_array.specs.Steps as Steps
+use Rattle.bus_due.specs.disk_array.specs.Units.{RunningProcess, Array, guest_at}
+use Rattle.bus_due.specs.bus_story.specs.BusState.{RowReading, row_reading}
+use Rattle.bus_due.specs.bus_story.specs.CarriedBytes.{CarriedBytes, area_with, carried_after_byte, is_status_phase}
+use Rattle.bus_due.specs.bus_story.specs.HistoryEvents.{is_complete, is_completion, row_events_by}
+use Rattle.bus_due.specs.bus_story.specs.Items.{process, has_item}
+use Rattle.bus_due.specs.bus_story.specs.Links.{Link}
+use Rattle.bus_due.specs.bus_story.specs.Right.{is_run_of, has_run}
+use Rattle.bus_due.specs.bus_story.specs.Story.{story_after_events}
+use Rattle.bus_due.specs.bus_story.specs.TraceHistory.{story_by_change}
+use Rattle.bus_due.specs.bus_dialogue.specs.declared.exchange.Phase.{Phase}
+use Rattle.bus_due.specs.bus_dialogue.specs.declared.exchange.Phase.TheVariants as phases
+use Rattle.bus_due.specs.bus_dialogue.specs.NextPhase.{phase_of}
 use Rattle.bus_due.specs.Plain.{IsPlain}
 use Rattle.bus_due.specs.RunState.{RunState, array_of, or_start, bus_of, carried_here}
 use Rattle.bus_due.specs.RunSteps.{run_state, run_state_after, array_after_events}
 use Rattle.bus_due.proofs.Plains.{run_state_plain}
-use Rattle.bus_books.specs.Hearing.{is_in_phase}
-use Rattle.bus_books.specs.Traces.{GoesOn}
-use Rattle.bus_books.proofs.Lookups.{id_is, self_id}
+use Rattle.trace_laws.specs.bus_books.specs.Hearing.{is_in_phase}
+use Rattle.trace_laws.specs.bus_books.specs.Traces.{GoesOn}
+use Rattle.trace_laws.specs.bus_books.proofs.Lookups.{id_is, self_id}
 use Rattle.trace_laws.specs.ItemFacts.{ItemFacts}
 use Rattle.trace_laws.specs.Places.{IsUntouched, RunsOpen, PlaceFacts, PlacedIn}
 use Rattle.trace_laws.specs.Tells.{AreRepliesShown}
@@ -51,7 +51,7 @@ use Rattle.right_laws.proofs.OpenProcesses.{IfAccepts, reply_kept, replies_kept,
 use Rattle.right_laws.proofs.RowCrossings.{GoesSo, crossing_goes, here_goes, known_served, IsPlaced, placed_here, new_here, InBytes, in_command, in_data, in_status, byte_phase}
 use Rattle.right_laws.proofs.ShownRows.{IsArrival, IsAnswer, ShownAs, row_shown, RunsAs, runs_alone, runs_arrived, row_runs}
 use Rattle.right_laws.proofs.UndoneLoads.{lasting_load, load_asks, loads_stay}
-use Rattle.bus_base.proofs.Tests.{wrong, wrong'}
+use Rattle.bus_due.specs.bus_base.proofs.Tests.{wrong, wrong'}
 use Rattle.trace_laws.proofs.PhaseLines.{command_phase}
 use Rattle.trace_laws.specs.DataPointers.{is_marked}
 use Rattle.trace_laws.proofs.Impossible.{none_some}

@@ -1,16 +1,16 @@
 -- What is known of the reads after any rows of a prompt trace: where their pointers stand as a byte of DATA IN crosses and as they run, and
 -- that as COMMAND is left they have carried no data (6.1.5.1, 6.6.6, 6.6.20).
 use Rattle.std.proofs.Common.{List, [], ◌∷◌}
-use Rattle.bus_trace.specs.declared.Row.{Row}
-use Rattle.scenario.specs.Value.{ScenarioValue}
-use Rattle.scenario.specs.Writing.{Obeys}
-use Rattle.scsi_device.proofs.FitLines.{obeys_fits, seats_are}
-use Rattle.scsi_device.specs.Writes.{writers}
-use Rattle.bus_story.specs.Items.{process}
+use Rattle.bus_due.specs.bus_trace.specs.declared.Row.{Row}
+use Rattle.bus_due.specs.scenario.specs.Value.{ScenarioValue}
+use Rattle.bus_due.specs.scenario.specs.Writing.{Obeys}
+use Rattle.trace_laws.specs.scsi_device.proofs.FitLines.{obeys_fits, seats_are}
+use Rattle.trace_laws.specs.scsi_device.specs.Writes.{writers}
+use Rattle.bus_due.specs.bus_story.specs.Items.{process}
 use Rattle.bus_due.specs.Next.{IsPrompt}
 use Rattle.bus_due.specs.RunState.{RunState}
 use Rattle.bus_due.specs.RunSteps.{run_state}
-use Rattle.bus_laws.proofs.Prompt.{least_is}
+use Rattle.trace_laws.specs.bus_laws.proofs.Prompt.{least_is}
 use Rattle.trace_laws.specs.RunsLeft.{RunsLeftOf}
 use Rattle.trace_laws.proofs.DataPremises.{data_premises}
 use Rattle.trace_laws.proofs.Joint.{NextStood}

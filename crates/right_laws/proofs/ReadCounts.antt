@@ -2,38 +2,38 @@
 use Rattle.std.proofs.Common.{ℕ, ◌≡◌, ◌⊎◌, inl, inr, ◌≤◌, ◌<◌, arith, Bool, true, false, not, ◌&&◌, ◌||◌, ◌==◌, ◌∙◌, List, [], ◌∷◌, Option, Some, None, refl, sym, ap, subst}
 use Rattle.std.specs.Prelude.{if◌then◌else◌, is_none, is_some, nat_lt}
 use Rattle.std.proofs.lemmas.Option.{same_Some}
-use Rattle.bus_base.specs.Faults.{counted_on}
-use Rattle.bus_base.specs.declared.Event.{Event}
-use Rattle.bus_base.specs.declared.Event.TheVariants as events
-use Rattle.bus_base.specs.declared.ProcId.{ProcId}
-use Rattle.bus_trace.specs.LineSet.{LineSet}
-use Rattle.bus_trace.specs.Changes.{change_of, rises}
-use Rattle.bus_trace.specs.Phases.{changes_phase, is_message_out}
-use Rattle.bus_trace.specs.Terms.{connection, is_fault, receiver_in}
-use Rattle.bus_trace.specs.Trace.{bus}
-use Rattle.bus_trace.specs.declared.Row.{Row}
-use Rattle.bus_trace.specs.declared.changes.Change.{Change}
-use Rattle.bus_trace.specs.declared.connection.Connection.{Connection}
-use Rattle.bus_lines.specs.Handshakes.{Handshakes, handshakes, handshakes_after}
-use Rattle.scenario.specs.Value.{ScenarioValue}
-use Rattle.scenario.specs.Writing.{Obeys}
-use Rattle.scenario.specs.declared.value.Policy.{Policy}
-use Rattle.scsi_device.proofs.FitLines.{obeys_fits, seats_are}
-use Rattle.disk_array.specs.ArrayHistory.{array_after}
-use Rattle.disk_array.specs.Processes.{Process, process_of}
-use Rattle.bus_story.specs.BusState.{RowReading, row_reading}
-use Rattle.bus_story.specs.CarriedBytes.{is_status_phase}
-use Rattle.bus_story.specs.HistoryEvents.{row_events_by}
-use Rattle.bus_story.specs.Story.{Story}
-use Rattle.bus_dialogue.specs.declared.exchange.Leaving.{Leaving}
-use Rattle.bus_dialogue.specs.declared.exchange.Phase.{Phase}
-use Rattle.bus_dialogue.specs.declared.exchange.Phase.TheVariants as phases
-use Rattle.bus_dialogue.specs.declared.exchange.Task.{Task}
-use Rattle.bus_dialogue.specs.Arrivals.{policy_of}
-use Rattle.bus_dialogue.specs.DataRuns.{run_length, runs_in_all}
-use Rattle.bus_dialogue.specs.Hearing.{begun, begun_after}
-use Rattle.bus_dialogue.specs.NextPhase.{Serving, leaving_by, phase_leaving, phase_of}
-use Rattle.bus_dialogue.specs.PhaseBytes.{run_length_if}
+use Rattle.bus_due.specs.bus_base.specs.Faults.{counted_on}
+use Rattle.bus_due.specs.bus_base.specs.declared.Event.{Event}
+use Rattle.bus_due.specs.bus_base.specs.declared.Event.TheVariants as events
+use Rattle.bus_due.specs.bus_base.specs.declared.ProcId.{ProcId}
+use Rattle.bus_due.specs.bus_trace.specs.LineSet.{LineSet}
+use Rattle.bus_due.specs.bus_trace.specs.Changes.{change_of, rises}
+use Rattle.bus_due.specs.bus_trace.specs.Phases.{changes_phase, is_message_out}
+use Rattle.bus_due.specs.bus_trace.specs.Terms.{connection, is_fault, receiver_in}
+use Rattle.bus_due.specs.bus_trace.specs.Trace.{bus}
+use Rattle.bus_due.specs.bus_trace.specs.declared.Row.{Row}
+use Rattle.bus_due.specs.bus_trace.specs.declared.changes.Change.{Change}
+use Rattle.bus_due.specs.bus_trace.specs.declared.connection.Connection.{Connection}
+use Rattle.bus_due.specs.bus_lines.specs.Handshakes.{Handshakes, handshakes, handshakes_after}
+use Rattle.bus_due.specs.scenario.specs.Value.{ScenarioValue}
+use Rattle.bus_due.specs.scenario.specs.Writing.{Obeys}
+use Rattle.bus_due.specs.scenario.specs.declared.value.Policy.{Policy}
+use Rattle.trace_laws.specs.scsi_device.proofs.FitLines.{obeys_fits, seats_are}
+use Rattle.bus_due.specs.disk_array.specs.ArrayHistory.{array_after}
+use Rattle.bus_due.specs.disk_array.specs.Processes.{Process, process_of}
+use Rattle.bus_due.specs.bus_story.specs.BusState.{RowReading, row_reading}
+use Rattle.bus_due.specs.bus_story.specs.CarriedBytes.{is_status_phase}
+use Rattle.bus_due.specs.bus_story.specs.HistoryEvents.{row_events_by}
+use Rattle.bus_due.specs.bus_story.specs.Story.{Story}
+use Rattle.bus_due.specs.bus_dialogue.specs.declared.exchange.Leaving.{Leaving}
+use Rattle.bus_due.specs.bus_dialogue.specs.declared.exchange.Phase.{Phase}
+use Rattle.bus_due.specs.bus_dialogue.specs.declared.exchange.Phase.TheVariants as phases
+use Rattle.bus_due.specs.bus_dialogue.specs.declared.exchange.Task.{Task}
+use Rattle.bus_due.specs.bus_dialogue.specs.Arrivals.{policy_of}
+use Rattle.bus_due.specs.bus_dialogue.specs.DataRuns.{run_length, runs_in_all}
+use Rattle.bus_due.specs.bus_dialogue.specs.Hearing.{begun, begun_after}
+use Rattle.bus_due.specs.bus_dialogue.specs.NextPhase.{Serving, leaving_by, phase_leaving, phase_of}
+use Rattle.bus_due.specs.bus_dialogue.specs.PhaseBytes.{run_length_if}
 use Rattle.bus_due.specs.Defs.{target_def_of}
 use Rattle.bus_due.specs.LastingState.{ProcessProgress, progress_in}
 use Rattle.bus_due.specs.Next.{IsPrompt}
@@ -43,14 +43,14 @@ use Rattle.bus_due.specs.RunSteps.{progress_by_leaving, run_state}
 use Rattle.bus_due.specs.Sights.{leaving, serving_of}
 use Rattle.bus_due.specs.Tasks.{is_writing, moved_count, reply_now, task_if}
 use Rattle.bus_due.proofs.Plains.{run_state_plain}
-use Rattle.bus_books.specs.Knowing.{Knows}
-use Rattle.bus_books.specs.Rows.{IsRowIn, RowKind, still, strikes, crosses, turns}
-use Rattle.bus_books.proofs.Gives.{requests_rise, requests_stay}
-use Rattle.bus_lines.proofs.Early.{struck_same}
-use Rattle.bus_books.proofs.InConnection.{InConnection, in_connection, reading_is, same_phase_is}
-use Rattle.bus_laws.specs.Ends.{BeginsConnection, by_reselection, by_selection}
-use Rattle.bus_laws.proofs.Prompt.{least_is}
-use Rattle.link_laws.specs.Pulses.{run_count}
+use Rattle.trace_laws.specs.bus_books.specs.Knowing.{Knows}
+use Rattle.trace_laws.specs.bus_books.specs.Rows.{IsRowIn, RowKind, still, strikes, crosses, turns}
+use Rattle.trace_laws.specs.bus_books.proofs.Gives.{requests_rise, requests_stay}
+use Rattle.bus_due.specs.bus_lines.proofs.Early.{struck_same}
+use Rattle.trace_laws.specs.bus_books.proofs.InConnection.{InConnection, in_connection, reading_is, same_phase_is}
+use Rattle.trace_laws.specs.bus_laws.specs.Ends.{BeginsConnection, by_reselection, by_selection}
+use Rattle.trace_laws.specs.bus_laws.proofs.Prompt.{least_is}
+use Rattle.trace_laws.specs.link_laws.specs.Pulses.{run_count}
 use Rattle.trace_laws.specs.RunFacts.{IsServedWell, RunsBy}
 use Rattle.trace_laws.proofs.ConnectionRows.{GoingRow, RowKindOf, begins_now, connection_row, goes_now, going_row, row_kind}
 use Rattle.trace_laws.proofs.FirstRows.{IsFirst}
@@ -75,7 +75,7 @@ use Rattle.right_laws.proofs.ReadRuns.{fits_reads}
 use Rattle.right_laws.proofs.RowCrossings.{here_goes, known_served}
 use Rattle.right_laws.proofs.SameReplies.{events_same}
 use Rattle.right_laws.proofs.ShownRows.{IsArrival, ShownAs, row_shown}
-use Rattle.bus_base.proofs.Tests.{wrong, wrong'}
+use Rattle.bus_due.specs.bus_base.proofs.Tests.{wrong, wrong'}
 
 abbrev pub IsReader : Process → Type 0
 IsReader q = is_writing q ≡ false
@@ -102,9 +102,9 @@ no_status b e = let x = data_parts b e in λ i. not (x.0 i) && x.1 i && b.io
 pub entry_reply : (s : ScenarioValue) (p : List Row) (row : Row) (n : Connection) (q : Process) → Obeys s → Known s p row → (row_reading (run_state s p).story.bus_state row).next ≡ Some n → (row_reading (run_state s p).story.bus_state row).change.after.rst ≡ false → changes_phase (row_reading (run_state s p).story.bus_state row).change ≡ true
     → is_data_in (row_reading (run_state s p).story.bus_state row).change.after ≡ true → reply_now (array_of s (run_state s (row ∷ p))) q ≡ reply_now (array_of s (run_state s p)) q
 entry_reply s p row n q o h next off turned reading =
-    ap (λ (a : Rattle.disk_array.specs.Units.Array). reply_now a q) (then_is s p row h)
+    ap (λ (a : Rattle.bus_due.specs.disk_array.specs.Units.Array). reply_now a q) (then_is s p row h)
     ∙ (events_same s h.places.array h.later.array shown q (seats_are s (obeys_fits s o)) h.places.sound (all_stay s q shown (each shown (row_shown s k row))) (steps_of s p row h)).same
-    ∙ ap (λ (a : Rattle.disk_array.specs.Units.Array). reply_now a q) (sym (here_is s p row h))
+    ∙ ap (λ (a : Rattle.bus_due.specs.disk_array.specs.Units.Array). reply_now a q) (sym (here_is s p row h))
   where
     k : RunState
     k = run_state s p
@@ -274,7 +274,7 @@ counted_up : (n m : ℕ) → n < m → counted_on n ≤ m
 counted_up n m h = omega (arith, h)
 
 pub none_asked : (n m : ℕ) → (n == 0) ≡ true → 1 ≤ m → n < m
-none_asked n m e h = let z = Rattle.bus_base.proofs.Tests.zero_of n e in omega (arith, z, h)
+none_asked n m e h = let z = Rattle.bus_due.specs.bus_base.proofs.Tests.zero_of n e in omega (arith, z, h)
 
 stays_few : (s : ScenarioValue) (p : List Row) (row : Row) (n : Connection) → ReadRow s p row → connection p ≡ Some n → (bus p).rst ≡ false → connection (row ∷ p) ≡ Some n → (bus (row ∷ p)).rst ≡ false → (g : GoingRow s p row n) → changes_phase g.change ≡ false → is_data_in (bus p) ≡ true → IsRunCounted s p n → IsRunCounted s (row ∷ p) n
 stays_few s p row n w con calm after off g ep here was = record { some = subst (λ (x : ℕ). 1 ≤ x) (sym long) was.some; few = subst (λ (x : ℕ). (handshakes (row ∷ p)).requests ≤ x) (sym long) (by r.kind) }

@@ -1,22 +1,22 @@
 -- DATA IN is entered from MESSAGE IN, or from COMMAND, for a process that does not write, while a run of its data is left (6.1.5.1, 6.6.6).
 use Rattle.std.proofs.Common.{◌≡◌, ◌+◌, Bool, true, false, ◌∙◌, Option, Some, None, refl, sym, ap}
 use Rattle.std.specs.Prelude.{if◌then◌else◌, nat_lt}
-use Rattle.scenario.specs.declared.value.Policy.{Policy}
-use Rattle.bus_dialogue.specs.declared.exchange.Arrival.{Arrival}
-use Rattle.bus_dialogue.specs.declared.exchange.Arrival.TheVariants as arrivals
-use Rattle.bus_dialogue.specs.declared.exchange.Leaving.{Leaving}
-use Rattle.bus_dialogue.specs.declared.exchange.Next.{Next}
-use Rattle.bus_dialogue.specs.declared.exchange.Next.TheVariants as nexts
-use Rattle.bus_dialogue.specs.declared.exchange.Phase.{Phase}
-use Rattle.bus_dialogue.specs.declared.exchange.Phase.TheVariants as phases
-use Rattle.bus_dialogue.specs.declared.exchange.Task.{Task}
-use Rattle.bus_dialogue.specs.Arrivals.{policy_of}
-use Rattle.bus_dialogue.specs.DataRuns.{runs_in_all}
-use Rattle.bus_dialogue.specs.NextPhase.{Serving, after_arrival, after_messages, after_run, bus_free, command_leaving, data_in_leaving, data_out_leaving, disconnect_messages, disconnection, message_out_leaving, next_data_phase, phase_entry, phase_leaving, pointer_restoration, recovery, with_task}
-use Rattle.bus_dialogue.specs.Exchange.{one_message}
-use Rattle.msg_grammar.specs.declared.message.MsgIn.TheVariants as to_initiator
+use Rattle.bus_due.specs.scenario.specs.declared.value.Policy.{Policy}
+use Rattle.bus_due.specs.bus_dialogue.specs.declared.exchange.Arrival.{Arrival}
+use Rattle.bus_due.specs.bus_dialogue.specs.declared.exchange.Arrival.TheVariants as arrivals
+use Rattle.bus_due.specs.bus_dialogue.specs.declared.exchange.Leaving.{Leaving}
+use Rattle.bus_due.specs.bus_dialogue.specs.declared.exchange.Next.{Next}
+use Rattle.bus_due.specs.bus_dialogue.specs.declared.exchange.Next.TheVariants as nexts
+use Rattle.bus_due.specs.bus_dialogue.specs.declared.exchange.Phase.{Phase}
+use Rattle.bus_due.specs.bus_dialogue.specs.declared.exchange.Phase.TheVariants as phases
+use Rattle.bus_due.specs.bus_dialogue.specs.declared.exchange.Task.{Task}
+use Rattle.bus_due.specs.bus_dialogue.specs.Arrivals.{policy_of}
+use Rattle.bus_due.specs.bus_dialogue.specs.DataRuns.{runs_in_all}
+use Rattle.bus_due.specs.bus_dialogue.specs.NextPhase.{Serving, after_arrival, after_messages, after_run, bus_free, command_leaving, data_in_leaving, data_out_leaving, disconnect_messages, disconnection, message_out_leaving, next_data_phase, phase_entry, phase_leaving, pointer_restoration, recovery, with_task}
+use Rattle.bus_due.specs.bus_dialogue.specs.Exchange.{one_message}
+use Rattle.bus_due.specs.msg_grammar.specs.declared.message.MsgIn.TheVariants as to_initiator
 use Rattle.trace_laws.proofs.SentEntries.{NotIn, by_task, either, is_in_next, out_not_in, recovers}
-use Rattle.bus_base.proofs.Tests.{wrong'}
+use Rattle.bus_due.specs.bus_base.proofs.Tests.{wrong'}
 
 pub record EntersRead (v : Serving) (l : Leaving) : Type 0 where
   pub task : Task

@@ -2,25 +2,25 @@
 use Rattle.std.proofs.Common.{ℕ, ◌≡◌, ◌*◌, Bool, true, false, not, ◌&&◌, ◌==◌, ◌∙◌, List, length, Option, Some, None, Result, Ok, Err, refl, sym, ap, subst, arith}
 use Rattle.std.specs.Prelude.{if◌then◌else◌}
 use Rattle.std.proofs.lemmas.Option.{same_Some}
-use Rattle.bus_base.specs.declared.Event.{Event}
-use Rattle.cdb_codec.specs.Blocks.{blocks_moved}
-use Rattle.cdb_codec.specs.Cdb.{command_of}
-use Rattle.cdb_codec.specs.declared.Sense.{Sense}
-use Rattle.cdb_codec.specs.declared.command.Command.{Command}
-use Rattle.cdb_codec.specs.declared.command.Command.TheVariants as commands
-use Rattle.cdb_codec.specs.declared.command.CdbFault.{CdbFault}
-use Rattle.cdb_codec.specs.declared.status.TheConstants.{GOOD}
-use Rattle.scenario.specs.Needs.{is_write}
-use Rattle.scenario.specs.Value.{ScenarioValue}
-use Rattle.scenario.specs.Writing.{Obeys}
-use Rattle.disk_array.specs.ArrayHistory.{array_after}
-use Rattle.disk_array.specs.Contents.{bytes_at}
-use Rattle.disk_array.specs.Execution.{CommandContext, attention_execution, block_out_of_range, cdb_execution, check_condition, command_execution, execution, heeds_attention, is_good_range, needs_unit, range_of, reply_execution, unit_not_supported}
-use Rattle.disk_array.specs.Order.{range_in}
-use Rattle.disk_array.specs.Processes.{Process}
-use Rattle.disk_array.specs.Seats.{contents_of}
-use Rattle.disk_array.specs.Steps.{context_at}
-use Rattle.disk_array.specs.Units.{Array, UnitState, nexus_of, unit_state_at}
+use Rattle.bus_due.specs.bus_base.specs.declared.Event.{Event}
+use Rattle.bus_due.specs.cdb_codec.specs.Blocks.{blocks_moved}
+use Rattle.bus_due.specs.cdb_codec.specs.Cdb.{command_of}
+use Rattle.bus_due.specs.cdb_codec.specs.declared.Sense.{Sense}
+use Rattle.bus_due.specs.cdb_codec.specs.declared.command.Command.{Command}
+use Rattle.bus_due.specs.cdb_codec.specs.declared.command.Command.TheVariants as commands
+use Rattle.bus_due.specs.cdb_codec.specs.declared.command.CdbFault.{CdbFault}
+use Rattle.bus_due.specs.cdb_codec.specs.declared.status.TheConstants.{GOOD}
+use Rattle.bus_due.specs.scenario.specs.Needs.{is_write}
+use Rattle.bus_due.specs.scenario.specs.Value.{ScenarioValue}
+use Rattle.bus_due.specs.scenario.specs.Writing.{Obeys}
+use Rattle.bus_due.specs.disk_array.specs.ArrayHistory.{array_after}
+use Rattle.bus_due.specs.disk_array.specs.Contents.{bytes_at}
+use Rattle.bus_due.specs.disk_array.specs.Execution.{CommandContext, attention_execution, block_out_of_range, cdb_execution, check_condition, command_execution, execution, heeds_attention, is_good_range, needs_unit, range_of, reply_execution, unit_not_supported}
+use Rattle.bus_due.specs.disk_array.specs.Order.{range_in}
+use Rattle.bus_due.specs.disk_array.specs.Processes.{Process}
+use Rattle.bus_due.specs.disk_array.specs.Seats.{contents_of}
+use Rattle.bus_due.specs.disk_array.specs.Steps.{context_at}
+use Rattle.bus_due.specs.disk_array.specs.Units.{Array, UnitState, nexus_of, unit_state_at}
 use Rattle.disk_unit.proofs.Parts.{length_bytes}
 use Rattle.bus_due.specs.RunState.{RunState, array_of, or_start}
 use Rattle.bus_due.specs.Tasks.{blocks_in, is_writing, moved_count, reply_now, size_of}
@@ -29,8 +29,8 @@ use Rattle.trace_laws.proofs.PolicyLines.{policies_most}
 use Rattle.trace_laws.proofs.RunFacts.{task_here}
 use Rattle.trace_laws.proofs.RunFits.{FitsRuns, lines_now, size_is}
 use Rattle.right_laws.proofs.WholeBlocks.{HasWhole, whole_always, whole_start}
-use Rattle.bus_base.proofs.Tests.{wrong}
-use Rattle.bus_books.specs.Accounts.{policy_for}
+use Rattle.bus_due.specs.bus_base.proofs.Tests.{wrong}
+use Rattle.trace_laws.specs.bus_books.specs.Accounts.{policy_for}
 use Rattle.std.proofs.lemmas.Bool.{eqb-true}
 
 -- ---- the bytes of a read
@@ -38,7 +38,7 @@ use Rattle.std.proofs.lemmas.Bool.{eqb-true}
 read_gives : (m : CommandContext) (cdb sent : List ℕ) (c : Command) (lba n : ℕ) → command_of cdb ≡ Ok c → (command_execution m c sent).reply.bytes ≡ bytes_at m.contents lba n → (execution m cdb sent).reply.status ≡ GOOD → (execution m cdb sent).reply.bytes ≡ bytes_at m.contents lba n
 read_gives m cdb sent c lba n is gives good = all (not m.present && needs_unit cdb) good
   where
-    Is : Rattle.disk_array.specs.Execution.Execution → Type 0
+    Is : Rattle.bus_due.specs.disk_array.specs.Execution.Execution → Type 0
     Is x = x.reply.status ≡ GOOD → x.reply.bytes ≡ bytes_at m.contents lba n
 
     in_range : (y : Bool) → Is (if y then command_execution m c sent else reply_execution m (check_condition block_out_of_range))
@@ -108,7 +108,7 @@ moved_reads a q blocks whole reads is some = go ((reply_now a q).status == GOOD)
         ∙ length_bytes (contents_of None) (λ lba. refl) r.lba blocks
     at (Some u) e good =
         ap (λ (b : List ℕ). length b) (read_gives (context_at a (nexus_of q) (Some u)) q.cdb q.sent r.command r.lba blocks r.command_is (r.gives (context_at a (nexus_of q) (Some u)) q.sent) good)
-        ∙ length_bytes u.contents (subst (λ (x : Option UnitState). (lba : ℕ) → length (Rattle.disk_array.specs.Contents.block_at (contents_of x) lba) ≡ (contents_of x).size) e (whole q.target q.unit)) r.lba blocks
+        ∙ length_bytes u.contents (subst (λ (x : Option UnitState). (lba : ℕ) → length (Rattle.bus_due.specs.disk_array.specs.Contents.block_at (contents_of x) lba) ≡ (contents_of x).size) e (whole q.target q.unit)) r.lba blocks
 
     go : (g : Bool) → ((reply_now a q).status == GOOD) ≡ g → moved_count q (reply_now a q) ≡ blocks * size_of (unit_state_at a.units q.target q.unit)
     go false e = wrong (sym (ap (λ (x : ℕ). x == 0) (moved false e)) ∙ some)

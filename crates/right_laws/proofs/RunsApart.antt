@@ -2,43 +2,43 @@
 use Rattle.std.proofs.Common.{ℕ, ◌≡◌, ◌⊎◌, inl, inr, Bool, true, false, not, ◌&&◌, ◌||◌, ◌∙◌, List, [], ◌∷◌, Option, Some, None, refl, sym, ap, subst}
 use Rattle.std.specs.Prelude.{if◌then◌else◌, is_none, is_some}
 use Rattle.std.proofs.lemmas.Option.{same_Some}
-use Rattle.bus_base.specs.declared.Event.TheVariants as events
-use Rattle.bus_base.specs.declared.ProcId.{ProcId}
-use Rattle.bus_trace.specs.LineSet.{LineSet}
-use Rattle.bus_trace.specs.Phases.{is_command, is_message_out}
-use Rattle.bus_trace.specs.declared.Row.{Row}
-use Rattle.bus_trace.specs.declared.changes.Change.{Change}
-use Rattle.cdb_codec.specs.Cdb.{command_of}
-use Rattle.scenario.specs.Value.{ScenarioValue}
-use Rattle.disk_array.specs.ArrayHistory.{array_step, reply_in}
-use Rattle.disk_array.specs.Execution.{Execution, Reply, execution, is_request_sense}
-use Rattle.disk_array.specs.Processes.{Process, process_of, same_id}
-use Rattle.disk_array.specs.Seats as Seats
-use Rattle.disk_array.specs.Seats.{Seat, context_of, current_of, guests_at, seat_if, seat_of, settled_seat, settled_seat_if}
-use Rattle.disk_array.specs.SoundArray.{AllOwnGuests, HasSeats, IsSound}
-use Rattle.disk_array.specs.Steps.{is_of_unit, step}
-use Rattle.disk_array.specs.Units.{Array, RunningProcess, UnitState, guest_at, unit_state_at}
-use Rattle.disk_array.proofs.SeatLaws.{accept_law, run_law}
-use Rattle.disk_array.proofs.SoundArrays.{step_sound}
-use Rattle.bus_dialogue.specs.declared.exchange.Messages.{Messages}
-use Rattle.bus_dialogue.specs.declared.exchange.Next.{Next}
-use Rattle.bus_dialogue.specs.declared.exchange.Next.TheVariants as nexts
-use Rattle.bus_dialogue.specs.declared.exchange.Cause.{Cause}
-use Rattle.bus_dialogue.specs.declared.exchange.Cause.TheVariants as causes
-use Rattle.bus_dialogue.specs.declared.exchange.Phase.{Phase}
-use Rattle.bus_dialogue.specs.declared.exchange.Phase.TheVariants as phases
-use Rattle.bus_dialogue.specs.declared.exchange.Plan.{Plan}
-use Rattle.bus_dialogue.specs.NextPhase.{phase_of}
-use Rattle.bus_lines.specs.Handshakes.{Handshakes}
-use Rattle.bus_story.specs.BusState.{RowReading, row_reading}
-use Rattle.bus_story.specs.CarriedBytes.{is_status_phase}
-use Rattle.bus_story.specs.HistoryEvents.{row_events_by}
-use Rattle.bus_story.specs.Items.{process}
-use Rattle.bus_story.specs.Right.{has_run}
+use Rattle.bus_due.specs.bus_base.specs.declared.Event.TheVariants as events
+use Rattle.bus_due.specs.bus_base.specs.declared.ProcId.{ProcId}
+use Rattle.bus_due.specs.bus_trace.specs.LineSet.{LineSet}
+use Rattle.bus_due.specs.bus_trace.specs.Phases.{is_command, is_message_out}
+use Rattle.bus_due.specs.bus_trace.specs.declared.Row.{Row}
+use Rattle.bus_due.specs.bus_trace.specs.declared.changes.Change.{Change}
+use Rattle.bus_due.specs.cdb_codec.specs.Cdb.{command_of}
+use Rattle.bus_due.specs.scenario.specs.Value.{ScenarioValue}
+use Rattle.bus_due.specs.disk_array.specs.ArrayHistory.{array_step, reply_in}
+use Rattle.bus_due.specs.disk_array.specs.Execution.{Execution, Reply, execution, is_request_sense}
+use Rattle.bus_due.specs.disk_array.specs.Processes.{Process, process_of, same_id}
+use Rattle.bus_due.specs.disk_array.specs.Seats as Seats
+use Rattle.bus_due.specs.disk_array.specs.Seats.{Seat, context_of, current_of, guests_at, seat_if, seat_of, settled_seat, settled_seat_if}
+use Rattle.bus_due.specs.disk_array.specs.SoundArray.{AllOwnGuests, HasSeats, IsSound}
+use Rattle.bus_due.specs.disk_array.specs.Steps.{is_of_unit, step}
+use Rattle.bus_due.specs.disk_array.specs.Units.{Array, RunningProcess, UnitState, guest_at, unit_state_at}
+use Rattle.bus_due.specs.disk_array.proofs.SeatLaws.{accept_law, run_law}
+use Rattle.bus_due.specs.disk_array.proofs.SoundArrays.{step_sound}
+use Rattle.bus_due.specs.bus_dialogue.specs.declared.exchange.Messages.{Messages}
+use Rattle.bus_due.specs.bus_dialogue.specs.declared.exchange.Next.{Next}
+use Rattle.bus_due.specs.bus_dialogue.specs.declared.exchange.Next.TheVariants as nexts
+use Rattle.bus_due.specs.bus_dialogue.specs.declared.exchange.Cause.{Cause}
+use Rattle.bus_due.specs.bus_dialogue.specs.declared.exchange.Cause.TheVariants as causes
+use Rattle.bus_due.specs.bus_dialogue.specs.declared.exchange.Phase.{Phase}
+use Rattle.bus_due.specs.bus_dialogue.specs.declared.exchange.Phase.TheVariants as phases
+use Rattle.bus_due.specs.bus_dialogue.specs.declared.exchange.Plan.{Plan}
+use Rattle.bus_due.specs.bus_dialogue.specs.NextPhase.{phase_of}
+use Rattle.bus_due.specs.bus_lines.specs.Handshakes.{Handshakes}
+use Rattle.bus_due.specs.bus_story.specs.BusState.{RowReading, row_reading}
+use Rattle.bus_due.specs.bus_story.specs.CarriedBytes.{is_status_phase}
+use Rattle.bus_due.specs.bus_story.specs.HistoryEvents.{row_events_by}
+use Rattle.bus_due.specs.bus_story.specs.Items.{process}
+use Rattle.bus_due.specs.bus_story.specs.Right.{has_run}
 use Rattle.bus_due.specs.RunState.{RunState, bus_of}
 use Rattle.bus_due.specs.RunSteps.{run_state, array_after_events}
 use Rattle.bus_due.specs.Tasks.{reply_now}
-use Rattle.bus_books.proofs.Lookups.{id_is}
+use Rattle.trace_laws.specs.bus_books.proofs.Lookups.{id_is}
 use Rattle.trace_laws.specs.Places.{AnsweredOpen, Closes, IsAtRest, IsAway, IsOutside, IsTaken, IsUntouched, OnGuests, PlacedAsked, PlacedBefore, PlacedIn, RunsOpen, completes, disconnects}
 use Rattle.trace_laws.proofs.ArrivingProcesses.{Arrives, arrives, as_guest, in_queue, not_running, queued_rests}
 use Rattle.trace_laws.proofs.Impossible.{none_some}
@@ -49,8 +49,8 @@ use Rattle.right_laws.proofs.SameReplies.{SameContext, accept_at, by_context, pl
 use Rattle.right_laws.proofs.SenseRuns.{IsCurrentAt, run_seat}
 use Rattle.right_laws.proofs.ShownRows.{IsAnswer, IsArrival, RunsAs, ShownAs, row_runs, row_shown, runs_alone, runs_arrived}
 use Rattle.right_laws.proofs.OpenProcesses.{none_is}
-use Rattle.bus_base.proofs.Tests.{wrong, wrong'}
-use Rattle.target_units.proofs.ReplySteps.{run_replies as run_gives}
+use Rattle.bus_due.specs.bus_base.proofs.Tests.{wrong, wrong'}
+use Rattle.trace_laws.specs.target_units.proofs.ReplySteps.{run_replies as run_gives}
 
 -- ---- a unit that is not there
 

@@ -2,28 +2,28 @@
 use Rattle.std.proofs.Common.{ℕ, ◌≡◌, Bool, true, false, not, ◌&&◌, ◌||◌, ◌==◌, ◌∙◌, List, [], ◌∷◌, ◌++◌, Option, Some, None, refl, sym, ap, subst, true≢false}
 use Rattle.std.specs.Prelude.{if◌then◌else◌, is_none, is_some, nat_lt}
 use Rattle.std.proofs.lemmas.Option.{same_Some}
-use Rattle.bus_base.specs.declared.AbortKind.{AbortKind}
-use Rattle.bus_base.specs.declared.AbortKind.TheVariants as aborts
-use Rattle.bus_base.specs.declared.Event.{Event}
-use Rattle.bus_base.specs.declared.Event.TheVariants as events
-use Rattle.bus_base.specs.declared.ProcId.{ProcId}
-use Rattle.cdb_codec.specs.Cdb.{command_of}
-use Rattle.cdb_codec.specs.declared.sense.TheConstants.{ABORTED_COMMAND}
-use Rattle.scenario.specs.Value.{ScenarioValue}
-use Rattle.disk_array.specs.Execution.{Reply, check_condition, execution, is_request_sense, queue_full, sense_of}
-use Rattle.disk_array.specs.Processes.{Process, process_of}
-use Rattle.disk_array.specs.Seats as Seats
-use Rattle.disk_array.specs.Seats.{Seat, seat_of, seat_if, context_of, settled_seat, settled_seat_if}
-use Rattle.disk_array.specs.SoundArray.{HasSeats, IsSound}
-use Rattle.disk_array.specs.Steps.{has_ended, has_tag, is_of_unit, process_count, step}
-use Rattle.disk_array.specs.Units.{Array, RunningProcess, UnitState}
-use Rattle.disk_array.proofs.SeatLaws.{abort_law, accept_law, fail_law, loss_law, other_law, refuse_law}
-use Rattle.disk_array.specs.ArrayHistory.{array_step}
-use Rattle.disk_array.proofs.SoundArrays.{step_sound, is_own}
-use Rattle.disk_array.proofs.SeatContexts.{settled_context}
-use Rattle.bus_trace.specs.declared.Row.{Row}
-use Rattle.bus_story.specs.BusState.{row_reading}
-use Rattle.bus_story.specs.HistoryEvents.{row_events_by}
+use Rattle.bus_due.specs.bus_base.specs.declared.AbortKind.{AbortKind}
+use Rattle.bus_due.specs.bus_base.specs.declared.AbortKind.TheVariants as aborts
+use Rattle.bus_due.specs.bus_base.specs.declared.Event.{Event}
+use Rattle.bus_due.specs.bus_base.specs.declared.Event.TheVariants as events
+use Rattle.bus_due.specs.bus_base.specs.declared.ProcId.{ProcId}
+use Rattle.bus_due.specs.cdb_codec.specs.Cdb.{command_of}
+use Rattle.bus_due.specs.cdb_codec.specs.declared.sense.TheConstants.{ABORTED_COMMAND}
+use Rattle.bus_due.specs.scenario.specs.Value.{ScenarioValue}
+use Rattle.bus_due.specs.disk_array.specs.Execution.{Reply, check_condition, execution, is_request_sense, queue_full, sense_of}
+use Rattle.bus_due.specs.disk_array.specs.Processes.{Process, process_of}
+use Rattle.bus_due.specs.disk_array.specs.Seats as Seats
+use Rattle.bus_due.specs.disk_array.specs.Seats.{Seat, seat_of, seat_if, context_of, settled_seat, settled_seat_if}
+use Rattle.bus_due.specs.disk_array.specs.SoundArray.{HasSeats, IsSound}
+use Rattle.bus_due.specs.disk_array.specs.Steps.{has_ended, has_tag, is_of_unit, process_count, step}
+use Rattle.bus_due.specs.disk_array.specs.Units.{Array, RunningProcess, UnitState}
+use Rattle.bus_due.specs.disk_array.proofs.SeatLaws.{abort_law, accept_law, fail_law, loss_law, other_law, refuse_law}
+use Rattle.bus_due.specs.disk_array.specs.ArrayHistory.{array_step}
+use Rattle.bus_due.specs.disk_array.proofs.SoundArrays.{step_sound, is_own}
+use Rattle.bus_due.specs.disk_array.proofs.SeatContexts.{settled_context}
+use Rattle.bus_due.specs.bus_trace.specs.declared.Row.{Row}
+use Rattle.bus_due.specs.bus_story.specs.BusState.{row_reading}
+use Rattle.bus_due.specs.bus_story.specs.HistoryEvents.{row_events_by}
 use Rattle.bus_due.specs.RunState.{RunState, array_of}
 use Rattle.bus_due.specs.RunSteps.{run_state, run_state_after, array_after_events}
 use Rattle.bus_due.specs.Tasks.{reply_now}
@@ -32,11 +32,11 @@ use Rattle.right_laws.specs.GivenPointers.{abort_may_change, may_change, any_may
 use Rattle.right_laws.specs.Open.{IfOpen, OnOpen}
 use Rattle.right_laws.proofs.OpenProcesses.{each_map}
 use Rattle.right_laws.proofs.RanFacts.{Known, here_is, steps_of, then_is}
-use Rattle.bus_books.proofs.CarriedRows.{process_id}
+use Rattle.trace_laws.specs.bus_books.proofs.CarriedRows.{process_id}
 use Rattle.std.proofs.lemmas.Bool.{not-false, eqb-true, or_parts, and_parts}
-use Rattle.bus_base.proofs.Tests.{wrong'}
+use Rattle.bus_due.specs.bus_base.proofs.Tests.{wrong'}
 use Rattle.trace_laws.proofs.Impossible.{none_some}
-use Rattle.target_units.proofs.UnitTellings.{context_same}
+use Rattle.trace_laws.specs.target_units.proofs.UnitTellings.{context_same}
 
 no_process : {A : Type 0} (o : Option Process) → o ≡ None → is_some o ≡ true → A
 no_process o e some = wrong' (sym (ap is_some e) ∙ some)

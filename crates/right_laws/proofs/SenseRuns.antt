@@ -2,27 +2,27 @@
 use Rattle.std.proofs.Common.{ℕ, ◌≡◌, ◌⊎◌, inl, inr, Bool, true, false, not, ◌&&◌, ◌||◌, ◌==◌, ◌∙◌, List, Option, Some, None, refl, sym, subst}
 use Rattle.std.specs.Prelude.{if◌then◌else◌, is_none, is_some, length, slice_index, Result, Ok, Err}
 use Rattle.std.proofs.lemmas.Option.{same_Some}
-use Rattle.bus_base.specs.declared.ProcId.{ProcId}
-use Rattle.cdb_codec.specs.Cdb.{command_of, fields_of, has_group_len, sized_of}
-use Rattle.cdb_codec.specs.Operations.{operation_of}
-use Rattle.cdb_codec.specs.declared.command.CdbFault.{CdbFault}
-use Rattle.cdb_codec.specs.declared.command.CdbFault.TheVariants as faults
-use Rattle.cdb_codec.specs.declared.command.Command.{Command}
-use Rattle.cdb_codec.specs.declared.command.Command.TheVariants as commands
-use Rattle.cdb_codec.specs.declared.operation.Operation.{Operation}
-use Rattle.cdb_codec.specs.declared.operation.Operation.TheVariants as operations
-use Rattle.cdb_codec.specs.declared.operation.TheConstants.{TEST_UNIT_READY, REQUEST_SENSE, READ_6, WRITE_6, INQUIRY, READ_CAPACITY, READ_10, WRITE_10}
-use Rattle.cdb_codec.specs.declared.Sense.{Sense}
-use Rattle.disk_array.specs.Execution.{CommandContext, Execution, attention_execution, cdb_execution, check_condition, execution, heeds_attention, is_opcode, is_request_sense, needs_unit, reply_execution, unit_not_supported}
-use Rattle.disk_array.specs.Processes.{Process, same_id}
-use Rattle.disk_array.specs.Seats as Seats
-use Rattle.disk_array.specs.Seats.{Seat, context_of, current_of, settled_seat, settled_seat_if}
-use Rattle.disk_array.specs.Steps as Steps
-use Rattle.disk_array.specs.Steps.{running_if}
-use Rattle.disk_array.specs.Units.{RunningProcess, UnitState, guest_at, has_no_current, with_current}
-use Rattle.disk_array.specs.Order.{choice}
-use Rattle.disk_array.proofs.SeatContexts.{settled_context}
-use Rattle.bus_base.proofs.Tests.{wrong', and_false}
+use Rattle.bus_due.specs.bus_base.specs.declared.ProcId.{ProcId}
+use Rattle.bus_due.specs.cdb_codec.specs.Cdb.{command_of, fields_of, has_group_len, sized_of}
+use Rattle.bus_due.specs.cdb_codec.specs.Operations.{operation_of}
+use Rattle.bus_due.specs.cdb_codec.specs.declared.command.CdbFault.{CdbFault}
+use Rattle.bus_due.specs.cdb_codec.specs.declared.command.CdbFault.TheVariants as faults
+use Rattle.bus_due.specs.cdb_codec.specs.declared.command.Command.{Command}
+use Rattle.bus_due.specs.cdb_codec.specs.declared.command.Command.TheVariants as commands
+use Rattle.bus_due.specs.cdb_codec.specs.declared.operation.Operation.{Operation}
+use Rattle.bus_due.specs.cdb_codec.specs.declared.operation.Operation.TheVariants as operations
+use Rattle.bus_due.specs.cdb_codec.specs.declared.operation.TheConstants.{TEST_UNIT_READY, REQUEST_SENSE, READ_6, WRITE_6, INQUIRY, READ_CAPACITY, READ_10, WRITE_10}
+use Rattle.bus_due.specs.cdb_codec.specs.declared.Sense.{Sense}
+use Rattle.bus_due.specs.disk_array.specs.Execution.{CommandContext, Execution, attention_execution, cdb_execution, check_condition, execution, heeds_attention, is_opcode, is_request_sense, needs_unit, reply_execution, unit_not_supported}
+use Rattle.bus_due.specs.disk_array.specs.Processes.{Process, same_id}
+use Rattle.bus_due.specs.disk_array.specs.Seats as Seats
+use Rattle.bus_due.specs.disk_array.specs.Seats.{Seat, context_of, current_of, settled_seat, settled_seat_if}
+use Rattle.bus_due.specs.disk_array.specs.Steps as Steps
+use Rattle.bus_due.specs.disk_array.specs.Steps.{running_if}
+use Rattle.bus_due.specs.disk_array.specs.Units.{RunningProcess, UnitState, guest_at, has_no_current, with_current}
+use Rattle.bus_due.specs.disk_array.specs.Order.{choice}
+use Rattle.bus_due.specs.disk_array.proofs.SeatContexts.{settled_context}
+use Rattle.bus_due.specs.bus_base.proofs.Tests.{wrong', and_false}
 use Rattle.trace_laws.proofs.Impossible.{none_some}
 
 -- ---- its operation code
@@ -136,7 +136,7 @@ run_seat seat after id from senses e = go (guest_at seat.guests id) refl e
         new = Seats.unit_with_reply r.process.id done.reply (Seats.unit_with_contents done.contents u)
 
         replied : new.current ≡ Some (record r { reply = Some done.reply })
-        replied = (λ i. Steps.current_with_reply (er i) r.process.id done.reply) ∙ (λ i. if Rattle.bus_books.proofs.Lookups.self_id r.process.id i then Some (record r { reply = Some done.reply }) else Some r)
+        replied = (λ i. Steps.current_with_reply (er i) r.process.id done.reply) ∙ (λ i. if Rattle.trace_laws.specs.bus_books.proofs.Lookups.self_id r.process.id i then Some (record r { reply = Some done.reply }) else Some r)
 
         there : current_of (settled_seat (Seats.seat_with_execution seat r.process done)).unit ≡ Some (record r { reply = Some done.reply })
         there =

@@ -2,47 +2,47 @@
 use Rattle.std.proofs.Common.{ℕ, ◌+◌, ◌*◌, ◌≡◌, ◌≤◌, arith, Bool, true, false, ◌&&◌, ◌==◌, ◌∙◌, List, length, Some, refl, sym, ap, subst, true≢false}
 use Rattle.std.proofs.lemmas.Option.{same_Some}
 use Rattle.std.specs.Prelude.{if◌then◌else◌}
-use Rattle.bus_base.specs.declared.ProcId.{ProcId}
-use Rattle.bus_trace.specs.declared.Row.{Row}
-use Rattle.bus_trace.specs.declared.changes.Change.{Change}
-use Rattle.bus_trace.specs.declared.connection.Connection.{Connection}
-use Rattle.cdb_codec.specs.Cdb.{command_of}
-use Rattle.cdb_codec.specs.declared.status.TheConstants.{GOOD}
-use Rattle.scenario.specs.Lookups.{unit_of}
-use Rattle.scenario.specs.Value.{ScenarioValue}
-use Rattle.scenario.specs.Writing.{Obeys}
-use Rattle.scenario.specs.declared.value.Policy.{Policy}
-use Rattle.disk_array.specs.ArrayHistory.{array_after, reply_in}
-use Rattle.disk_array.specs.Execution.{Reply}
-use Rattle.disk_array.specs.Order.{range_in}
-use Rattle.disk_array.specs.Processes.{Process, process_of}
-use Rattle.disk_array.specs.Units.{unit_state_at}
-use Rattle.bus_story.specs.BusState.{row_reading}
-use Rattle.bus_story.specs.CarriedBytes.{CarriedBytes}
-use Rattle.bus_story.specs.HistoryEvents.{row_events_by}
-use Rattle.bus_story.specs.Items.{process}
-use Rattle.bus_story.specs.Links.{Link}
-use Rattle.bus_story.specs.Right.{has_run, moved_bytes}
-use Rattle.bus_dialogue.specs.declared.exchange.Cause.{Cause}
-use Rattle.bus_dialogue.specs.declared.exchange.Cause.TheVariants as causes
-use Rattle.bus_dialogue.specs.declared.exchange.Phase.{Phase}
-use Rattle.bus_dialogue.specs.declared.exchange.Phase.TheVariants as phases
-use Rattle.bus_dialogue.specs.declared.exchange.Plan.{Plan}
-use Rattle.bus_lines.specs.Handshakes.{Handshakes}
-use Rattle.bus_dialogue.specs.NextPhase.{phase_of}
+use Rattle.bus_due.specs.bus_base.specs.declared.ProcId.{ProcId}
+use Rattle.bus_due.specs.bus_trace.specs.declared.Row.{Row}
+use Rattle.bus_due.specs.bus_trace.specs.declared.changes.Change.{Change}
+use Rattle.bus_due.specs.bus_trace.specs.declared.connection.Connection.{Connection}
+use Rattle.bus_due.specs.cdb_codec.specs.Cdb.{command_of}
+use Rattle.bus_due.specs.cdb_codec.specs.declared.status.TheConstants.{GOOD}
+use Rattle.bus_due.specs.scenario.specs.Lookups.{unit_of}
+use Rattle.bus_due.specs.scenario.specs.Value.{ScenarioValue}
+use Rattle.bus_due.specs.scenario.specs.Writing.{Obeys}
+use Rattle.bus_due.specs.scenario.specs.declared.value.Policy.{Policy}
+use Rattle.bus_due.specs.disk_array.specs.ArrayHistory.{array_after, reply_in}
+use Rattle.bus_due.specs.disk_array.specs.Execution.{Reply}
+use Rattle.bus_due.specs.disk_array.specs.Order.{range_in}
+use Rattle.bus_due.specs.disk_array.specs.Processes.{Process, process_of}
+use Rattle.bus_due.specs.disk_array.specs.Units.{unit_state_at}
+use Rattle.bus_due.specs.bus_story.specs.BusState.{row_reading}
+use Rattle.bus_due.specs.bus_story.specs.CarriedBytes.{CarriedBytes}
+use Rattle.bus_due.specs.bus_story.specs.HistoryEvents.{row_events_by}
+use Rattle.bus_due.specs.bus_story.specs.Items.{process}
+use Rattle.bus_due.specs.bus_story.specs.Links.{Link}
+use Rattle.bus_due.specs.bus_story.specs.Right.{has_run, moved_bytes}
+use Rattle.bus_due.specs.bus_dialogue.specs.declared.exchange.Cause.{Cause}
+use Rattle.bus_due.specs.bus_dialogue.specs.declared.exchange.Cause.TheVariants as causes
+use Rattle.bus_due.specs.bus_dialogue.specs.declared.exchange.Phase.{Phase}
+use Rattle.bus_due.specs.bus_dialogue.specs.declared.exchange.Phase.TheVariants as phases
+use Rattle.bus_due.specs.bus_dialogue.specs.declared.exchange.Plan.{Plan}
+use Rattle.bus_due.specs.bus_lines.specs.Handshakes.{Handshakes}
+use Rattle.bus_due.specs.bus_dialogue.specs.NextPhase.{phase_of}
 use Rattle.bus_due.specs.LastingState.{progress_in}
 use Rattle.bus_due.specs.Plain.{IsPlain}
 use Rattle.bus_due.proofs.Plains.{run_state_plain}
 use Rattle.bus_due.specs.RunState.{RunState, array_of, bus_of, carried_here, process_item}
 use Rattle.bus_due.specs.RunSteps.{run_state, run_state_after}
 use Rattle.bus_due.specs.Tasks.{is_writing, size_of, blocks_in}
-use Rattle.scsi_device.specs.Writes.{block_size, is_data_out, is_of_size, start_of_run}
-use Rattle.bus_books.specs.Carrying.{IsFilled}
-use Rattle.bus_books.specs.Traces.{GoesOn}
-use Rattle.bus_books.proofs.CarriedBlocks.{own_of}
-use Rattle.bus_books.proofs.CarriedRows.{process_id}
+use Rattle.trace_laws.specs.scsi_device.specs.Writes.{block_size, is_data_out, is_of_size, start_of_run}
+use Rattle.trace_laws.specs.bus_books.specs.Carrying.{IsFilled}
+use Rattle.trace_laws.specs.bus_books.specs.Traces.{GoesOn}
+use Rattle.trace_laws.specs.bus_books.proofs.CarriedBlocks.{own_of}
+use Rattle.trace_laws.specs.bus_books.proofs.CarriedRows.{process_id}
 use Rattle.trace_laws.specs.DataFacts.{DataFacts}
-use Rattle.bus_books.specs.Accounts.{policy_for}
+use Rattle.trace_laws.specs.bus_books.specs.Accounts.{policy_for}
 use Rattle.trace_laws.specs.DataPointers.{run_policy, step_in, run_start, is_marked, PointersIn, calm, restores, saves, saved, disconnects, closes, PointersRefused, still_calm, restores_again, saves_again, disconnects_again, closes_again, PointersAsked, PointersOf, PointersIf, ServedPointers, unnamed, named}
 use Rattle.trace_laws.specs.RunFacts.{IsServedWell}
 use Rattle.trace_laws.specs.WholeRuns.{bytes_come}
@@ -57,7 +57,7 @@ use Rattle.right_laws.proofs.RanFacts.{Known, apart_of}
 use Rattle.right_laws.proofs.RowCrossings.{GoesSo, here_goes, known_served}
 use Rattle.right_laws.proofs.ShownRows.{IsAnswer, ShownAs, row_shown, RunsAs, runs_alone, runs_arrived, row_runs}
 use Rattle.std.proofs.lemmas.Bool.{eqb-true}
-use Rattle.bus_base.proofs.Tests.{wrong}
+use Rattle.bus_due.specs.bus_base.proofs.Tests.{wrong}
 use Rattle.right_laws.proofs.BlockFacts.{front_all}
 
 -- ---- where a run begins

@@ -1,40 +1,40 @@
 -- The status that a process has carried after a row of a connection: the same, unless a byte of STATUS or RESTORE POINTERS crosses (6.4, 6.6.19).
 use Rattle.std.proofs.Common.{ℕ, ◌≡◌, inl, inr, Bool, true, false, not, ◌&&◌, ◌%◌, ◌∙◌, List, [], ◌∷◌, ◌++◌, length, Option, Some, None, refl, sym, ap}
 use Rattle.std.specs.Prelude.{if◌then◌else◌, is_some, nat_lt, slice_index_or, slice_set}
-use Rattle.bus_base.specs.declared.Event.{Event}
-use Rattle.bus_base.specs.declared.Event.TheVariants as events
-use Rattle.bus_base.specs.declared.ProcId.{ProcId}
-use Rattle.bus_trace.specs.LineSet.{LineSet}
-use Rattle.bus_trace.specs.Phases.{is_command, is_data}
-use Rattle.bus_trace.specs.Terms.{receiver_in}
-use Rattle.bus_trace.specs.declared.Kind.{Kind}
-use Rattle.bus_trace.specs.declared.Kind.TheVariants.{Drives, Fault}
-use Rattle.bus_trace.specs.declared.Row.{Row}
-use Rattle.bus_trace.specs.declared.changes.Change.{Change}
-use Rattle.bus_trace.specs.declared.connection.Connection.{Connection}
-use Rattle.cdb_codec.specs.declared.sense.TheConstants.{PARITY_ERROR, INITIATOR_DETECTED_ERROR}
-use Rattle.msg_grammar.specs.Messages.{got_in, got_out, form_in}
-use Rattle.msg_grammar.specs.declared.message.MsgIn.TheVariants as to_initiator
-use Rattle.bus_phases.specs.Dialogue.{fresh_bytes}
-use Rattle.scenario.specs.Value.{ScenarioValue}
-use Rattle.bus_story.specs.BusState.{RowReading, whole_out, whole_in, message_out, message_in}
-use Rattle.bus_story.specs.CarriedBytes.{Area, CarriedBytes, carried_of, with_restored_pointers, carried_after_byte, carried_after_fault, area_with, is_status_phase}
-use Rattle.bus_story.specs.HistoryEvents.{carried_if, link_events}
-use Rattle.bus_story.specs.Items.{Item, process, abort}
-use Rattle.bus_story.specs.Links.{Link}
-use Rattle.bus_story.specs.Story.{Story, by_abort, by_reset, is_aborted, is_sense_stopped, marked_refused, marked_shown, story_with_end, story_after_event, story_after_events}
-use Rattle.bus_story.specs.TraceHistory.{story_with_carried, story_after_out, story_after_in, story_after_byte, carried_after_fault_if, story_after_fault, story_in_connection}
-use Rattle.bus_story.proofs.CarriedLists.{carried_id}
-use Rattle.bus_story.proofs.StorySteps.{ends_carried, check_carried}
-use Rattle.bus_dialogue.specs.Exchange.{one_message, bytes_of_messages}
+use Rattle.bus_due.specs.bus_base.specs.declared.Event.{Event}
+use Rattle.bus_due.specs.bus_base.specs.declared.Event.TheVariants as events
+use Rattle.bus_due.specs.bus_base.specs.declared.ProcId.{ProcId}
+use Rattle.bus_due.specs.bus_trace.specs.LineSet.{LineSet}
+use Rattle.bus_due.specs.bus_trace.specs.Phases.{is_command, is_data}
+use Rattle.bus_due.specs.bus_trace.specs.Terms.{receiver_in}
+use Rattle.bus_due.specs.bus_trace.specs.declared.Kind.{Kind}
+use Rattle.bus_due.specs.bus_trace.specs.declared.Kind.TheVariants.{Drives, Fault}
+use Rattle.bus_due.specs.bus_trace.specs.declared.Row.{Row}
+use Rattle.bus_due.specs.bus_trace.specs.declared.changes.Change.{Change}
+use Rattle.bus_due.specs.bus_trace.specs.declared.connection.Connection.{Connection}
+use Rattle.bus_due.specs.cdb_codec.specs.declared.sense.TheConstants.{PARITY_ERROR, INITIATOR_DETECTED_ERROR}
+use Rattle.bus_due.specs.msg_grammar.specs.Messages.{got_in, got_out, form_in}
+use Rattle.bus_due.specs.msg_grammar.specs.declared.message.MsgIn.TheVariants as to_initiator
+use Rattle.bus_due.specs.bus_phases.specs.Dialogue.{fresh_bytes}
+use Rattle.bus_due.specs.scenario.specs.Value.{ScenarioValue}
+use Rattle.bus_due.specs.bus_story.specs.BusState.{RowReading, whole_out, whole_in, message_out, message_in}
+use Rattle.bus_due.specs.bus_story.specs.CarriedBytes.{Area, CarriedBytes, carried_of, with_restored_pointers, carried_after_byte, carried_after_fault, area_with, is_status_phase}
+use Rattle.bus_due.specs.bus_story.specs.HistoryEvents.{carried_if, link_events}
+use Rattle.bus_due.specs.bus_story.specs.Items.{Item, process, abort}
+use Rattle.bus_due.specs.bus_story.specs.Links.{Link}
+use Rattle.bus_due.specs.bus_story.specs.Story.{Story, by_abort, by_reset, is_aborted, is_sense_stopped, marked_refused, marked_shown, story_with_end, story_after_event, story_after_events}
+use Rattle.bus_due.specs.bus_story.specs.TraceHistory.{story_with_carried, story_after_out, story_after_in, story_after_byte, carried_after_fault_if, story_after_fault, story_in_connection}
+use Rattle.bus_due.specs.bus_story.proofs.CarriedLists.{carried_id}
+use Rattle.bus_due.specs.bus_story.proofs.StorySteps.{ends_carried, check_carried}
+use Rattle.bus_due.specs.bus_dialogue.specs.Exchange.{one_message, bytes_of_messages}
 use Rattle.bus_due.specs.RunState.{RunState, carried_here}
 use Rattle.bus_due.specs.RunSteps.{run_state_after}
-use Rattle.bus_books.specs.Rows.{IsRowIn, reading_in}
+use Rattle.trace_laws.specs.bus_books.specs.Rows.{IsRowIn, reading_in}
 use Rattle.trace_laws.proofs.PointerStorySteps.{byte_story, in_known}
 use Rattle.trace_laws.proofs.PointerStories.{story_row}
 use Rattle.right_laws.specs.StatusBytes.{HasOne, IsReady, IsSmall}
 use Rattle.right_laws.proofs.Lasting.{puts}
-use Rattle.bus_base.proofs.Tests.{nothing_below}
+use Rattle.bus_due.specs.bus_base.proofs.Tests.{nothing_below}
 
 -- ---- events
 

@@ -1,44 +1,44 @@
 -- Of its status a process has carried one byte as COMMAND COMPLETE is taken, after any rows of a prompt trace (6.6.5, 6.6.10, 6.6.19).
 use Rattle.std.proofs.Common.{ℕ, ◌≡◌, ◌<◌, Bool, true, false, not, ◌&&◌, ◌%◌, ◌∙◌, List, [], ◌∷◌, ◌++◌, Option, Some, None, refl, sym, ap, subst, true≢false}
 use Rattle.std.specs.Prelude.{if◌then◌else◌, is_some}
-use Rattle.bus_base.specs.declared.ProcId.{ProcId}
-use Rattle.bus_trace.specs.LineSet.{LineSet}
-use Rattle.bus_trace.specs.Changes.{change_of, rises}
-use Rattle.bus_trace.specs.Phases.{changes_phase, is_command, is_data, is_message_in}
-use Rattle.bus_trace.specs.Terms.{is_fault, connection, connection_after, receiver_in}
-use Rattle.bus_trace.specs.Trace.{bus}
-use Rattle.bus_trace.specs.declared.Row.{Row}
-use Rattle.bus_trace.specs.declared.changes.Change.{Change}
-use Rattle.bus_trace.specs.declared.connection.Connection.{Connection}
-use Rattle.bus_lines.specs.Handshakes.{Handshakes, handshakes_after}
-use Rattle.msg_grammar.specs.declared.message.MsgIn.TheVariants as to_initiator
-use Rattle.scenario.specs.Value.{ScenarioValue}
-use Rattle.scenario.specs.Writing.{Obeys}
-use Rattle.disk_array.specs.ArrayHistory.{reply_in}
-use Rattle.bus_story.specs.BusState.{RowReading, row_reading}
-use Rattle.bus_story.specs.CarriedBytes.{CarriedBytes, is_status_phase}
-use Rattle.bus_story.specs.HistoryEvents.{is_completion}
-use Rattle.bus_story.specs.Items.{process}
-use Rattle.bus_story.specs.Links.{Link}
-use Rattle.bus_story.specs.TraceHistory.{aim_of}
-use Rattle.bus_dialogue.specs.declared.exchange.Next.TheVariants as nexts
-use Rattle.bus_dialogue.specs.declared.exchange.Phase.{Phase}
-use Rattle.bus_dialogue.specs.declared.exchange.Phase.TheVariants as phases
-use Rattle.bus_dialogue.specs.Exchange.{Exchange, one_message}
-use Rattle.bus_dialogue.specs.NextPhase.{phase_of}
+use Rattle.bus_due.specs.bus_base.specs.declared.ProcId.{ProcId}
+use Rattle.bus_due.specs.bus_trace.specs.LineSet.{LineSet}
+use Rattle.bus_due.specs.bus_trace.specs.Changes.{change_of, rises}
+use Rattle.bus_due.specs.bus_trace.specs.Phases.{changes_phase, is_command, is_data, is_message_in}
+use Rattle.bus_due.specs.bus_trace.specs.Terms.{is_fault, connection, connection_after, receiver_in}
+use Rattle.bus_due.specs.bus_trace.specs.Trace.{bus}
+use Rattle.bus_due.specs.bus_trace.specs.declared.Row.{Row}
+use Rattle.bus_due.specs.bus_trace.specs.declared.changes.Change.{Change}
+use Rattle.bus_due.specs.bus_trace.specs.declared.connection.Connection.{Connection}
+use Rattle.bus_due.specs.bus_lines.specs.Handshakes.{Handshakes, handshakes_after}
+use Rattle.bus_due.specs.msg_grammar.specs.declared.message.MsgIn.TheVariants as to_initiator
+use Rattle.bus_due.specs.scenario.specs.Value.{ScenarioValue}
+use Rattle.bus_due.specs.scenario.specs.Writing.{Obeys}
+use Rattle.bus_due.specs.disk_array.specs.ArrayHistory.{reply_in}
+use Rattle.bus_due.specs.bus_story.specs.BusState.{RowReading, row_reading}
+use Rattle.bus_due.specs.bus_story.specs.CarriedBytes.{CarriedBytes, is_status_phase}
+use Rattle.bus_due.specs.bus_story.specs.HistoryEvents.{is_completion}
+use Rattle.bus_due.specs.bus_story.specs.Items.{process}
+use Rattle.bus_due.specs.bus_story.specs.Links.{Link}
+use Rattle.bus_due.specs.bus_story.specs.TraceHistory.{aim_of}
+use Rattle.bus_due.specs.bus_dialogue.specs.declared.exchange.Next.TheVariants as nexts
+use Rattle.bus_due.specs.bus_dialogue.specs.declared.exchange.Phase.{Phase}
+use Rattle.bus_due.specs.bus_dialogue.specs.declared.exchange.Phase.TheVariants as phases
+use Rattle.bus_due.specs.bus_dialogue.specs.Exchange.{Exchange, one_message}
+use Rattle.bus_due.specs.bus_dialogue.specs.NextPhase.{phase_of}
 use Rattle.bus_due.specs.Next.{IsPrompt}
 use Rattle.bus_due.specs.Plain.{IsPlain, AreOfDevices}
 use Rattle.bus_due.specs.RunState.{RunState, array_of, bus_of, carried_here}
 use Rattle.bus_due.specs.RunSteps.{run_state, run_state_after}
 use Rattle.bus_due.proofs.Plains.{run_state_plain}
-use Rattle.bus_laws.proofs.Apart.{change_plain}
-use Rattle.bus_laws.proofs.Prompt.{least_is}
-use Rattle.bus_books.specs.Knowing.{Knows}
-use Rattle.bus_books.specs.Rows.{RowKind, still, strikes, crosses, turns}
-use Rattle.bus_books.specs.Traces.{GoesOn}
-use Rattle.bus_books.proofs.Gives.{requests_stay}
-use Rattle.bus_lines.proofs.Early.{struck_same}
-use Rattle.bus_books.proofs.InConnection.{in_connection}
+use Rattle.trace_laws.specs.bus_laws.proofs.Apart.{change_plain}
+use Rattle.trace_laws.specs.bus_laws.proofs.Prompt.{least_is}
+use Rattle.trace_laws.specs.bus_books.specs.Knowing.{Knows}
+use Rattle.trace_laws.specs.bus_books.specs.Rows.{RowKind, still, strikes, crosses, turns}
+use Rattle.trace_laws.specs.bus_books.specs.Traces.{GoesOn}
+use Rattle.trace_laws.specs.bus_books.proofs.Gives.{requests_stay}
+use Rattle.bus_due.specs.bus_lines.proofs.Early.{struck_same}
+use Rattle.trace_laws.specs.bus_books.proofs.InConnection.{in_connection}
 use Rattle.trace_laws.specs.LastTalks.{LastFacts, LastBy}
 use Rattle.trace_laws.specs.Places.{AnsweredOpen, PlacedIn}
 use Rattle.trace_laws.specs.TellFacts.{TellFacts}
@@ -53,11 +53,11 @@ use Rattle.right_laws.specs.StatusBytes.{StatusBy, StatusTalks, StatusFacts}
 use Rattle.right_laws.proofs.RanFacts.{Known}
 use Rattle.right_laws.proofs.RowCrossings.{IsPlaced, placed_here}
 use Rattle.right_laws.proofs.StatusLeavings.{is_status_next}
-use Rattle.bus_story.specs.CarriedBytes.{area_with, carried_after_byte}
-use Rattle.bus_story.specs.HistoryEvents.{is_complete}
+use Rattle.bus_due.specs.bus_story.specs.CarriedBytes.{area_with, carried_after_byte}
+use Rattle.bus_due.specs.bus_story.specs.HistoryEvents.{is_complete}
 use Rattle.bus_due.specs.RunSteps.{exchange_after, first_exchange, leaving_of, may_negotiate, naming_of}
-use Rattle.bus_dialogue.specs.Planning.{first_plan}
-use Rattle.bus_books.specs.Traces.{Begins}
+use Rattle.bus_due.specs.bus_dialogue.specs.Planning.{first_plan}
+use Rattle.trace_laws.specs.bus_books.specs.Traces.{Begins}
 use Rattle.trace_laws.proofs.ItemFacts.{beginning}
 use Rattle.trace_laws.proofs.Impossible.{none_some}
 use Rattle.trace_laws.proofs.Tests.{not_unless}
@@ -69,7 +69,7 @@ use Rattle.right_laws.proofs.RowCrossings.{GoesSo, crossing_goes, here_goes, kno
 use Rattle.right_laws.proofs.StatusSame.{freeing}
 use Rattle.right_laws.proofs.StatusStays.{Given, Going, talk_still, talk_crosses}
 use Rattle.right_laws.proofs.StatusTurns.{talk_turns}
-use Rattle.bus_base.proofs.Tests.{wrong, wrong'}
+use Rattle.bus_due.specs.bus_base.proofs.Tests.{wrong, wrong'}
 
 -- ---- what has no reply
 

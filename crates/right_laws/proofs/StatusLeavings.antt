@@ -3,32 +3,32 @@
 -- (6.6.5, 6.6.10, 6.6.13).
 use Rattle.std.proofs.Common.{◌≡◌, Bool, true, false, ◌+◌, ◌∙◌, Option, Some, None, refl, sym}
 use Rattle.std.specs.Prelude.{if◌then◌else◌, is_some, nat_lt}
-use Rattle.bus_trace.specs.declared.agreements.Agreement.{Agreement}
-use Rattle.msg_grammar.specs.declared.message.MsgIn.{MsgIn}
-use Rattle.msg_grammar.specs.declared.message.MsgIn.TheVariants as to_initiator
-use Rattle.scenario.specs.declared.value.Policy.{Policy}
-use Rattle.scenario.specs.declared.value.Policy.TheVariants as policies
-use Rattle.scenario.specs.declared.value.TargetDef.{TargetDef}
-use Rattle.bus_dialogue.specs.declared.exchange.Arrival.{Arrival}
-use Rattle.bus_dialogue.specs.declared.exchange.Arrival.TheVariants as arrivals
-use Rattle.bus_dialogue.specs.declared.exchange.Cause.{Cause}
-use Rattle.bus_dialogue.specs.declared.exchange.Cause.TheVariants as causes
-use Rattle.bus_dialogue.specs.declared.exchange.Leaving.{Leaving}
-use Rattle.bus_dialogue.specs.declared.exchange.Messages.{Messages}
-use Rattle.bus_dialogue.specs.declared.exchange.Next.{Next}
-use Rattle.bus_dialogue.specs.declared.exchange.Next.TheVariants as nexts
-use Rattle.bus_dialogue.specs.declared.exchange.Phase.{Phase}
-use Rattle.bus_dialogue.specs.declared.exchange.Phase.TheVariants as phases
-use Rattle.bus_dialogue.specs.declared.exchange.Task.{Task}
-use Rattle.bus_dialogue.specs.Arrivals.{policy_of}
-use Rattle.bus_dialogue.specs.DataRuns.{runs_in_all}
-use Rattle.bus_dialogue.specs.Exchange.{one_message}
-use Rattle.bus_dialogue.specs.NextPhase.{Serving, phase_leaving, phase_entry, with_task, recovery, recovery_limit, pointer_restoration, message_out_leaving, after_messages, after_arrival, after_run, disconnection, disconnect_messages, data_in_leaving, bus_free, message_repetition, message_in_entry, request_or_command, after_offer}
-use Rattle.bus_dialogue.specs.Words.{request_by, is_naming}
-use Rattle.bus_dialogue.specs.Events.{is_status_next as is_to_status}
+use Rattle.bus_due.specs.bus_trace.specs.declared.agreements.Agreement.{Agreement}
+use Rattle.bus_due.specs.msg_grammar.specs.declared.message.MsgIn.{MsgIn}
+use Rattle.bus_due.specs.msg_grammar.specs.declared.message.MsgIn.TheVariants as to_initiator
+use Rattle.bus_due.specs.scenario.specs.declared.value.Policy.{Policy}
+use Rattle.bus_due.specs.scenario.specs.declared.value.Policy.TheVariants as policies
+use Rattle.bus_due.specs.scenario.specs.declared.value.TargetDef.{TargetDef}
+use Rattle.bus_due.specs.bus_dialogue.specs.declared.exchange.Arrival.{Arrival}
+use Rattle.bus_due.specs.bus_dialogue.specs.declared.exchange.Arrival.TheVariants as arrivals
+use Rattle.bus_due.specs.bus_dialogue.specs.declared.exchange.Cause.{Cause}
+use Rattle.bus_due.specs.bus_dialogue.specs.declared.exchange.Cause.TheVariants as causes
+use Rattle.bus_due.specs.bus_dialogue.specs.declared.exchange.Leaving.{Leaving}
+use Rattle.bus_due.specs.bus_dialogue.specs.declared.exchange.Messages.{Messages}
+use Rattle.bus_due.specs.bus_dialogue.specs.declared.exchange.Next.{Next}
+use Rattle.bus_due.specs.bus_dialogue.specs.declared.exchange.Next.TheVariants as nexts
+use Rattle.bus_due.specs.bus_dialogue.specs.declared.exchange.Phase.{Phase}
+use Rattle.bus_due.specs.bus_dialogue.specs.declared.exchange.Phase.TheVariants as phases
+use Rattle.bus_due.specs.bus_dialogue.specs.declared.exchange.Task.{Task}
+use Rattle.bus_due.specs.bus_dialogue.specs.Arrivals.{policy_of}
+use Rattle.bus_due.specs.bus_dialogue.specs.DataRuns.{runs_in_all}
+use Rattle.bus_due.specs.bus_dialogue.specs.Exchange.{one_message}
+use Rattle.bus_due.specs.bus_dialogue.specs.NextPhase.{Serving, phase_leaving, phase_entry, with_task, recovery, recovery_limit, pointer_restoration, message_out_leaving, after_messages, after_arrival, after_run, disconnection, disconnect_messages, data_in_leaving, bus_free, message_repetition, message_in_entry, request_or_command, after_offer}
+use Rattle.bus_due.specs.bus_dialogue.specs.Words.{request_by, is_naming}
+use Rattle.bus_due.specs.bus_dialogue.specs.Events.{is_status_next as is_to_status}
 use Rattle.trace_laws.proofs.UndoneLeavings.{is_to_message_in, to_data, not_again}
 use Rattle.trace_laws.specs.ItemTalks.{frees_bus}
-use Rattle.bus_base.proofs.Tests.{wrong'}
+use Rattle.bus_due.specs.bus_base.proofs.Tests.{wrong'}
 
 abbrev pub is_ending : Messages → Bool
 is_ending m = go m.first

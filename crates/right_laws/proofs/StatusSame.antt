@@ -1,27 +1,27 @@
 -- What is said of the status that a process has carried says the same of what has the same bytes and the same pointer.
 use Rattle.std.proofs.Common.{ℕ, ◌≡◌, ◌⊎◌, inl, inr, Bool, true, false, ◌==◌, ◌∙◌, Some, refl, sym, ap, subst, true≢false}
 use Rattle.std.specs.Prelude.{if◌then◌else◌}
-use Rattle.bus_trace.specs.LineSet.{LineSet}
-use Rattle.msg_grammar.specs.declared.message.MsgIn.TheVariants as to_initiator
-use Rattle.bus_story.specs.CarriedBytes.{CarriedBytes}
-use Rattle.bus_story.specs.Links.{Link}
-use Rattle.bus_dialogue.specs.declared.exchange.Cause.{Cause}
-use Rattle.bus_dialogue.specs.declared.exchange.Cause.TheVariants as causes
-use Rattle.bus_dialogue.specs.declared.exchange.Messages.{Messages}
-use Rattle.bus_dialogue.specs.declared.exchange.Next.{Next}
-use Rattle.bus_dialogue.specs.declared.exchange.Next.TheVariants as nexts
-use Rattle.bus_dialogue.specs.declared.exchange.Phase.{Phase}
-use Rattle.bus_dialogue.specs.declared.exchange.Phase.TheVariants as phases
-use Rattle.bus_dialogue.specs.declared.exchange.Plan.{Plan}
-use Rattle.bus_dialogue.specs.Exchange.{one_message}
-use Rattle.bus_dialogue.specs.NextPhase.{phase_of}
-use Rattle.bus_dialogue.specs.Events.{is_status_next}
+use Rattle.bus_due.specs.bus_trace.specs.LineSet.{LineSet}
+use Rattle.bus_due.specs.msg_grammar.specs.declared.message.MsgIn.TheVariants as to_initiator
+use Rattle.bus_due.specs.bus_story.specs.CarriedBytes.{CarriedBytes}
+use Rattle.bus_due.specs.bus_story.specs.Links.{Link}
+use Rattle.bus_due.specs.bus_dialogue.specs.declared.exchange.Cause.{Cause}
+use Rattle.bus_due.specs.bus_dialogue.specs.declared.exchange.Cause.TheVariants as causes
+use Rattle.bus_due.specs.bus_dialogue.specs.declared.exchange.Messages.{Messages}
+use Rattle.bus_due.specs.bus_dialogue.specs.declared.exchange.Next.{Next}
+use Rattle.bus_due.specs.bus_dialogue.specs.declared.exchange.Next.TheVariants as nexts
+use Rattle.bus_due.specs.bus_dialogue.specs.declared.exchange.Phase.{Phase}
+use Rattle.bus_due.specs.bus_dialogue.specs.declared.exchange.Phase.TheVariants as phases
+use Rattle.bus_due.specs.bus_dialogue.specs.declared.exchange.Plan.{Plan}
+use Rattle.bus_due.specs.bus_dialogue.specs.Exchange.{one_message}
+use Rattle.bus_due.specs.bus_dialogue.specs.NextPhase.{phase_of}
+use Rattle.bus_due.specs.bus_dialogue.specs.Events.{is_status_next}
 use Rattle.trace_laws.specs.ItemTalks.{frees_bus}
 use Rattle.trace_laws.specs.LastTalks.{LastGiven, still_stays, to_close, to_save, closed}
 use Rattle.trace_laws.proofs.LastRows.{KeptPlan}
 use Rattle.right_laws.specs.Loads.{Load, load}
 use Rattle.right_laws.specs.StatusBytes.{HasOne, IsSmall, IsReady, StatusSays, StatusAsked, StatusBy}
-use Rattle.bus_base.proofs.Tests.{wrong'}
+use Rattle.bus_due.specs.bus_base.proofs.Tests.{wrong'}
 
 -- ---- what is the same says the same
 
@@ -33,8 +33,8 @@ small_as c d e (inl h) = inl (ap (λ (x : Load). x.status) e ∙ h)
 small_as c d e (inr h) = inr (one_as c d e h)
 
 pub ready_as : (c d : CarriedBytes) → d.status ≡ c.status → IsReady c → IsReady d
-ready_as c d e (inl h) = inl (ap (λ (a : Rattle.bus_story.specs.CarriedBytes.Area). a.bytes) e ∙ h)
-ready_as c d e (inr h) = inr ((h.0.0, ap (λ (a : Rattle.bus_story.specs.CarriedBytes.Area). a.bytes) e ∙ h.0.1), ap (λ (a : Rattle.bus_story.specs.CarriedBytes.Area). a.active) e ∙ h.1)
+ready_as c d e (inl h) = inl (ap (λ (a : Rattle.bus_due.specs.bus_story.specs.CarriedBytes.Area). a.bytes) e ∙ h)
+ready_as c d e (inr h) = inr ((h.0.0, ap (λ (a : Rattle.bus_due.specs.bus_story.specs.CarriedBytes.Area). a.bytes) e ∙ h.0.1), ap (λ (a : Rattle.bus_due.specs.bus_story.specs.CarriedBytes.Area). a.active) e ∙ h.1)
 
 pub ready_small : (c : CarriedBytes) → IsReady c → IsSmall c
 ready_small c (inl h) = inl h
@@ -86,10 +86,10 @@ status_lines b e = go b.msg b.cd b.io refl refl refl (ap (λ (p : Phase). is_sta
 -- ---- what is said at its end
 
 pub freeing : (l : Link) (m : Messages) (next : Next) (count : ℕ) → LastGiven l m next count → m ≡ one_message to_initiator.CommandComplete → frees_bus next ≡ true
-freeing l m next count (still_stays f all last) e = absurd (no_end ((subst (λ (x : Messages). Rattle.bus_books.specs.Giving.OnMessages (λ y. Rattle.bus_story.specs.Links.last_in y ≡ Rattle.bus_story.specs.Links.plain) x) e all).0))
+freeing l m next count (still_stays f all last) e = absurd (no_end ((subst (λ (x : Messages). Rattle.trace_laws.specs.bus_books.specs.Giving.OnMessages (λ y. Rattle.bus_due.specs.bus_story.specs.Links.last_in y ≡ Rattle.bus_due.specs.bus_story.specs.Links.plain) x) e all).0))
   where
-    no_end : (let x : Rattle.bus_story.specs.Links.LastMessage = Rattle.bus_story.specs.Links.complete in x) ≡ Rattle.bus_story.specs.Links.plain → ⊥
-    no_end z = true≢false (ap Rattle.bus_story.specs.HistoryEvents.is_complete z)
+    no_end : (let x : Rattle.bus_due.specs.bus_story.specs.Links.LastMessage = Rattle.bus_due.specs.bus_story.specs.Links.complete in x) ≡ Rattle.bus_due.specs.bus_story.specs.Links.plain → ⊥
+    no_end z = true≢false (ap Rattle.bus_due.specs.bus_story.specs.HistoryEvents.is_complete z)
 freeing l m next count (to_close f x one end zero last) e = frees next f
   where
     frees : (y : Next) → frees_bus y ≡ true → frees_bus y ≡ true

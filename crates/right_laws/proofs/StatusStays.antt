@@ -2,39 +2,39 @@
 use Rattle.std.proofs.Common.{ℕ, ◌≡◌, ◌⊎◌, inl, inr, ◌<◌, Bool, true, false, not, ◌&&◌, ◌==◌, ◌%◌, ◌∙◌, List, [], ◌∷◌, ◌++◌, length, Option, Some, None, refl, sym, ap, subst, true≢false}
 use Rattle.std.proofs.lemmas.Option.{same_Some}
 use Rattle.std.specs.Prelude.{if◌then◌else◌, is_some, slice_index_or}
-use Rattle.bus_base.specs.declared.ProcId.{ProcId}
-use Rattle.bus_trace.specs.LineSet.{LineSet}
-use Rattle.bus_trace.specs.Changes.{rises}
-use Rattle.bus_trace.specs.Phases.{changes_phase, is_message_out, is_message_in}
-use Rattle.bus_trace.specs.Terms.{is_fault, connection, receiver_in}
-use Rattle.bus_trace.specs.Trace.{bus}
-use Rattle.bus_trace.specs.declared.Row.{Row}
-use Rattle.bus_trace.specs.declared.changes.Change.{Change}
-use Rattle.bus_trace.specs.declared.connection.Connection.{Connection}
-use Rattle.bus_lines.specs.Handshakes.{Handshakes, handshakes_after}
-use Rattle.msg_grammar.specs.Messages.{got_in}
-use Rattle.msg_grammar.specs.declared.message.MsgIn.TheVariants as to_initiator
-use Rattle.scenario.specs.Value.{ScenarioValue}
-use Rattle.disk_array.specs.Processes.{process_of}
-use Rattle.bus_story.specs.BusState.{whole_in, message_out, message_in}
-use Rattle.bus_story.specs.Items.{Item, process}
-use Rattle.bus_story.specs.Links.{Link}
-use Rattle.bus_dialogue.specs.declared.exchange.Messages.{Messages}
-use Rattle.bus_dialogue.specs.declared.exchange.Next.TheVariants as nexts
-use Rattle.bus_dialogue.specs.declared.exchange.Phase.{Phase}
-use Rattle.bus_dialogue.specs.declared.exchange.Phase.TheVariants as phases
-use Rattle.bus_dialogue.specs.Exchange.{one_message, bytes_of_messages}
-use Rattle.bus_dialogue.specs.NextPhase.{phase_of}
+use Rattle.bus_due.specs.bus_base.specs.declared.ProcId.{ProcId}
+use Rattle.bus_due.specs.bus_trace.specs.LineSet.{LineSet}
+use Rattle.bus_due.specs.bus_trace.specs.Changes.{rises}
+use Rattle.bus_due.specs.bus_trace.specs.Phases.{changes_phase, is_message_out, is_message_in}
+use Rattle.bus_due.specs.bus_trace.specs.Terms.{is_fault, connection, receiver_in}
+use Rattle.bus_due.specs.bus_trace.specs.Trace.{bus}
+use Rattle.bus_due.specs.bus_trace.specs.declared.Row.{Row}
+use Rattle.bus_due.specs.bus_trace.specs.declared.changes.Change.{Change}
+use Rattle.bus_due.specs.bus_trace.specs.declared.connection.Connection.{Connection}
+use Rattle.bus_due.specs.bus_lines.specs.Handshakes.{Handshakes, handshakes_after}
+use Rattle.bus_due.specs.msg_grammar.specs.Messages.{got_in}
+use Rattle.bus_due.specs.msg_grammar.specs.declared.message.MsgIn.TheVariants as to_initiator
+use Rattle.bus_due.specs.scenario.specs.Value.{ScenarioValue}
+use Rattle.bus_due.specs.disk_array.specs.Processes.{process_of}
+use Rattle.bus_due.specs.bus_story.specs.BusState.{whole_in, message_out, message_in}
+use Rattle.bus_due.specs.bus_story.specs.Items.{Item, process}
+use Rattle.bus_due.specs.bus_story.specs.Links.{Link}
+use Rattle.bus_due.specs.bus_dialogue.specs.declared.exchange.Messages.{Messages}
+use Rattle.bus_due.specs.bus_dialogue.specs.declared.exchange.Next.TheVariants as nexts
+use Rattle.bus_due.specs.bus_dialogue.specs.declared.exchange.Phase.{Phase}
+use Rattle.bus_due.specs.bus_dialogue.specs.declared.exchange.Phase.TheVariants as phases
+use Rattle.bus_due.specs.bus_dialogue.specs.Exchange.{one_message, bytes_of_messages}
+use Rattle.bus_due.specs.bus_dialogue.specs.NextPhase.{phase_of}
 use Rattle.bus_due.specs.Plain.{IsPlain}
 use Rattle.bus_due.specs.RunState.{RunState, bus_of, carried_here}
 use Rattle.bus_due.specs.RunSteps.{run_state, run_state_after}
 use Rattle.bus_due.proofs.Plains.{run_state_plain}
-use Rattle.bus_books.specs.Giving.{AreGiven}
-use Rattle.bus_books.specs.Knowing.{Knows}
-use Rattle.bus_books.specs.Rows.{IsRowIn}
-use Rattle.bus_books.specs.Traces.{GoesOn}
-use Rattle.bus_books.proofs.CarriedBlocks.{own_of}
-use Rattle.bus_books.proofs.InConnection.{InConnection, in_connection}
+use Rattle.trace_laws.specs.bus_books.specs.Giving.{AreGiven}
+use Rattle.trace_laws.specs.bus_books.specs.Knowing.{Knows}
+use Rattle.trace_laws.specs.bus_books.specs.Rows.{IsRowIn}
+use Rattle.trace_laws.specs.bus_books.specs.Traces.{GoesOn}
+use Rattle.trace_laws.specs.bus_books.proofs.CarriedBlocks.{own_of}
+use Rattle.trace_laws.specs.bus_books.proofs.InConnection.{InConnection, in_connection}
 use Rattle.trace_laws.specs.LastTalks.{LastFacts}
 use Rattle.trace_laws.specs.Named.{Named, NamedFacts, known, said, refused}
 use Rattle.trace_laws.proofs.ConnectionRows.{ConnectionRow, GoingRow}
@@ -51,11 +51,11 @@ use Rattle.right_laws.proofs.StatusAreas.{area_stays, status_crosses, restore_wh
 use Rattle.right_laws.proofs.StatusFirst.{status_first}
 use Rattle.right_laws.proofs.StatusLeavings.{is_status_next}
 use Rattle.right_laws.proofs.UndoneLoads.{loads_stay_in}
-use Rattle.bus_books.proofs.Gives.{requests_rise}
+use Rattle.trace_laws.specs.bus_books.proofs.Gives.{requests_rise}
 use Rattle.right_laws.proofs.RanFacts.{undoes_of}
 use Rattle.right_laws.proofs.StatusSame.{says_as, asked_as, same_by, status_lines}
-use Rattle.bus_base.proofs.Tests.{wrong, wrong'}
-use Rattle.link_laws.proofs.Asks.{counted_some}
+use Rattle.bus_due.specs.bus_base.proofs.Tests.{wrong, wrong'}
+use Rattle.trace_laws.specs.link_laws.proofs.Asks.{counted_some}
 
 -- ---- what is known
 
@@ -260,7 +260,7 @@ talk_crosses s p row n id dev h ef ep er talk = subst (StatusBy (carried_here j 
             given = (h.given.known.was.books.gives n r.connection_is g.calm).in_message_in gives.2 bus_here
 
             half : k.story.bus_state.dialogue.half ≡ []
-            half = given.half_is ∙ ap (Rattle.bus_books.specs.Listening.half_after []) (empty_front given.before (sym zero ∙ given.count_is))
+            half = given.half_is ∙ ap (Rattle.trace_laws.specs.bus_books.specs.Listening.half_after []) (empty_front given.before (sym zero ∙ given.count_is))
 
             byte : c.after.data_bits % 256 ≡ slice_index_or (bytes_of_messages (one_message to_initiator.RestorePointers)) 0 0
             byte = gives.0 ∙ (λ x. slice_index_or (bytes_of_messages (again.0 x)) (zero x) 0)
@@ -269,7 +269,7 @@ talk_crosses s p row n id dev h ef ep er talk = subst (StatusBy (carried_here j 
             into = (λ x. if here x then whole_in (got_in (half x ++ byte x ∷ [])) else None) ∙ restore_whole
 
             out : message_out k.story.bus_state.dialogue c true ≡ None
-            out = λ x. if out_in c.before here x then Rattle.bus_story.specs.BusState.whole_out (Rattle.msg_grammar.specs.Messages.got_out (Rattle.bus_phases.specs.Dialogue.fresh_bytes k.story.bus_state.dialogue ++ c.after.data_bits % 256 ∷ [])) else None
+            out = λ x. if out_in c.before here x then Rattle.bus_due.specs.bus_story.specs.BusState.whole_out (Rattle.bus_due.specs.msg_grammar.specs.Messages.got_out (Rattle.bus_due.specs.bus_phases.specs.Dialogue.fresh_bytes k.story.bus_state.dialogue ++ c.after.data_bits % 256 ∷ [])) else None
 
             item : knows.link.item ≡ Some (process id)
             item = known_item s k n knows (h.given.named n h.con h.off) (out_in (bus_of k) bus_here) (λ x w. true≢false (ap is_status_next (sym z ∙ w))) ∙ h.served

@@ -1,44 +1,44 @@
 -- What a process has carried of its status, as a phase of its connection is left for another (6.4, 6.6.5, 6.6.10, 6.6.19).
 use Rattle.std.proofs.Common.{ℕ, ◌≡◌, inl, inr, arith, ◌-◌, Bool, true, false, not, ◌&&◌, ◌==◌, ◌∙◌, List, ◌∷◌, length, Option, Some, None, refl, sym, ap, subst, true≢false}
 use Rattle.std.specs.Prelude.{if◌then◌else◌, is_some, nat_lt}
-use Rattle.bus_base.specs.declared.ProcId.{ProcId}
-use Rattle.bus_trace.specs.LineSet.{LineSet}
-use Rattle.bus_trace.specs.Changes.{rises}
-use Rattle.bus_trace.specs.Phases.{changes_phase, is_message_out, is_message_in}
-use Rattle.bus_trace.specs.Terms.{is_fault, receiver_in}
-use Rattle.bus_trace.specs.declared.Row.{Row}
-use Rattle.bus_trace.specs.declared.changes.Change.{Change}
-use Rattle.bus_trace.specs.declared.connection.Connection.{Connection}
-use Rattle.bus_lines.specs.Handshakes.{Handshakes, no_handshakes, handshakes_after, answered_if, asked_if}
-use Rattle.msg_grammar.specs.declared.message.MsgIn.TheVariants as to_initiator
-use Rattle.scenario.specs.Value.{ScenarioValue}
-use Rattle.disk_array.specs.ArrayHistory.{reply_in}
-use Rattle.bus_story.specs.BusState.{row_reading}
-use Rattle.bus_story.specs.CarriedBytes.{CarriedBytes}
-use Rattle.bus_story.specs.Links.{Link}
-use Rattle.bus_dialogue.specs.declared.exchange.Cause.{Cause}
-use Rattle.bus_dialogue.specs.declared.exchange.Cause.TheVariants as causes
-use Rattle.bus_dialogue.specs.declared.exchange.Leaving.{Leaving}
-use Rattle.bus_dialogue.specs.declared.exchange.Messages.{Messages}
-use Rattle.bus_dialogue.specs.declared.exchange.Next.{Next}
-use Rattle.bus_dialogue.specs.declared.exchange.Next.TheVariants as nexts
-use Rattle.bus_dialogue.specs.declared.exchange.Phase.{Phase}
-use Rattle.bus_dialogue.specs.declared.exchange.Phase.TheVariants as phases
-use Rattle.bus_dialogue.specs.declared.exchange.Plan.{Plan}
-use Rattle.bus_dialogue.specs.Exchange.{Exchange, one_message, bytes_of_messages, plan_anew}
-use Rattle.bus_dialogue.specs.NextPhase.{Serving, phase_of, phase_leaving, leaving_by}
-use Rattle.bus_dialogue.specs.Planning.{cause_after, plan_in_message_out, plan_in_phase}
+use Rattle.bus_due.specs.bus_base.specs.declared.ProcId.{ProcId}
+use Rattle.bus_due.specs.bus_trace.specs.LineSet.{LineSet}
+use Rattle.bus_due.specs.bus_trace.specs.Changes.{rises}
+use Rattle.bus_due.specs.bus_trace.specs.Phases.{changes_phase, is_message_out, is_message_in}
+use Rattle.bus_due.specs.bus_trace.specs.Terms.{is_fault, receiver_in}
+use Rattle.bus_due.specs.bus_trace.specs.declared.Row.{Row}
+use Rattle.bus_due.specs.bus_trace.specs.declared.changes.Change.{Change}
+use Rattle.bus_due.specs.bus_trace.specs.declared.connection.Connection.{Connection}
+use Rattle.bus_due.specs.bus_lines.specs.Handshakes.{Handshakes, no_handshakes, handshakes_after, answered_if, asked_if}
+use Rattle.bus_due.specs.msg_grammar.specs.declared.message.MsgIn.TheVariants as to_initiator
+use Rattle.bus_due.specs.scenario.specs.Value.{ScenarioValue}
+use Rattle.bus_due.specs.disk_array.specs.ArrayHistory.{reply_in}
+use Rattle.bus_due.specs.bus_story.specs.BusState.{row_reading}
+use Rattle.bus_due.specs.bus_story.specs.CarriedBytes.{CarriedBytes}
+use Rattle.bus_due.specs.bus_story.specs.Links.{Link}
+use Rattle.bus_due.specs.bus_dialogue.specs.declared.exchange.Cause.{Cause}
+use Rattle.bus_due.specs.bus_dialogue.specs.declared.exchange.Cause.TheVariants as causes
+use Rattle.bus_due.specs.bus_dialogue.specs.declared.exchange.Leaving.{Leaving}
+use Rattle.bus_due.specs.bus_dialogue.specs.declared.exchange.Messages.{Messages}
+use Rattle.bus_due.specs.bus_dialogue.specs.declared.exchange.Next.{Next}
+use Rattle.bus_due.specs.bus_dialogue.specs.declared.exchange.Next.TheVariants as nexts
+use Rattle.bus_due.specs.bus_dialogue.specs.declared.exchange.Phase.{Phase}
+use Rattle.bus_due.specs.bus_dialogue.specs.declared.exchange.Phase.TheVariants as phases
+use Rattle.bus_due.specs.bus_dialogue.specs.declared.exchange.Plan.{Plan}
+use Rattle.bus_due.specs.bus_dialogue.specs.Exchange.{Exchange, one_message, bytes_of_messages, plan_anew}
+use Rattle.bus_due.specs.bus_dialogue.specs.NextPhase.{Serving, phase_of, phase_leaving, leaving_by}
+use Rattle.bus_due.specs.bus_dialogue.specs.Planning.{cause_after, plan_in_message_out, plan_in_phase}
 use Rattle.bus_due.specs.Plain.{IsPlain}
 use Rattle.bus_due.specs.RunState.{RunState, bus_of, carried_here}
 use Rattle.bus_due.specs.RunSteps.{run_state, run_state_after}
 use Rattle.bus_due.specs.Sights.{serving_of, leaving, hearing_of}
 use Rattle.bus_due.proofs.Plains.{run_state_plain}
-use Rattle.bus_books.specs.Hearing.{LeavesWhole}
-use Rattle.bus_books.specs.Knowing.{Knows}
-use Rattle.bus_books.specs.Reactions.{IsOver}
-use Rattle.bus_books.specs.Rows.{IsRowIn, reading_in}
-use Rattle.bus_books.specs.Traces.{GoesOn}
-use Rattle.bus_books.proofs.InConnection.{InConnection, in_connection}
+use Rattle.trace_laws.specs.bus_books.specs.Hearing.{LeavesWhole}
+use Rattle.trace_laws.specs.bus_books.specs.Knowing.{Knows}
+use Rattle.trace_laws.specs.bus_books.specs.Reactions.{IsOver}
+use Rattle.trace_laws.specs.bus_books.specs.Rows.{IsRowIn, reading_in}
+use Rattle.trace_laws.specs.bus_books.specs.Traces.{GoesOn}
+use Rattle.trace_laws.specs.bus_books.proofs.InConnection.{InConnection, in_connection}
 use Rattle.trace_laws.specs.LastTalks.{LastFacts, LastGiven, still_stays, to_close, to_save, closed, LastBy}
 use Rattle.trace_laws.specs.Places.{PlacedIn, PlacedBefore, PlacedAsked}
 use Rattle.trace_laws.proofs.ConnectionRows.{stage_of_connection}
@@ -58,19 +58,19 @@ use Rattle.trace_laws.proofs.UndoneLeavings.{is_to_message_in}
 use Rattle.right_laws.proofs.StatusLeavings.{is_ending, is_status_next, FromIn, completes, repeats, restores, others, from_in, ToStatus, again, goes_on, gives_up, after_block, after_data_in, after_data_out, to_status}
 use Rattle.right_laws.proofs.UndoneLoads.{loads_stay_in}
 use Rattle.std.proofs.Common.{◌≤◌}
-use Rattle.bus_trace.specs.LineSet.{same}
-use Rattle.bus_trace.proofs.Sets.{same_self}
-use Rattle.msg_grammar.specs.declared.message.MsgIn.{MsgIn}
-use Rattle.bus_story.specs.HistoryEvents.{is_complete}
-use Rattle.bus_story.specs.Links.{plain, complete}
-use Rattle.bus_dialogue.specs.Exchange.{from_byte, message_bytes}
-use Rattle.bus_dialogue.specs.Events.{is_status_next as is_to_status}
-use Rattle.bus_books.specs.Giving.{OnMessage}
+use Rattle.bus_due.specs.bus_trace.specs.LineSet.{same}
+use Rattle.bus_due.specs.bus_trace.proofs.Sets.{same_self}
+use Rattle.bus_due.specs.msg_grammar.specs.declared.message.MsgIn.{MsgIn}
+use Rattle.bus_due.specs.bus_story.specs.HistoryEvents.{is_complete}
+use Rattle.bus_due.specs.bus_story.specs.Links.{plain, complete}
+use Rattle.bus_due.specs.bus_dialogue.specs.Exchange.{from_byte, message_bytes}
+use Rattle.bus_due.specs.bus_dialogue.specs.Events.{is_status_next as is_to_status}
+use Rattle.trace_laws.specs.bus_books.specs.Giving.{OnMessage}
 use Rattle.trace_laws.specs.LastTalks.{EndsWell, stays, closes, saves}
 use Rattle.right_laws.proofs.RanFacts.{undoes_of, here_is}
 use Rattle.right_laws.proofs.StatusSame.{one_as, ready_as, says_as, status_lines, freeing}
 use Rattle.right_laws.proofs.StatusStays.{Going, knows_of}
-use Rattle.bus_base.proofs.Tests.{wrong, wrong'}
+use Rattle.bus_due.specs.bus_base.proofs.Tests.{wrong, wrong'}
 use Rattle.trace_laws.specs.DataPointers.{IsPlainIn}
 use Rattle.trace_laws.proofs.OfferSteps.{stays_out}
 use Rattle.trace_laws.specs.ItemTalks.{frees_bus}
@@ -188,7 +188,7 @@ talk_turns s p row n id h ef ep er lasts talk = subst (StatusBy d j.exchange.pla
     i : InConnection s k row n c true false false
     i = in_connection s k row n c true false false r ep none ef
 
-    w : Rattle.bus_dialogue.specs.declared.exchange.Hearing.Hearing
+    w : Rattle.bus_due.specs.bus_dialogue.specs.declared.exchange.Hearing.Hearing
     w = hearing_of k row (reading_in k.story.bus_state n c false)
 
     v : Serving
@@ -342,7 +342,7 @@ talk_turns s p row n id h ef ep er lasts talk = subst (StatusBy d j.exchange.pla
           again = λ z. no_status l.next (next_status f) (sym (planned q).1 ∙ z);
         }
           where
-            either : (x : Bool) → is_status_next (Rattle.bus_dialogue.specs.NextPhase.unless_attention x (Rattle.bus_dialogue.specs.NextPhase.disconnection (one_message to_initiator.CommandComplete))).next ≡ false
+            either : (x : Bool) → is_status_next (Rattle.bus_due.specs.bus_dialogue.specs.NextPhase.unless_attention x (Rattle.bus_due.specs.bus_dialogue.specs.NextPhase.disconnection (one_message to_initiator.CommandComplete))).next ≡ false
             either true = refl
             either false = refl
 

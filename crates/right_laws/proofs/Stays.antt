@@ -2,30 +2,30 @@
 use Rattle.std.proofs.Common.{ℕ, ◌≡◌, Bool, true, false, not, ◌&&◌, ◌==◌, ◌∙◌, List, Option, Some, None, refl, sym, ap, subst}
 use Rattle.std.specs.Prelude.{if◌then◌else◌, Result, Ok, Err}
 use Rattle.std.proofs.lemmas.Option.{same_Some}
-use Rattle.bus_base.specs.declared.Event.TheVariants as events
-use Rattle.bus_base.specs.declared.ProcId.{ProcId}
-use Rattle.cdb_codec.specs.Cdb.{command_of}
-use Rattle.cdb_codec.specs.declared.Sense.{Sense}
-use Rattle.cdb_codec.specs.declared.command.CdbFault.{CdbFault}
-use Rattle.cdb_codec.specs.declared.command.CdbFault.TheVariants as faults
-use Rattle.cdb_codec.specs.declared.command.Command.{Command}
-use Rattle.cdb_codec.specs.declared.command.Command.TheVariants as commands
-use Rattle.cdb_codec.specs.declared.status.TheConstants.{GOOD, CHECK_CONDITION}
-use Rattle.scenario.specs.Value.{ScenarioValue}
-use Rattle.disk_array.specs.Execution.{CommandContext, Reply, attention_execution, block_out_of_range, cdb_execution, check_condition, command_execution, execution, heeds_attention, is_good_range, is_request_sense, needs_unit, range_of, reply_execution}
-use Rattle.disk_array.specs.Processes.{Process, process_of}
-use Rattle.disk_array.specs.Seats as Seats
-use Rattle.disk_array.specs.Seats.{Seat, context_of, seat_if, seat_of, settled_seat, settled_seat_if}
-use Rattle.disk_array.specs.SoundArray.{HasSeats, IsSound}
-use Rattle.disk_array.specs.Steps.{is_of_unit, step}
-use Rattle.disk_array.specs.Units.{Array, RunningProcess, UnitState}
-use Rattle.disk_array.proofs.SeatLaws.{end_law}
-use Rattle.disk_array.proofs.SeatContexts.{settled_context}
+use Rattle.bus_due.specs.bus_base.specs.declared.Event.TheVariants as events
+use Rattle.bus_due.specs.bus_base.specs.declared.ProcId.{ProcId}
+use Rattle.bus_due.specs.cdb_codec.specs.Cdb.{command_of}
+use Rattle.bus_due.specs.cdb_codec.specs.declared.Sense.{Sense}
+use Rattle.bus_due.specs.cdb_codec.specs.declared.command.CdbFault.{CdbFault}
+use Rattle.bus_due.specs.cdb_codec.specs.declared.command.CdbFault.TheVariants as faults
+use Rattle.bus_due.specs.cdb_codec.specs.declared.command.Command.{Command}
+use Rattle.bus_due.specs.cdb_codec.specs.declared.command.Command.TheVariants as commands
+use Rattle.bus_due.specs.cdb_codec.specs.declared.status.TheConstants.{GOOD, CHECK_CONDITION}
+use Rattle.bus_due.specs.scenario.specs.Value.{ScenarioValue}
+use Rattle.bus_due.specs.disk_array.specs.Execution.{CommandContext, Reply, attention_execution, block_out_of_range, cdb_execution, check_condition, command_execution, execution, heeds_attention, is_good_range, is_request_sense, needs_unit, range_of, reply_execution}
+use Rattle.bus_due.specs.disk_array.specs.Processes.{Process, process_of}
+use Rattle.bus_due.specs.disk_array.specs.Seats as Seats
+use Rattle.bus_due.specs.disk_array.specs.Seats.{Seat, context_of, seat_if, seat_of, settled_seat, settled_seat_if}
+use Rattle.bus_due.specs.disk_array.specs.SoundArray.{HasSeats, IsSound}
+use Rattle.bus_due.specs.disk_array.specs.Steps.{is_of_unit, step}
+use Rattle.bus_due.specs.disk_array.specs.Units.{Array, RunningProcess, UnitState}
+use Rattle.bus_due.specs.disk_array.proofs.SeatLaws.{end_law}
+use Rattle.bus_due.specs.disk_array.proofs.SeatContexts.{settled_context}
 use Rattle.bus_due.specs.Tasks.{reply_now}
 use Rattle.right_laws.proofs.SameReplies.{place_of}
-use Rattle.bus_base.proofs.Tests.{wrong}
+use Rattle.bus_due.specs.bus_base.proofs.Tests.{wrong}
 use Rattle.trace_laws.proofs.Impossible.{none_some}
-use Rattle.target_units.proofs.UnitTellings.{context_same}
+use Rattle.trace_laws.specs.target_units.proofs.UnitTellings.{context_same}
 
 -- ---- only REQUEST SENSE answers by the stored sense
 
@@ -63,7 +63,7 @@ stored_attention m x (Some a) cdb sent e = go (heeds_attention cdb)
 stored_apart : (m : CommandContext) (x : Option Sense) (cdb sent : List ℕ) → is_request_sense (command_of cdb) ≡ false → (execution (sensing m x) cdb sent).reply ≡ (execution m cdb sent).reply
 stored_apart m x cdb sent e = go (not m.present && needs_unit cdb)
   where
-    go : (q : Bool) → (if q then reply_execution (sensing m x) (check_condition Rattle.disk_array.specs.Execution.unit_not_supported) else attention_execution (sensing m x) m.attention cdb sent).reply ≡ (if q then reply_execution m (check_condition Rattle.disk_array.specs.Execution.unit_not_supported) else attention_execution m m.attention cdb sent).reply
+    go : (q : Bool) → (if q then reply_execution (sensing m x) (check_condition Rattle.bus_due.specs.disk_array.specs.Execution.unit_not_supported) else attention_execution (sensing m x) m.attention cdb sent).reply ≡ (if q then reply_execution m (check_condition Rattle.bus_due.specs.disk_array.specs.Execution.unit_not_supported) else attention_execution m m.attention cdb sent).reply
     go true = refl
     go false = stored_attention m x m.attention cdb sent e
 

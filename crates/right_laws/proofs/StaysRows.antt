@@ -4,44 +4,44 @@ use Rattle.std.specs.Prelude.{if◌then◌else◌, is_none, is_some}
 use Rattle.std.specs.List.{list_any}
 use Rattle.std.proofs.lemmas.Option.{same_Some}
 use Rattle.std.proofs.lemmas.Bool.{eqb-true}
-use Rattle.bus_base.specs.declared.AbortKind.{AbortKind}
-use Rattle.bus_base.specs.declared.AbortKind.TheVariants as aborts
-use Rattle.bus_base.specs.declared.Event.{Event}
-use Rattle.bus_base.specs.declared.Event.TheVariants as events
-use Rattle.bus_base.specs.declared.ProcId.{ProcId}
-use Rattle.bus_trace.specs.Changes.{rises}
-use Rattle.bus_trace.specs.LineSet.{LineSet}
-use Rattle.bus_trace.specs.Trace.{bus}
-use Rattle.bus_trace.specs.declared.changes.Change.{Change}
-use Rattle.bus_trace.specs.declared.Row.{Row}
-use Rattle.bus_trace.specs.declared.connection.Connection.{Connection}
-use Rattle.cdb_codec.specs.Cdb.{command_of}
-use Rattle.scenario.specs.Value.{ScenarioValue}
-use Rattle.scenario.specs.declared.value.AbortDef.{AbortDef}
-use Rattle.disk_array.specs.ArrayHistory.{reply_in}
-use Rattle.disk_array.specs.Execution.{Reply, is_request_sense}
-use Rattle.disk_array.specs.Processes.{Process, process_of, same_id}
-use Rattle.disk_array.specs.Seats.{is_of_other_unit}
-use Rattle.disk_array.specs.SoundArray.{HasSeats, AllOwnGuests, AllOwnUnits, AreApart, IsOwn, IsOwnRunning}
-use Rattle.disk_array.specs.Steps as Steps
-use Rattle.disk_array.specs.Steps.{is_of_unit, step}
-use Rattle.disk_array.specs.Units.{Array, RunningProcess, UnitState, settled_array, unit_state_at}
-use Rattle.bus_story.specs.BusState.{RowReading, row_reading}
-use Rattle.bus_story.specs.HistoryEvents.{abort_line_at, abort_line_events, bus_free_events, item_abort_events, item_loss_events, link_events, row_events_by}
-use Rattle.bus_story.specs.Items.{Item, abort, process}
-use Rattle.bus_story.specs.Links.{Link, LastMessage, abortive, complete, disconnect, plain}
-use Rattle.bus_story.specs.Right.{has_run, is_run_of}
+use Rattle.bus_due.specs.bus_base.specs.declared.AbortKind.{AbortKind}
+use Rattle.bus_due.specs.bus_base.specs.declared.AbortKind.TheVariants as aborts
+use Rattle.bus_due.specs.bus_base.specs.declared.Event.{Event}
+use Rattle.bus_due.specs.bus_base.specs.declared.Event.TheVariants as events
+use Rattle.bus_due.specs.bus_base.specs.declared.ProcId.{ProcId}
+use Rattle.bus_due.specs.bus_trace.specs.Changes.{rises}
+use Rattle.bus_due.specs.bus_trace.specs.LineSet.{LineSet}
+use Rattle.bus_due.specs.bus_trace.specs.Trace.{bus}
+use Rattle.bus_due.specs.bus_trace.specs.declared.changes.Change.{Change}
+use Rattle.bus_due.specs.bus_trace.specs.declared.Row.{Row}
+use Rattle.bus_due.specs.bus_trace.specs.declared.connection.Connection.{Connection}
+use Rattle.bus_due.specs.cdb_codec.specs.Cdb.{command_of}
+use Rattle.bus_due.specs.scenario.specs.Value.{ScenarioValue}
+use Rattle.bus_due.specs.scenario.specs.declared.value.AbortDef.{AbortDef}
+use Rattle.bus_due.specs.disk_array.specs.ArrayHistory.{reply_in}
+use Rattle.bus_due.specs.disk_array.specs.Execution.{Reply, is_request_sense}
+use Rattle.bus_due.specs.disk_array.specs.Processes.{Process, process_of, same_id}
+use Rattle.bus_due.specs.disk_array.specs.Seats.{is_of_other_unit}
+use Rattle.bus_due.specs.disk_array.specs.SoundArray.{HasSeats, AllOwnGuests, AllOwnUnits, AreApart, IsOwn, IsOwnRunning}
+use Rattle.bus_due.specs.disk_array.specs.Steps as Steps
+use Rattle.bus_due.specs.disk_array.specs.Steps.{is_of_unit, step}
+use Rattle.bus_due.specs.disk_array.specs.Units.{Array, RunningProcess, UnitState, settled_array, unit_state_at}
+use Rattle.bus_due.specs.bus_story.specs.BusState.{RowReading, row_reading}
+use Rattle.bus_due.specs.bus_story.specs.HistoryEvents.{abort_line_at, abort_line_events, bus_free_events, item_abort_events, item_loss_events, link_events, row_events_by}
+use Rattle.bus_due.specs.bus_story.specs.Items.{Item, abort, process}
+use Rattle.bus_due.specs.bus_story.specs.Links.{Link, LastMessage, abortive, complete, disconnect, plain}
+use Rattle.bus_due.specs.bus_story.specs.Right.{has_run, is_run_of}
 use Rattle.bus_due.specs.RunState.{RunState, array_of}
 use Rattle.bus_due.specs.RunSteps.{run_state, array_after_events, served_after}
 use Rattle.bus_due.specs.Tasks.{reply_now}
-use Rattle.bus_books.proofs.CarriedRows.{process_id}
-use Rattle.bus_books.proofs.Lookups.{id_is, self_id}
-use Rattle.bus_books.specs.Knowing.{Knows}
-use Rattle.bus_books.specs.Traces.{RowOf, begins, ends, goes_on, under_reset}
-use Rattle.bus_books.specs.Traces.RowOf.{apart as row_apart}
-use Rattle.bus_books.specs.Accounts.{is_served_by}
+use Rattle.trace_laws.specs.bus_books.proofs.CarriedRows.{process_id}
+use Rattle.trace_laws.specs.bus_books.proofs.Lookups.{id_is, self_id}
+use Rattle.trace_laws.specs.bus_books.specs.Knowing.{Knows}
+use Rattle.trace_laws.specs.bus_books.specs.Traces.{RowOf, begins, ends, goes_on, under_reset}
+use Rattle.trace_laws.specs.bus_books.specs.Traces.RowOf.{apart as row_apart}
+use Rattle.trace_laws.specs.bus_books.specs.Accounts.{is_served_by}
 use Rattle.bus_due.proofs.Plains.{run_state_plain}
-use Rattle.bus_laws.proofs.Apart.{change_plain}
+use Rattle.trace_laws.specs.bus_laws.proofs.Apart.{change_plain}
 use Rattle.trace_laws.proofs.AnsweredProcesses.{leaves}
 use Rattle.trace_laws.specs.ItemFacts.{AllP, RunsP, UnitsP}
 use Rattle.trace_laws.specs.Places.{OnGuests, OnUnits, Runs, Waits, IsAway}
@@ -60,7 +60,7 @@ use Rattle.right_laws.proofs.RowCrossings.{GoesSo, here_goes, known_served}
 use Rattle.right_laws.proofs.RunsApart.{IsCurrent, answer_here, run_replies, run_same}
 use Rattle.right_laws.proofs.ShownRows.{IsAnswer, IsEnding, IsHere, ShownAs, row_runs, row_shown}
 use Rattle.right_laws.proofs.Stays.{end_same}
-use Rattle.bus_base.proofs.Tests.{eq_self, eq_turned, wrong, wrong'}
+use Rattle.bus_due.specs.bus_base.proofs.Tests.{eq_self, eq_turned, wrong, wrong'}
 
 -- ---- the process that the initiator knows is one of the scenario
 
@@ -164,7 +164,7 @@ changing s p row h q calm may = go (is_some d.next) refl
     free next (Some l) e = last l.last refl
       where
         freed : shown ≡ bus_free_events s l l.last
-        freed = shown_is ∙ ap (λ (o : Option Link). link_events s k.story o d) e ∙ (λ i. if next i then Rattle.bus_story.specs.HistoryEvents.connection_events s k.story l d else bus_free_events s l l.last)
+        freed = shown_is ∙ ap (λ (o : Option Link). link_events s k.story o d) e ∙ (λ i. if next i then Rattle.bus_due.specs.bus_story.specs.HistoryEvents.connection_events s k.story l d else bus_free_events s l l.last)
 
         lost : (o : Option Item) → l.item ≡ o → shown ≡ item_loss_events l.item → Changing s k row q
         lost None ei z = none_shown (z ∙ ap item_loss_events ei)

@@ -3,16 +3,16 @@ use Rattle.std.proofs.Common.{ℕ, ◌≡◌, Bool, true, false, cond, ◌||◌,
 use Rattle.std.specs.Prelude.{◌==◌, ◌&&◌}
 use Rattle.std.specs.List.{AllByRecursion, find, list_any}
 use Rattle.std.proofs.lemmas.Bool.{eqb-true, true≢false}
-use Rattle.scenario.specs.declared.value.TargetDef.{TargetDef}
-use Rattle.scenario.specs.declared.value.UnitDef.{UnitDef}
-use Rattle.scenario.specs.Value.{ScenarioValue}
-use Rattle.scenario.specs.Lookups.{has_target, unit_of}
-use Rattle.scenario.specs.Forms.{Said, scsi_line, initiator_line, target_line, unit_line, fill_line, cmd_line, abort_line, reset_line, fault_line, end_line}
-use Rattle.scenario.specs.Reading.{Progress, guard, host_def, target_def, unit_def, fill_def, full_cmd_def, abort_def, reset_def, fault_def, added, said_after, fits_version, in_order, rank, kind_of, nothing}
-use Rattle.scenario.specs.Writing.{saids, built, Obeys}
-use Rattle.scenario.proofs.Steps.{bind_ok, ok_is}
-use Rattle.scsi_device.proofs.Finds.{all_are, all_more}
-use Rattle.scsi_device.proofs.LineReads.{unit_read}
+use Rattle.bus_due.specs.scenario.specs.declared.value.TargetDef.{TargetDef}
+use Rattle.bus_due.specs.scenario.specs.declared.value.UnitDef.{UnitDef}
+use Rattle.bus_due.specs.scenario.specs.Value.{ScenarioValue}
+use Rattle.bus_due.specs.scenario.specs.Lookups.{has_target, unit_of}
+use Rattle.bus_due.specs.scenario.specs.Forms.{Said, scsi_line, initiator_line, target_line, unit_line, fill_line, cmd_line, abort_line, reset_line, fault_line, end_line}
+use Rattle.bus_due.specs.scenario.specs.Reading.{Progress, guard, host_def, target_def, unit_def, fill_def, full_cmd_def, abort_def, reset_def, fault_def, added, said_after, fits_version, in_order, rank, kind_of, nothing}
+use Rattle.bus_due.specs.scenario.specs.Writing.{saids, built, Obeys}
+use Rattle.bus_due.specs.scenario.proofs.Steps.{bind_ok, ok_is}
+use Rattle.trace_laws.specs.scsi_device.proofs.Finds.{all_are, all_more}
+use Rattle.trace_laws.specs.scsi_device.proofs.LineReads.{unit_read}
 use Rattle.trace_laws.proofs.Impossible.{none_some}
 
 -- Lines of targets, of which one is of this device.

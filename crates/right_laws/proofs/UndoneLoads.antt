@@ -1,31 +1,31 @@
 -- What MESSAGE PARITY ERROR brings back are the bytes that the process has, after any rows of a prompt trace (6.6.13).
 use Rattle.std.proofs.Common.{◌≡◌, Bool, true, false, ◌∙◌, List, [], ◌∷◌, Some, refl, sym, ap}
 use Rattle.std.specs.Prelude.{if◌then◌else◌, is_some}
-use Rattle.bus_base.specs.declared.ProcId.{ProcId}
-use Rattle.bus_trace.specs.LineSet.{LineSet}
-use Rattle.bus_trace.specs.declared.Row.{Row}
-use Rattle.bus_trace.specs.declared.changes.Change.{Change}
-use Rattle.bus_trace.specs.declared.connection.Connection.{Connection}
-use Rattle.bus_trace.specs.Phases.{is_command, is_data}
-use Rattle.bus_trace.specs.Terms.{receiver_in}
-use Rattle.cdb_codec.specs.declared.sense.TheConstants.{PARITY_ERROR, INITIATOR_DETECTED_ERROR}
-use Rattle.msg_grammar.specs.declared.message.MsgIn.{MsgIn}
-use Rattle.msg_grammar.specs.declared.message.MsgIn.TheVariants as to_initiator
-use Rattle.scenario.specs.Value.{ScenarioValue}
-use Rattle.scenario.specs.Writing.{Obeys}
-use Rattle.bus_story.specs.BusState.{RowReading, row_reading}
-use Rattle.bus_story.specs.CarriedBytes.{CarriedBytes, carried_after_message, carried_after_fault}
+use Rattle.bus_due.specs.bus_base.specs.declared.ProcId.{ProcId}
+use Rattle.bus_due.specs.bus_trace.specs.LineSet.{LineSet}
+use Rattle.bus_due.specs.bus_trace.specs.declared.Row.{Row}
+use Rattle.bus_due.specs.bus_trace.specs.declared.changes.Change.{Change}
+use Rattle.bus_due.specs.bus_trace.specs.declared.connection.Connection.{Connection}
+use Rattle.bus_due.specs.bus_trace.specs.Phases.{is_command, is_data}
+use Rattle.bus_due.specs.bus_trace.specs.Terms.{receiver_in}
+use Rattle.bus_due.specs.cdb_codec.specs.declared.sense.TheConstants.{PARITY_ERROR, INITIATOR_DETECTED_ERROR}
+use Rattle.bus_due.specs.msg_grammar.specs.declared.message.MsgIn.{MsgIn}
+use Rattle.bus_due.specs.msg_grammar.specs.declared.message.MsgIn.TheVariants as to_initiator
+use Rattle.bus_due.specs.scenario.specs.Value.{ScenarioValue}
+use Rattle.bus_due.specs.scenario.specs.Writing.{Obeys}
+use Rattle.bus_due.specs.bus_story.specs.BusState.{RowReading, row_reading}
+use Rattle.bus_due.specs.bus_story.specs.CarriedBytes.{CarriedBytes, carried_after_message, carried_after_fault}
 use Rattle.bus_due.specs.Next.{IsPrompt}
 use Rattle.bus_due.specs.RunState.{RunState, carried_here}
 use Rattle.bus_due.specs.RunSteps.{run_state, run_state_after}
-use Rattle.bus_books.specs.Rows.{IsRowIn}
-use Rattle.bus_books.proofs.InConnection.{reading_is}
+use Rattle.trace_laws.specs.bus_books.specs.Rows.{IsRowIn}
+use Rattle.trace_laws.specs.bus_books.proofs.InConnection.{reading_is}
 use Rattle.trace_laws.proofs.Joint.{Stood, NextStood}
 use Rattle.trace_laws.proofs.UndoneFacts.{undo_start, undo_asks, undo_next}
 use Rattle.trace_laws.proofs.UndoneRows.{SameIn, IsKeptInside}
 use Rattle.right_laws.specs.Loads.{load, UndoesLoads, UndoLoadFacts}
 use Rattle.right_laws.proofs.Lasting.{IsLasting, row_lasts}
-use Rattle.bus_base.proofs.Tests.{wrong}
+use Rattle.bus_due.specs.bus_base.proofs.Tests.{wrong}
 
 -- ---- the bytes after a row
 

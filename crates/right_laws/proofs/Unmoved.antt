@@ -2,24 +2,24 @@
 use Rattle.std.proofs.Common.{◌≡◌, ◌<◌, Bool, true, false, ◌∙◌, List, [], ◌∷◌, Option, Some, refl, sym, ap, subst}
 use Rattle.std.specs.Prelude.{if◌then◌else◌, is_some}
 use Rattle.std.proofs.lemmas.Option.{same_Some}
-use Rattle.bus_base.specs.declared.ProcId.{ProcId}
-use Rattle.bus_trace.specs.Phases.{is_command, is_data}
-use Rattle.bus_trace.specs.Terms.{connection, receiver_in}
-use Rattle.bus_trace.specs.Trace.{bus}
-use Rattle.bus_trace.specs.declared.Row.{Row}
-use Rattle.bus_trace.specs.declared.changes.Change.{Change}
-use Rattle.bus_trace.specs.declared.connection.Connection.{Connection}
-use Rattle.scenario.specs.Value.{ScenarioValue}
-use Rattle.scenario.specs.Writing.{Obeys}
-use Rattle.disk_array.specs.Processes.{Process}
-use Rattle.bus_story.specs.BusState.{row_reading}
-use Rattle.bus_story.specs.CarriedBytes.{CarriedBytes, carried_or_nothing}
-use Rattle.bus_story.specs.Items.{process, has_item}
-use Rattle.bus_story.specs.Links.{Link}
-use Rattle.bus_story.specs.TraceHistory.{aim_of}
-use Rattle.bus_dialogue.specs.declared.exchange.Phase.{Phase}
-use Rattle.bus_dialogue.specs.declared.exchange.Phase.TheVariants as phases
-use Rattle.bus_dialogue.specs.NextPhase.{phase_of}
+use Rattle.bus_due.specs.bus_base.specs.declared.ProcId.{ProcId}
+use Rattle.bus_due.specs.bus_trace.specs.Phases.{is_command, is_data}
+use Rattle.bus_due.specs.bus_trace.specs.Terms.{connection, receiver_in}
+use Rattle.bus_due.specs.bus_trace.specs.Trace.{bus}
+use Rattle.bus_due.specs.bus_trace.specs.declared.Row.{Row}
+use Rattle.bus_due.specs.bus_trace.specs.declared.changes.Change.{Change}
+use Rattle.bus_due.specs.bus_trace.specs.declared.connection.Connection.{Connection}
+use Rattle.bus_due.specs.scenario.specs.Value.{ScenarioValue}
+use Rattle.bus_due.specs.scenario.specs.Writing.{Obeys}
+use Rattle.bus_due.specs.disk_array.specs.Processes.{Process}
+use Rattle.bus_due.specs.bus_story.specs.BusState.{row_reading}
+use Rattle.bus_due.specs.bus_story.specs.CarriedBytes.{CarriedBytes, carried_or_nothing}
+use Rattle.bus_due.specs.bus_story.specs.Items.{process, has_item}
+use Rattle.bus_due.specs.bus_story.specs.Links.{Link}
+use Rattle.bus_due.specs.bus_story.specs.TraceHistory.{aim_of}
+use Rattle.bus_due.specs.bus_dialogue.specs.declared.exchange.Phase.{Phase}
+use Rattle.bus_due.specs.bus_dialogue.specs.declared.exchange.Phase.TheVariants as phases
+use Rattle.bus_due.specs.bus_dialogue.specs.NextPhase.{phase_of}
 use Rattle.bus_due.specs.Next.{IsPrompt}
 use Rattle.bus_due.specs.Plain.{AreOfDevices, IsPlain}
 use Rattle.bus_due.specs.RunState.{RunState, bus_of, carried_here, process_item, process_served}
@@ -27,11 +27,11 @@ use Rattle.bus_due.specs.RunSteps.{item_if, run_state, served_after}
 use Rattle.bus_due.specs.Sights.{hearing_of}
 use Rattle.bus_due.specs.Wants.{ready_of}
 use Rattle.bus_due.proofs.Plains.{run_state_plain}
-use Rattle.scsi_device.specs.Heard.{Instructions, instructions, instructions_after}
-use Rattle.bus_books.specs.Rows.{IsFirstRow, reading_in}
-use Rattle.bus_books.specs.Traces.{Begins, GoesOn, RowOf, apart, begins, ends, goes_on, under_reset}
-use Rattle.bus_laws.proofs.Apart.{change_plain}
-use Rattle.bus_laws.proofs.Prompt.{least_is}
+use Rattle.trace_laws.specs.scsi_device.specs.Heard.{Instructions, instructions, instructions_after}
+use Rattle.trace_laws.specs.bus_books.specs.Rows.{IsFirstRow, reading_in}
+use Rattle.trace_laws.specs.bus_books.specs.Traces.{Begins, GoesOn, RowOf, apart, begins, ends, goes_on, under_reset}
+use Rattle.trace_laws.specs.bus_laws.proofs.Apart.{change_plain}
+use Rattle.trace_laws.specs.bus_laws.proofs.Prompt.{least_is}
 use Rattle.trace_laws.specs.Commands.{CommandFacts, StandsIn}
 use Rattle.trace_laws.specs.Instructed.{Instructed, InstructedFacts, KnownIn}
 use Rattle.trace_laws.specs.Items.{IsFresh}
@@ -47,7 +47,7 @@ use Rattle.right_laws.proofs.GivenBytes.{moved_stays}
 use Rattle.right_laws.proofs.GivenCrossings.{data_phase}
 use Rattle.right_laws.proofs.RanFacts.{Known, apart_of}
 use Rattle.right_laws.proofs.RowCrossings.{here_goes, known_served}
-use Rattle.bus_base.proofs.Tests.{wrong}
+use Rattle.bus_due.specs.bus_base.proofs.Tests.{wrong}
 
 abbrev pub IsUnmovedServed : ScenarioValue → List Row → Type 0
 IsUnmovedServed s rows =
@@ -124,7 +124,7 @@ unmoved_next s p row o prompt h told was n x con off unknown served = go h.next.
         before = known_before (hearing_of k row (reading_in k.story.bus_state m c (is_some (receiver_in m c)))) k.exchange.plan (instructions s p) (sym (ap (λ (i : Instructions). i.known) (told_with s p row m c (is_some (receiver_in m c)) g.row_is refl)) ∙ unknown)
 
         next : (row_reading k.story.bus_state row).next ≡ Some n
-        next = (λ i. Rattle.bus_trace.specs.Terms.connection_after (pl.connection i) (pl.call i) (change_plain s row p dv lt i) row) ∙ con
+        next = (λ i. Rattle.bus_due.specs.bus_trace.specs.Terms.connection_after (pl.connection i) (pl.call i) (change_plain s row p dv lt i) row) ∙ con
 
         before_served : process_served s k ≡ Some x
         before_served = ap (process_item s) (sym (λ i. served_after s k (g.row_is.connection_is i) (next i))) ∙ served
@@ -166,11 +166,11 @@ none_at_arrival s p row prompt h told commands was l id link item calm stands tu
     served : k.served ≡ Some (process id)
     served = known_served s k row n g.change l id h.was.books g.goes link item
 
-    own : (q : Process) × (Rattle.disk_array.specs.Processes.process_of s id ≡ Some q)
+    own : (q : Process) × (Rattle.bus_due.specs.disk_array.specs.Processes.process_of s id ≡ Some q)
     own = h.places.of_scenario id served
 
     same : own.0.id ≡ id
-    same = Rattle.bus_books.proofs.CarriedRows.process_id s id own.0 own.1
+    same = Rattle.trace_laws.specs.bus_books.proofs.CarriedRows.process_id s id own.0 own.1
 
     phase : phase_of (bus_of k) ≡ phases.Command
     phase = command_phase (bus_of k) (ap is_command (g.goes.row_is.bus_is ∙ ap (λ (y : Change). y.before) (sym g.goes.row_is.change_is)) ∙ command)

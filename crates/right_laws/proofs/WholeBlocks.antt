@@ -4,50 +4,50 @@ use Rattle.std.specs.Prelude.{if◌then◌else◌, is_none, is_some}
 use Rattle.std.specs.List.{find}
 use Rattle.std.proofs.lemmas.List.{length-take, length-drop, length-replicate}
 use Rattle.std.proofs.lemmas.Option.{same_Some}
-use Rattle.bus_base.specs.declared.AbortKind.{AbortKind}
-use Rattle.bus_base.specs.declared.AbortKind.TheVariants as aborts
-use Rattle.bus_base.specs.declared.Event.{Event}
-use Rattle.bus_base.specs.declared.Event.TheVariants as events
-use Rattle.bus_base.specs.declared.ProcId.{ProcId}
-use Rattle.cdb_codec.specs.Blocks.{blocks_moved}
-use Rattle.cdb_codec.specs.Cdb.{command_of}
-use Rattle.cdb_codec.specs.declared.Sense.{Sense}
-use Rattle.cdb_codec.specs.declared.command.Command.{Command}
-use Rattle.cdb_codec.specs.declared.command.Command.TheVariants as commands
-use Rattle.cdb_codec.specs.declared.command.CdbFault.{CdbFault}
-use Rattle.cdb_codec.specs.declared.command.CdbFault.TheVariants as faults
-use Rattle.cdb_codec.specs.declared.status.TheConstants.{GOOD, CHECK_CONDITION}
-use Rattle.scenario.specs.Lookups.{has_target, unit_of}
-use Rattle.scenario.specs.Needs.{is_write}
-use Rattle.scenario.specs.Value.{ScenarioValue}
-use Rattle.scenario.specs.Writing.{Obeys}
-use Rattle.scenario.specs.declared.value.FillDef.{FillDef}
-use Rattle.scenario.specs.declared.value.HostDef.{HostDef}
-use Rattle.scenario.specs.declared.value.UnitDef.{UnitDef}
-use Rattle.disk_array.specs.ArrayHistory.{array_after, array_step}
-use Rattle.disk_array.specs.Contents.{Contents, block_at, filled_contents, no_contents, with_block, with_bytes, blank_contents}
-use Rattle.disk_array.specs.Execution.{CommandContext, Execution, Reply, attention_execution, block_out_of_range, cdb_execution, check_condition, command_execution, execution, heeds_attention, is_good_range, is_request_sense, needs_unit, range_of, reply_execution, unit_not_supported}
-use Rattle.disk_array.specs.Processes.{Process, process_of, same_id}
-use Rattle.disk_array.specs.Seats as Seats
-use Rattle.disk_array.specs.Seats.{Seat, contents_of, context_of, seat_of, settled_seat, settled_seat_if}
-use Rattle.disk_array.specs.SoundArray.{AllOwnUnits, HasSeats, IsOwnRunning, IsSound}
-use Rattle.disk_array.specs.Order.{choice}
-use Rattle.disk_array.specs.Steps as Steps
-use Rattle.disk_array.specs.Steps.{is_of_unit, running_if, step}
-use Rattle.disk_array.specs.Units.{Array, Nexus, RunningProcess, UnitState, guest_at, has_no_current, is_held, settled_array, starting_array, starting_unit, starting_units, unit_state_at, units_after_choice, with_current}
-use Rattle.disk_array.proofs.SeatLaws.{abort_law, device_law, end_law, other_law, reset_law, run_law}
-use Rattle.disk_array.proofs.SoundArrays.{history_sound, is_own}
-use Rattle.disk_array.proofs.Touched.{block_same}
-use Rattle.disk_array.proofs.SeatContexts.{choice_keeps}
+use Rattle.bus_due.specs.bus_base.specs.declared.AbortKind.{AbortKind}
+use Rattle.bus_due.specs.bus_base.specs.declared.AbortKind.TheVariants as aborts
+use Rattle.bus_due.specs.bus_base.specs.declared.Event.{Event}
+use Rattle.bus_due.specs.bus_base.specs.declared.Event.TheVariants as events
+use Rattle.bus_due.specs.bus_base.specs.declared.ProcId.{ProcId}
+use Rattle.bus_due.specs.cdb_codec.specs.Blocks.{blocks_moved}
+use Rattle.bus_due.specs.cdb_codec.specs.Cdb.{command_of}
+use Rattle.bus_due.specs.cdb_codec.specs.declared.Sense.{Sense}
+use Rattle.bus_due.specs.cdb_codec.specs.declared.command.Command.{Command}
+use Rattle.bus_due.specs.cdb_codec.specs.declared.command.Command.TheVariants as commands
+use Rattle.bus_due.specs.cdb_codec.specs.declared.command.CdbFault.{CdbFault}
+use Rattle.bus_due.specs.cdb_codec.specs.declared.command.CdbFault.TheVariants as faults
+use Rattle.bus_due.specs.cdb_codec.specs.declared.status.TheConstants.{GOOD, CHECK_CONDITION}
+use Rattle.bus_due.specs.scenario.specs.Lookups.{has_target, unit_of}
+use Rattle.bus_due.specs.scenario.specs.Needs.{is_write}
+use Rattle.bus_due.specs.scenario.specs.Value.{ScenarioValue}
+use Rattle.bus_due.specs.scenario.specs.Writing.{Obeys}
+use Rattle.bus_due.specs.scenario.specs.declared.value.FillDef.{FillDef}
+use Rattle.bus_due.specs.scenario.specs.declared.value.HostDef.{HostDef}
+use Rattle.bus_due.specs.scenario.specs.declared.value.UnitDef.{UnitDef}
+use Rattle.bus_due.specs.disk_array.specs.ArrayHistory.{array_after, array_step}
+use Rattle.bus_due.specs.disk_array.specs.Contents.{Contents, block_at, filled_contents, no_contents, with_block, with_bytes, blank_contents}
+use Rattle.bus_due.specs.disk_array.specs.Execution.{CommandContext, Execution, Reply, attention_execution, block_out_of_range, cdb_execution, check_condition, command_execution, execution, heeds_attention, is_good_range, is_request_sense, needs_unit, range_of, reply_execution, unit_not_supported}
+use Rattle.bus_due.specs.disk_array.specs.Processes.{Process, process_of, same_id}
+use Rattle.bus_due.specs.disk_array.specs.Seats as Seats
+use Rattle.bus_due.specs.disk_array.specs.Seats.{Seat, contents_of, context_of, seat_of, settled_seat, settled_seat_if}
+use Rattle.bus_due.specs.disk_array.specs.SoundArray.{AllOwnUnits, HasSeats, IsOwnRunning, IsSound}
+use Rattle.bus_due.specs.disk_array.specs.Order.{choice}
+use Rattle.bus_due.specs.disk_array.specs.Steps as Steps
+use Rattle.bus_due.specs.disk_array.specs.Steps.{is_of_unit, running_if, step}
+use Rattle.bus_due.specs.disk_array.specs.Units.{Array, Nexus, RunningProcess, UnitState, guest_at, has_no_current, is_held, settled_array, starting_array, starting_unit, starting_units, unit_state_at, units_after_choice, with_current}
+use Rattle.bus_due.specs.disk_array.proofs.SeatLaws.{abort_law, device_law, end_law, other_law, reset_law, run_law}
+use Rattle.bus_due.specs.disk_array.proofs.SoundArrays.{history_sound, is_own}
+use Rattle.bus_due.specs.disk_array.proofs.Touched.{block_same}
+use Rattle.bus_due.specs.disk_array.proofs.SeatContexts.{choice_keeps}
 use Rattle.disk_unit.specs.Disk.{blocks_written, blocks_written_by, written_of}
-use Rattle.scsi_device.specs.Lines.{FitsBus}
-use Rattle.scsi_device.proofs.FitLines.{obeys_fits, seats_are}
-use Rattle.target_units.specs.Fillings.{AreFilled}
-use Rattle.target_units.specs.Rooms.{AreOfLines, IsOfLine}
-use Rattle.target_units.proofs.Rooms.{lines_always, sends}
-use Rattle.target_units.proofs.Starts.{line_filled, start_settled}
-use Rattle.bus_books.proofs.CarriedRows.{process_id}
-use Rattle.bus_books.proofs.Lookups.{id_is}
+use Rattle.trace_laws.specs.scsi_device.specs.Lines.{FitsBus}
+use Rattle.trace_laws.specs.scsi_device.proofs.FitLines.{obeys_fits, seats_are}
+use Rattle.trace_laws.specs.target_units.specs.Fillings.{AreFilled}
+use Rattle.trace_laws.specs.target_units.specs.Rooms.{AreOfLines, IsOfLine}
+use Rattle.trace_laws.specs.target_units.proofs.Rooms.{lines_always, sends}
+use Rattle.trace_laws.specs.target_units.proofs.Starts.{line_filled, start_settled}
+use Rattle.trace_laws.specs.bus_books.proofs.CarriedRows.{process_id}
+use Rattle.trace_laws.specs.bus_books.proofs.Lookups.{id_is}
 use Rattle.trace_laws.proofs.ArrayBytes.{IsOf}
 use Rattle.trace_laws.proofs.PointerEnds.{writer_plain}
 use Rattle.trace_laws.proofs.RunFits.{none_sent}
@@ -60,7 +60,7 @@ use Rattle.right_laws.proofs.SameReplies.{SameContext, accept_at, fail_at, place
 use Rattle.right_laws.proofs.Targeted.{unit_targeted}
 use Rattle.right_laws.proofs.RunsApart.{guest_there}
 use Rattle.std.proofs.lemmas.Bool.{eqb-true, and_parts}
-use Rattle.bus_base.proofs.Tests.{wrong, wrong'}
+use Rattle.bus_due.specs.bus_base.proofs.Tests.{wrong, wrong'}
 
 abbrev pub AreWhole : Contents → Type 0
 AreWhole c = (lba : ℕ) → length (block_at c lba) ≡ c.size
@@ -176,7 +176,7 @@ kept_whole seat drops h = subst AreWhole (sym (mapped_contents (Seats.unit_kept 
 
 aborted_whole : (hosts : List HostDef) (i : ℕ) (what : AbortKind) (seat : Seat) → AreWhole (contents_of seat.unit) → AreWhole (contents_of (Seats.seat_after_aborted hosts i what seat).unit)
 aborted_whole hosts i aborts.All seat h = kept_whole seat (λ p. p.initiator == i) h
-aborted_whole hosts i (aborts.Tag n) seat h = kept_whole seat (λ p. p.initiator == i && Rattle.disk_array.specs.Steps.has_tag p.tag n) h
+aborted_whole hosts i (aborts.Tag n) seat h = kept_whole seat (λ p. p.initiator == i && Rattle.bus_due.specs.disk_array.specs.Steps.has_tag p.tag n) h
 aborted_whole hosts i aborts.WholeQueue seat h = kept_whole seat (λ p. true) h
 aborted_whole hosts i aborts.Device seat h = kept_whole seat (λ p. true) h
 
@@ -186,9 +186,9 @@ end_whole : (seat : Seat) (id : ProcId) (status : ℕ) (b : Array) (t n : ℕ) �
 end_whole seat id status b t n h = go (Seats.running_at seat id)
   where
     stored : (p : Process) (reply : Reply) (x y : Bool) → AreWhole (contents_of (Seats.seat_without (if x then record seat { senses = Seats.with_sense_of seat.senses p.initiator (Some reply.sense); hold = Seats.with_hold_of seat.hold p.initiator true } else if y then record seat { senses = Seats.with_sense_of seat.senses p.initiator None; hold = Seats.with_hold_of seat.hold p.initiator false } else seat) p.id).unit)
-    stored p reply true y = subst AreWhole (sym (mapped_contents (λ u. Rattle.disk_array.specs.Steps.unit_without u p.id) seat.unit (λ u. refl))) h
-    stored p reply false true = subst AreWhole (sym (mapped_contents (λ u. Rattle.disk_array.specs.Steps.unit_without u p.id) seat.unit (λ u. refl))) h
-    stored p reply false false = subst AreWhole (sym (mapped_contents (λ u. Rattle.disk_array.specs.Steps.unit_without u p.id) seat.unit (λ u. refl))) h
+    stored p reply true y = subst AreWhole (sym (mapped_contents (λ u. Rattle.bus_due.specs.disk_array.specs.Steps.unit_without u p.id) seat.unit (λ u. refl))) h
+    stored p reply false true = subst AreWhole (sym (mapped_contents (λ u. Rattle.bus_due.specs.disk_array.specs.Steps.unit_without u p.id) seat.unit (λ u. refl))) h
+    stored p reply false false = subst AreWhole (sym (mapped_contents (λ u. Rattle.bus_due.specs.disk_array.specs.Steps.unit_without u p.id) seat.unit (λ u. refl))) h
 
     by : (p : Process) (o : Option Reply) → LeavesSo b t n (Seats.seat_after_end_with seat p status o)
     by p None = leaves_none b t n
@@ -292,10 +292,10 @@ known_event s a b e id sound st h = go (process_of s id) refl h
         by None w v = none_some b (sym (ap Steps.settled_array_if none) ∙ v)
         by (Some r) w v = running_known s a id r sound w
 
-    failed : (code : ℕ) (x : Option Process) → process_of s id ≡ x → (o : Option RunningProcess) → Steps.running_process a id ≡ o → Steps.settled_array_if (Steps.fail_step s a id (check_condition (Rattle.disk_array.specs.Execution.sense_of Rattle.cdb_codec.specs.declared.sense.TheConstants.ABORTED_COMMAND code 0x00)) o) ≡ Some b → is_some x ≡ true
+    failed : (code : ℕ) (x : Option Process) → process_of s id ≡ x → (o : Option RunningProcess) → Steps.running_process a id ≡ o → Steps.settled_array_if (Steps.fail_step s a id (check_condition (Rattle.bus_due.specs.disk_array.specs.Execution.sense_of Rattle.bus_due.specs.cdb_codec.specs.declared.sense.TheConstants.ABORTED_COMMAND code 0x00)) o) ≡ Some b → is_some x ≡ true
     failed code x z (Some r) w v = sym (ap (λ (y : Option Process). is_some y) z) ∙ running_known s a id r sound w
     failed code (Some p) z None w v = refl
-    failed code None z None w v = none_some b (sym (ap (λ (y : Option Process). Steps.settled_array_if (Steps.fail_step_of_new a id (check_condition (Rattle.disk_array.specs.Execution.sense_of Rattle.cdb_codec.specs.declared.sense.TheConstants.ABORTED_COMMAND code 0x00)) y)) z) ∙ v)
+    failed code None z None w v = none_some b (sym (ap (λ (y : Option Process). Steps.settled_array_if (Steps.fail_step_of_new a id (check_condition (Rattle.bus_due.specs.disk_array.specs.Execution.sense_of Rattle.bus_due.specs.cdb_codec.specs.declared.sense.TheConstants.ABORTED_COMMAND code 0x00)) y)) z) ∙ v)
 
     go : (x : Option Process) → process_of s id ≡ x → (e ≡ events.Accept id) ⊎ (e ≡ events.Refuse id) ⊎ (e ≡ events.Run id) ⊎ ((code : ℕ) × (e ≡ events.Fail id code)) ⊎ ((status : ℕ) × (e ≡ events.End id status)) → is_some (process_of s id) ≡ true
     go (Some p) z w = ap (λ (y : Option Process). is_some y) z

@@ -9,3 +9,6 @@ pub mod Given
 pub mod GivenPointers
 pub mod Standing
 pub mod GivenTests
+pub mod InTurn
+pub mod Awaited
+pub mod SoFar

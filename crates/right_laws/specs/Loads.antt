@@ -1,8 +1,8 @@
 -- What a process has carried, by its bytes alone: of its command, its data and its status (6.4, 6.6.19).
 use Rattle.std.specs.Prelude.{ℕ, List}
-use Rattle.bus_trace.specs.declared.Row.{Row}
-use Rattle.scenario.specs.Value.{ScenarioValue}
-use Rattle.bus_story.specs.CarriedBytes.{CarriedBytes}
+use Rattle.bus_due.specs.bus_trace.specs.declared.Row.{Row}
+use Rattle.bus_due.specs.scenario.specs.Value.{ScenarioValue}
+use Rattle.bus_due.specs.bus_story.specs.CarriedBytes.{CarriedBytes}
 use Rattle.bus_due.specs.RunState.{RunState}
 use Rattle.trace_laws.specs.Tells.{UndoesSame, UndoFacts}
 

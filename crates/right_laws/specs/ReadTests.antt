@@ -1,23 +1,23 @@
 -- The same of the bytes, and of the pointers in DATA IN and outside a connection, as tests on what is kept.
 use Rattle.std.specs.Prelude.{ℕ, ◌+◌, Bool, true, false, not, ◌&&◌, ◌||◌, ◌==◌, List, [], ◌∷◌, length, Option, Some, None, is_some, nat_le}
 use Rattle.std.specs.List.{list_all}
-use Rattle.bus_trace.specs.declared.Row.{Row}
-use Rattle.bus_trace.specs.declared.connection.Connection.{Connection}
-use Rattle.cdb_codec.specs.declared.status.TheConstants.{GOOD}
-use Rattle.scenario.specs.Value.{ScenarioValue}
-use Rattle.scenario.specs.declared.value.CmdDef.{CmdDef}
-use Rattle.disk_array.specs.Processes.{Process, process_of}
-use Rattle.disk_array.specs.Units.{RunningProcess, UnitState}
-use Rattle.bus_story.specs.Items.{process, has_item}
-use Rattle.bus_dialogue.specs.NextPhase.{phase_of}
+use Rattle.bus_due.specs.bus_trace.specs.declared.Row.{Row}
+use Rattle.bus_due.specs.bus_trace.specs.declared.connection.Connection.{Connection}
+use Rattle.bus_due.specs.cdb_codec.specs.declared.status.TheConstants.{GOOD}
+use Rattle.bus_due.specs.scenario.specs.Value.{ScenarioValue}
+use Rattle.bus_due.specs.scenario.specs.declared.value.CmdDef.{CmdDef}
+use Rattle.bus_due.specs.disk_array.specs.Processes.{Process, process_of}
+use Rattle.bus_due.specs.disk_array.specs.Units.{RunningProcess, UnitState}
+use Rattle.bus_due.specs.bus_story.specs.Items.{process, has_item}
+use Rattle.bus_due.specs.bus_dialogue.specs.NextPhase.{phase_of}
 use Rattle.bus_due.specs.RunState.{RunState, array_of, bus_of, carried_here, process_served}
 use Rattle.bus_due.specs.RunSteps.{run_state_after}
 use Rattle.bus_due.specs.Tasks.{is_writing, reply_now}
-use Rattle.bus_books.specs.Accounts.{is_served_by}
-use Rattle.bus_books.specs.Tests.{is_front}
+use Rattle.trace_laws.specs.bus_books.specs.Accounts.{is_served_by}
+use Rattle.trace_laws.specs.bus_books.specs.Tests.{is_front}
 use Rattle.trace_laws.specs.DataPointers.{is_marked, run_start}
 use Rattle.right_laws.specs.Reads.{content_now}
-use Rattle.scsi_device.specs.Writes.{is_data_in}
+use Rattle.trace_laws.specs.scsi_device.specs.Writes.{is_data_in}
 
 abbrev is_given : ScenarioValue → RunState → Process → Bool
 is_given s k p =

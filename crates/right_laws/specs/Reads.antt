@@ -1,7 +1,7 @@
 -- What a process carries of its data before it runs (6.1.5.1).
 use Rattle.std.specs.Prelude.{ℕ, List, if◌then◌else◌}
-use Rattle.disk_array.specs.Processes.{Process}
-use Rattle.disk_array.specs.Units.{Array}
+use Rattle.bus_due.specs.disk_array.specs.Processes.{Process}
+use Rattle.bus_due.specs.disk_array.specs.Units.{Array}
 use Rattle.bus_due.specs.Tasks.{is_writing, reply_now}
 
 -- What it sends, or would give if it ran now.

@@ -1,13 +1,13 @@
 // Laws of prompt traces, each named by the contract of a function that does nothing.
 
 ghost use Rattle.std.specs.Prelude.{◌≡◌, true, is_some, List, reverse};
-ghost use Rattle.bus_trace.specs.declared.Row.{Row};
-ghost use Rattle.scenario.specs.Value.{ScenarioValue};
-ghost use Rattle.scenario.specs.Writing.{Obeys};
-ghost use Rattle.disk_array.specs.ArrayHistory.{array_after, disks_of};
-ghost use Rattle.bus_story.specs.Outcomes.{outcomes};
-ghost use Rattle.bus_story.specs.Right.{Right, all_carried};
-ghost use Rattle.bus_story.specs.TraceHistory.{story, trace_history};
+ghost use Rattle.bus_due.specs.bus_trace.specs.declared.Row.{Row};
+ghost use Rattle.bus_due.specs.scenario.specs.Value.{ScenarioValue};
+ghost use Rattle.bus_due.specs.scenario.specs.Writing.{Obeys};
+ghost use Rattle.bus_due.specs.disk_array.specs.ArrayHistory.{array_after, disks_of};
+ghost use Rattle.bus_due.specs.bus_story.specs.Outcomes.{outcomes};
+ghost use Rattle.bus_due.specs.bus_story.specs.Right.{Right, all_carried};
+ghost use Rattle.bus_due.specs.bus_story.specs.TraceHistory.{story, trace_history};
 ghost use Rattle.bus_due.specs.Next.{IsPrompt};
 
 /// The plain disk array permits the history of every prompt trace, however long it is (`permitted`). Each process

@@ -4,7 +4,7 @@ use Rattle.bus_base.specs.declared.Event.{Event}
 use Rattle.bus_trace.specs.declared.Row.{Row}
 use Rattle.disk_array.specs.Contents.{Contents}
 use Rattle.disk_unit.specs.Sparse.{Store}
-use Rattle.initiator.specs.declared.outcome.Outcome.{Outcome}
+use Rattle.run_record.specs.declared.outcome.Outcome.{Outcome}
 
 -- The contents of a disk.
 abbrev pub held_by : Store → Contents

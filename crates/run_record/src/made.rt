@@ -1,8 +1,8 @@
 //! What a run made.
+use crate::outcome::Outcome;
 use bus_base::{Event, Ns};
 use bus_trace::Row;
 use disk_unit::SparseBlocks;
-use initiator::Outcome;
 use std::marker::Model;
 
 /// What a run made. Contracts see it as a record of lists.

@@ -9,3 +9,6 @@ pub mod Seen
 pub mod Writing
 pub mod Reasons
 pub mod Making
+-- Handed on to the crates above that list this one and not these.
+pub use Rattle.bus_base
+pub use Rattle.cdb_codec

@@ -43,3 +43,6 @@ pub use value::{
     TargetDef, UnitDef,
 };
 pub use writing::print;
+
+// Handed on to the crates above that list this one and not these.
+pub use bus_base as the_bus_base;

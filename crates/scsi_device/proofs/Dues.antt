@@ -12,7 +12,7 @@ use Rattle.bus_due.specs.Connected.{is_receiver, initiator_end_due, target_end_d
 use Rattle.bus_due.specs.RunState.{RunState}
 use Rattle.bus_due.specs.Sights.{flip_of}
 use Rattle.scsi_device.specs.Told.{first_fault, flip_by}
-use Rattle.bus_rules.specs.Order.{is_of_device}
+use Rattle.bus_due.specs.bus_rules.specs.Order.{is_of_device}
 
 pub flips_are : (faults : List FaultDef) (f : Option FaultDef) (time : ℕ) → f ≡ first_fault faults → flip_of faults time ≡ flip_by f time
 flips_are [] f time e = λ j. flip_by (sym e j) time

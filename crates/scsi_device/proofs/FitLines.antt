@@ -16,12 +16,12 @@ use Rattle.scenario.specs.Lookups.{unit_of}
 use Rattle.scenario.specs.Needs.{need_of, sent_of}
 use Rattle.scenario.specs.Reading.{is_payload}
 use Rattle.scenario.specs.Writing.{Obeys, IsHex, IsHexPayload}
-use Rattle.disk_array.specs.Processes.{Process, process_by, process_if, command_at, sense_block, payload_bytes, bytes_from}
-use Rattle.disk_array.specs.Units.{starting_unit, starting_units, unit_state_at}
-use Rattle.disk_array.specs.SoundArray.{AreApart, HasSeats}
-use Rattle.disk_array.specs.Seats.{is_initiator}
-use Rattle.bus_story.specs.HistoryEvents.{abort_line_at}
-use Rattle.bus_story.specs.TraceHistory.{retries_of}
+use Rattle.bus_due.specs.disk_array.specs.Processes.{Process, process_by, process_if, command_at, sense_block, payload_bytes, bytes_from}
+use Rattle.bus_due.specs.disk_array.specs.Units.{starting_unit, starting_units, unit_state_at}
+use Rattle.bus_due.specs.disk_array.specs.SoundArray.{AreApart, HasSeats}
+use Rattle.bus_due.specs.disk_array.specs.Seats.{is_initiator}
+use Rattle.bus_due.specs.bus_story.specs.HistoryEvents.{abort_line_at}
+use Rattle.bus_due.specs.bus_story.specs.TraceHistory.{retries_of}
 use Rattle.bus_due.specs.Defs.{host_of, target_def_of}
 use Rattle.scsi_device.specs.NoUnits.{has_unit}
 use Rattle.scsi_device.specs.Lines.{IsHostLine, IsTargetLine, IsUnitLine, IsCommandLine, IsAbortLine, FitsBus, AreUnits}

@@ -20,7 +20,7 @@ use Rattle.scsi_device.proofs.Finds.{all_more, all_are, all_of_none, find_kept, 
 use Rattle.scsi_device.proofs.LineReads.{IsHostWithin, IsTargetWithin, IsUnitWithin, IsCommandWithin, IsAbortWithin, IsUnitRead, IsFullCommandRead, IsAbortRead}
 use Rattle.std.proofs.lemmas.Bool.{not-true, eqb-true, and_parts, or_parts}
 use Rattle.bus_base.proofs.Tests.{eq_self}
-use Rattle.disk_array.specs.Seats.{is_initiator}
+use Rattle.bus_due.specs.disk_array.specs.Seats.{is_initiator}
 
 -- ---- lines beside others
 

@@ -8,9 +8,9 @@ use Rattle.scenario.specs.declared.value.CmdDef.{CmdDef}
 use Rattle.scenario.specs.declared.value.AbortDef.{AbortDef}
 use Rattle.scenario.specs.declared.value.ResetDef.{ResetDef}
 use Rattle.scenario.specs.Value.{ScenarioValue}
-use Rattle.bus_story.specs.Items.{Sent, sense_from, open_limit_of}
+use Rattle.bus_due.specs.bus_story.specs.Items.{Sent, sense_from, open_limit_of}
 use Rattle.bus_reactions.specs.Reactions.{sooner_time, time_if}
-use Rattle.bus_dialogue.specs.Wants.{OwnCommand, OwnAbort, may_follow, open_in, abort_since, command_since}
+use Rattle.bus_due.specs.bus_dialogue.specs.Wants.{OwnCommand, OwnAbort, may_follow, open_in, abort_since, command_since}
 use Rattle.bus_due.specs.Due.{is_reset_past, reset_from}
 use Rattle.bus_due.specs.Wants.{own_command, own_commands, own_abort, own_aborts, item_want_time}
 use Rattle.scsi_device.specs.Lines.{IsCommandLine, IsAbortLine, FitsBus}

@@ -4,14 +4,14 @@ ghost use Rattle.bus_trace.specs.declared.Row.{Row};
 ghost use Rattle.bus_trace.specs.Terms.{receiver};
 ghost use Rattle.bus_trace.specs.Trace.{last_time};
 ghost use Rattle.bus_reactions.specs.Ends.{sample_due};
-ghost use Rattle.bus_dialogue.specs.Observer.{IsObserverOf};
+ghost use Rattle.bus_due.specs.bus_dialogue.specs.Observer.{IsObserverOf};
 ghost use Rattle.scsi_device.specs.Told.{flip_by};
-ghost use Rattle.bus_rules.specs.Order.{is_of_device};
+ghost use Rattle.bus_due.specs.bus_rules.specs.Order.{is_of_device};
 
 use bus_base::{Dev, Ns};
-use bus_dialogue::Observer;
+use bus_due::the_bus_dialogue::Observer;
+use bus_due::the_bus_rules::is_of_device;
 use bus_reactions::Due;
-use bus_rules::is_of_device;
 use bus_trace::{Kind, ScsiId};
 use scenario::FaultDef;
 

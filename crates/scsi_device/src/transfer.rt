@@ -2,15 +2,15 @@
 ghost use Rattle.std.specs.Prelude.{ℕ, ◌≡◌, List, Option};
 ghost use Rattle.bus_trace.specs.declared.Row.{Row};
 ghost use Rattle.bus_trace.specs.Agreements.{times_of};
-ghost use Rattle.bus_dialogue.specs.Ends.{lag_by};
-ghost use Rattle.bus_dialogue.specs.Observer.{IsObserverOf};
-ghost use Rattle.bus_dialogue.specs.Words.{agreement_answer};
+ghost use Rattle.bus_due.specs.bus_dialogue.specs.Ends.{lag_by};
+ghost use Rattle.bus_due.specs.bus_dialogue.specs.Observer.{IsObserverOf};
+ghost use Rattle.bus_due.specs.bus_dialogue.specs.Words.{agreement_answer};
 ghost use Rattle.handshake.specs.Bounds.{IsSteady};
 ghost use Rattle.scenario.specs.declared.value.HostDef.{HostDef};
 ghost use Rattle.scsi_device.specs.Told.{told, pace_of};
 
 use bus_base::Ns;
-use bus_dialogue::Observer;
+use bus_due::the_bus_dialogue::Observer;
 use bus_reactions::Pace;
 use bus_trace::{Agreement, is_data, times_of};
 

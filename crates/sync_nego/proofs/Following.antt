@@ -3,15 +3,15 @@ use Rattle.std.proofs.Common.{ℕ, ◌≡◌, Bool, true, false, List, [], ◌�
 use Rattle.std.proofs.lemmas.Bool.Decides.{nat_tests}
 use Rattle.bus_trace.specs.declared.agreements.Agreement.{Agreement}
 use Rattle.bus_trace.specs.Agreements.{same_agreement}
-use Rattle.bus_phases.specs.declared.words.Word.{Word}
-use Rattle.bus_phases.specs.declared.words.Word.TheVariants as words
-use Rattle.bus_phases.specs.declared.words.End.{End}
-use Rattle.bus_phases.specs.declared.words.End.TheVariants as ends
-use Rattle.bus_phases.specs.declared.spoken.Spoken.{Spoken}
-use Rattle.bus_phases.specs.declared.spoken.CommandBytes.{CommandBytes}
-use Rattle.bus_phases.specs.declared.spoken.Heard.{Heard}
-use Rattle.bus_phases.specs.declared.dialogue.Dialogue.{Dialogue}
-use Rattle.bus_phases.specs.Dialogue.{asynchronous, nothing_spoken, is_same_end, is_of_other, spoken_with_word, spoken_with_offer, spoken_with_reject, heard_with_out, heard_before_in, heard_with_in, heard_with_command, spoken_with_byte}
+use Rattle.bus_dialogue.specs.bus_phases.specs.declared.words.Word.{Word}
+use Rattle.bus_dialogue.specs.bus_phases.specs.declared.words.Word.TheVariants as words
+use Rattle.bus_dialogue.specs.bus_phases.specs.declared.words.End.{End}
+use Rattle.bus_dialogue.specs.bus_phases.specs.declared.words.End.TheVariants as ends
+use Rattle.bus_dialogue.specs.bus_phases.specs.declared.spoken.Spoken.{Spoken}
+use Rattle.bus_dialogue.specs.bus_phases.specs.declared.spoken.CommandBytes.{CommandBytes}
+use Rattle.bus_dialogue.specs.bus_phases.specs.declared.spoken.Heard.{Heard}
+use Rattle.bus_dialogue.specs.bus_phases.specs.declared.dialogue.Dialogue.{Dialogue}
+use Rattle.bus_dialogue.specs.bus_phases.specs.Dialogue.{asynchronous, nothing_spoken, is_same_end, is_of_other, spoken_with_word, spoken_with_offer, spoken_with_reject, heard_with_out, heard_before_in, heard_with_in, heard_with_command, spoken_with_byte}
 use Rattle.sync_nego.specs.Negotiation.{Negotiation}
 use Rattle.sync_nego.specs.Exchange.{Turn, connects, begins_phase, begins_anew, to_target, begins_message, to_initiator, in_command, resets, told, Count, connected, said, carried, reset, with_byte, Counted, or_now, counted, Side, voids, says_offer, hears_offer, says_reject, hears_reject, side_says, side_hears, side_after, side_by, side}
 use Rattle.bus_trace.proofs.SameAgreement.{itself}

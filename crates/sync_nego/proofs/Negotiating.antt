@@ -3,10 +3,10 @@ use Rattle.std.proofs.Common.{ℕ, zero, suc, ◌≡◌, Bool, true, false, List
 use Rattle.std.proofs.lemmas.Bool.Decides.{nat_tests}
 use Rattle.bus_trace.specs.declared.agreements.Agreement.{Agreement}
 use Rattle.bus_trace.specs.Agreements.{same_agreement}
-use Rattle.bus_phases.specs.declared.words.Word.{Word}
-use Rattle.bus_phases.specs.declared.words.Word.TheVariants as words
-use Rattle.bus_phases.specs.declared.words.End.{End}
-use Rattle.bus_phases.specs.declared.words.End.TheVariants as ends
+use Rattle.bus_dialogue.specs.bus_phases.specs.declared.words.Word.{Word}
+use Rattle.bus_dialogue.specs.bus_phases.specs.declared.words.Word.TheVariants as words
+use Rattle.bus_dialogue.specs.bus_phases.specs.declared.words.End.{End}
+use Rattle.bus_dialogue.specs.bus_phases.specs.declared.words.End.TheVariants as ends
 use Rattle.sync_nego.specs.Negotiation.{Negotiation, answer_to, agreed_by, settled}
 use Rattle.sync_nego.specs.Exchange.{Turn, connects, to_target, told_agreement, Count, connected, said, counted, Side, quiet, passes, side_after, side_by, side, in_void, word_of, asked, answered, asked_back, answered_back}
 use Rattle.sync_nego.proofs.Following.{holds_what_is_told}

@@ -2,12 +2,12 @@
 -- what either end keeps of it.
 use Rattle.std.specs.Prelude.{ℕ, zero, suc, Bool, true, false, List, [], ◌∷◌, Option, Some, None, if◌then◌else◌}
 use Rattle.bus_trace.specs.declared.agreements.Agreement.{Agreement}
-use Rattle.bus_phases.specs.declared.words.Word.{Word}
-use Rattle.bus_phases.specs.declared.words.Word.TheVariants as words
-use Rattle.bus_phases.specs.declared.words.End.{End}
-use Rattle.bus_phases.specs.declared.words.End.TheVariants as ends
-use Rattle.bus_phases.specs.declared.dialogue.Dialogue.{Dialogue}
-use Rattle.bus_phases.specs.Dialogue.{asynchronous, is_same_end, opened, heard_with_out, heard_before_in, heard_with_in, heard_with_command, phase_begins}
+use Rattle.bus_dialogue.specs.bus_phases.specs.declared.words.Word.{Word}
+use Rattle.bus_dialogue.specs.bus_phases.specs.declared.words.Word.TheVariants as words
+use Rattle.bus_dialogue.specs.bus_phases.specs.declared.words.End.{End}
+use Rattle.bus_dialogue.specs.bus_phases.specs.declared.words.End.TheVariants as ends
+use Rattle.bus_dialogue.specs.bus_phases.specs.declared.dialogue.Dialogue.{Dialogue}
+use Rattle.bus_dialogue.specs.bus_phases.specs.Dialogue.{asynchronous, is_same_end, opened, heard_with_out, heard_before_in, heard_with_in, heard_with_command, phase_begins}
 use Rattle.sync_nego.specs.Negotiation.{Negotiation, unsettled, answer_to, settled, cleared, renewed}
 
 -- What happens between the two, as far as their agreement goes. Lists of these have the newest first.

@@ -12,29 +12,29 @@ use Rattle.scenario.specs.declared.value.Policy.{Policy}
 use Rattle.scenario.specs.declared.value.TargetDef.{TargetDef}
 use Rattle.msg_grammar.specs.declared.message.MsgIn.{MsgIn}
 use Rattle.bus_trace.specs.declared.agreements.Agreement.{Agreement}
-use Rattle.bus_dialogue.specs.declared.exchange.Arrival.{Arrival}
-use Rattle.bus_dialogue.specs.declared.exchange.Arrival.TheVariants as arrivals
-use Rattle.bus_dialogue.specs.declared.exchange.Cause.{Cause}
-use Rattle.bus_dialogue.specs.declared.exchange.Cause.TheVariants as causes
-use Rattle.bus_dialogue.specs.declared.exchange.Leaving.{Leaving}
-use Rattle.bus_dialogue.specs.declared.exchange.Next.{Next}
-use Rattle.bus_dialogue.specs.declared.exchange.Next.TheVariants as nexts
-use Rattle.bus_dialogue.specs.declared.exchange.Phase.{Phase}
-use Rattle.bus_dialogue.specs.declared.exchange.Phase.TheVariants as phases
-use Rattle.bus_dialogue.specs.declared.exchange.Plan.{Plan}
-use Rattle.bus_dialogue.specs.declared.exchange.Task.{Task}
-use Rattle.bus_dialogue.specs.Arrivals.{policy_of}
-use Rattle.bus_dialogue.specs.Words.{is_naming, request_by}
-use Rattle.bus_dialogue.specs.DataRuns.{run_length, run_byte}
-use Rattle.bus_dialogue.specs.NextPhase.{Serving, phase_of, leaving_by, bus_free, phase_entry, phase_lines, with_task, recovery, recovery_limit, request_or_command, after_offer, after_opening, message_out_leaving, message_repetition, pointer_restoration, next_data_phase, after_messages, after_arrival, after_run, phase_leaving, unless_attention, waits_seek}
-use Rattle.bus_dialogue.specs.PhaseBytes.{has_whole_block, status_byte, data_byte, run_length_if, phase_byte, follows_in, lines_by, one_if}
-use Rattle.bus_dialogue.specs.Ends.{seek_by, seek_before, follows_by, offering_by}
-use Rattle.bus_dialogue.specs.Events.{is_status_next, has_replied, newest_with, reply_events, arrival_events, turn_events, turn_events_if, connection_end_events, leaving_events}
-use Rattle.scsi_device.specs.Heard.{is_selected, is_opening_in, is_command_phase, moves_data, gives_status, goes_on}
-use Rattle.scsi_device.specs.Heard as heard
+use Rattle.bus_due.specs.bus_dialogue.specs.declared.exchange.Arrival.{Arrival}
+use Rattle.bus_due.specs.bus_dialogue.specs.declared.exchange.Arrival.TheVariants as arrivals
+use Rattle.bus_due.specs.bus_dialogue.specs.declared.exchange.Cause.{Cause}
+use Rattle.bus_due.specs.bus_dialogue.specs.declared.exchange.Cause.TheVariants as causes
+use Rattle.bus_due.specs.bus_dialogue.specs.declared.exchange.Leaving.{Leaving}
+use Rattle.bus_due.specs.bus_dialogue.specs.declared.exchange.Next.{Next}
+use Rattle.bus_due.specs.bus_dialogue.specs.declared.exchange.Next.TheVariants as nexts
+use Rattle.bus_due.specs.bus_dialogue.specs.declared.exchange.Phase.{Phase}
+use Rattle.bus_due.specs.bus_dialogue.specs.declared.exchange.Phase.TheVariants as phases
+use Rattle.bus_due.specs.bus_dialogue.specs.declared.exchange.Plan.{Plan}
+use Rattle.bus_due.specs.bus_dialogue.specs.declared.exchange.Task.{Task}
+use Rattle.bus_due.specs.bus_dialogue.specs.Arrivals.{policy_of}
+use Rattle.bus_due.specs.bus_dialogue.specs.Words.{is_naming, request_by}
+use Rattle.bus_due.specs.bus_dialogue.specs.DataRuns.{run_length, run_byte}
+use Rattle.bus_due.specs.bus_dialogue.specs.NextPhase.{Serving, phase_of, leaving_by, bus_free, phase_entry, phase_lines, with_task, recovery, recovery_limit, request_or_command, after_offer, after_opening, message_out_leaving, message_repetition, pointer_restoration, next_data_phase, after_messages, after_arrival, after_run, phase_leaving, unless_attention, waits_seek}
+use Rattle.bus_due.specs.bus_dialogue.specs.PhaseBytes.{has_whole_block, status_byte, data_byte, run_length_if, phase_byte, follows_in, lines_by, one_if}
+use Rattle.bus_due.specs.bus_dialogue.specs.Ends.{seek_by, seek_before, follows_by, offering_by}
+use Rattle.bus_due.specs.bus_dialogue.specs.Events.{is_status_next, has_replied, newest_with, reply_events, arrival_events, turn_events, turn_events_if, connection_end_events, leaving_events}
+use Rattle.target_units.specs.scsi_device.specs.Heard.{is_selected, is_opening_in, is_command_phase, moves_data, gives_status, goes_on}
+use Rattle.target_units.specs.scsi_device.specs.Heard as heard
 use Rattle.target_course.specs.Alike.{AreAlike}
 use Rattle.target_course.specs.Agreeing.{arrives, IsSameCommand, HaveSameTask, AreAgreeing}
-use Rattle.scsi_device.proofs.PhaseLines.{command_is}
+use Rattle.target_units.specs.scsi_device.proofs.PhaseLines.{command_is}
 
 -- ---- by the task
 

@@ -26,22 +26,22 @@ use Rattle.disk_array.specs.Order.{range_in}
 use Rattle.disk_array.specs.Processes.{Process}
 use Rattle.disk_array.specs.Steps.{running_process}
 use Rattle.disk_array.specs.Units.{Array}
-use Rattle.bus_story.specs.BusState.{RowReading, row_reading}
-use Rattle.bus_story.specs.HistoryEvents.{abort_line_at}
-use Rattle.bus_story.specs.Items.{Item, process, abort}
-use Rattle.bus_story.specs.Right.{same_bytes}
-use Rattle.bus_dialogue.specs.declared.exchange.Cause.{Cause}
-use Rattle.bus_dialogue.specs.declared.exchange.Cause.TheVariants as causes
-use Rattle.bus_dialogue.specs.declared.exchange.Next.{Next}
-use Rattle.bus_dialogue.specs.declared.exchange.Phase.{Phase}
-use Rattle.bus_dialogue.specs.declared.exchange.Phase.TheVariants as phases
-use Rattle.bus_dialogue.specs.declared.exchange.Plan.{Plan}
-use Rattle.bus_dialogue.specs.declared.exchange.Said.{Said}
-use Rattle.bus_dialogue.specs.declared.exchange.Task.{Task}
-use Rattle.bus_dialogue.specs.Arrivals.{arrival_by, policy_of}
-use Rattle.bus_dialogue.specs.NextPhase.{Serving, phase_of}
-use Rattle.bus_dialogue.specs.Ends.{follows_by}
-use Rattle.bus_dialogue.specs.PhaseBytes
+use Rattle.bus_due.specs.bus_story.specs.BusState.{RowReading, row_reading}
+use Rattle.bus_due.specs.bus_story.specs.HistoryEvents.{abort_line_at}
+use Rattle.bus_due.specs.bus_story.specs.Items.{Item, process, abort}
+use Rattle.bus_due.specs.bus_story.specs.Right.{same_bytes}
+use Rattle.bus_due.specs.bus_dialogue.specs.declared.exchange.Cause.{Cause}
+use Rattle.bus_due.specs.bus_dialogue.specs.declared.exchange.Cause.TheVariants as causes
+use Rattle.bus_due.specs.bus_dialogue.specs.declared.exchange.Next.{Next}
+use Rattle.bus_due.specs.bus_dialogue.specs.declared.exchange.Phase.{Phase}
+use Rattle.bus_due.specs.bus_dialogue.specs.declared.exchange.Phase.TheVariants as phases
+use Rattle.bus_due.specs.bus_dialogue.specs.declared.exchange.Plan.{Plan}
+use Rattle.bus_due.specs.bus_dialogue.specs.declared.exchange.Said.{Said}
+use Rattle.bus_due.specs.bus_dialogue.specs.declared.exchange.Task.{Task}
+use Rattle.bus_due.specs.bus_dialogue.specs.Arrivals.{arrival_by, policy_of}
+use Rattle.bus_due.specs.bus_dialogue.specs.NextPhase.{Serving, phase_of}
+use Rattle.bus_due.specs.bus_dialogue.specs.Ends.{follows_by}
+use Rattle.bus_due.specs.bus_dialogue.specs.PhaseBytes
 use Rattle.bus_due.specs.Defs.{target_def_of}
 use Rattle.bus_due.specs.Faithful.{is_unit, same_tag, is_kind, is_abort_named, is_item_named, is_opening_named, is_block_of_process, is_true_leaving}
 use Rattle.bus_due.specs.LastingState.{progress_in}
@@ -50,13 +50,13 @@ use Rattle.bus_due.specs.RunState.{RunState, array_of, bus_of, drives_of, proces
 use Rattle.bus_due.specs.RunSteps.{run_state, is_for_process}
 use Rattle.bus_due.specs.Sights.{leaving, arrival_at, pace_of, serving_of}
 use Rattle.bus_due.specs.Tasks.{arrival_if, blocks_in, given_of, is_writing, moved_count, reply_now, status_by, task_if, task_of, task_with}
-use Rattle.scsi_device.specs.Heard.{Instructions, instructions, is_block, is_carried, is_command_phase, is_heard, is_heard_after, is_heard_in, is_heard_process, is_heard_row, is_instructed, is_known_item, is_name, is_new, is_of_scenario, is_opening, is_opening_in, is_placed, is_said, is_served, gives_status, heard, may_leave, moves_data, is_answered, is_unanswered, is_heard_on, is_true_turn, is_true_end}
+use Rattle.target_units.specs.scsi_device.specs.Heard.{Instructions, instructions, is_block, is_carried, is_command_phase, is_heard, is_heard_after, is_heard_in, is_heard_process, is_heard_row, is_instructed, is_known_item, is_name, is_new, is_of_scenario, is_opening, is_opening_in, is_placed, is_said, is_served, gives_status, heard, may_leave, moves_data, is_answered, is_unanswered, is_heard_on, is_true_turn, is_true_end}
 use Rattle.target_course.specs.Agreeing.{arrives, IsSameCommand, HaveSameTask, AreAgreeing}
 use Rattle.target_course.specs.Courses.{CourseState, name_with, name_of, name_by, name_if, moved_by, status_known, status_if, task_by, serving_by, MOST_KEPT, IsTold, IsOfProcess, IsCourse, IsStateOf, IsOutlookOf, AreToldOf}
 use Rattle.target_course.specs.declared.course.ProcessState.{ProcessState}
 use Rattle.bus_base.proofs.Tests.{or_second, implied, middle}
-use Rattle.scsi_device.proofs.PhaseLines.{phase_is_command}
-use Rattle.bus_story.proofs.SameBytes.{bytes_are}
+use Rattle.target_units.specs.scsi_device.proofs.PhaseLines.{phase_is_command}
+use Rattle.bus_due.specs.bus_story.proofs.SameBytes.{bytes_are}
 
 pub either : (x y : Bool) → (x || y) ≡ true → (x ≡ true) ⊎ (y ≡ true)
 either true y e = inl refl

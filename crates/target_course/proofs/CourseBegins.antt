@@ -11,12 +11,12 @@ use Rattle.scenario.specs.declared.value.Tag.TheVariants as tags
 use Rattle.scenario.specs.Value.{ScenarioValue}
 use Rattle.disk_array.specs.Processes.{Process}
 use Rattle.disk_array.proofs.SeatLookups.{same_id_is}
-use Rattle.bus_story.specs.BusState.{RowReading, row_reading}
-use Rattle.bus_story.specs.Items.{Item, process, abort}
-use Rattle.bus_story.specs.TraceHistory.{aim_of}
-use Rattle.bus_dialogue.specs.Wants.{Ready}
-use Rattle.bus_dialogue.specs.Words.{naming_messages}
-use Rattle.bus_dialogue.specs.Planning.{first_plan}
+use Rattle.bus_due.specs.bus_story.specs.BusState.{RowReading, row_reading}
+use Rattle.bus_due.specs.bus_story.specs.Items.{Item, process, abort}
+use Rattle.bus_due.specs.bus_story.specs.TraceHistory.{aim_of}
+use Rattle.bus_due.specs.bus_dialogue.specs.Wants.{Ready}
+use Rattle.bus_due.specs.bus_dialogue.specs.Words.{naming_messages}
+use Rattle.bus_due.specs.bus_dialogue.specs.Planning.{first_plan}
 use Rattle.bus_due.specs.Faithful.{faithful, is_faithful, is_true_beginning, has_ends, same_process}
 use Rattle.bus_due.specs.LastingState.{has_negotiated}
 use Rattle.bus_due.specs.Plain.{IsPlain}
@@ -24,7 +24,7 @@ use Rattle.bus_due.specs.RunState.{RunState, item_of, process_item, process_serv
 use Rattle.bus_due.specs.RunSteps.{run_state, served_after, is_for_process, item_if, may_negotiate, naming_of, messages_if}
 use Rattle.bus_due.specs.Sights.{hearing_of}
 use Rattle.bus_due.specs.Wants.{ready_of}
-use Rattle.scsi_device.specs.Heard.{Instructions, no_instructions, instructions, instructions_after, is_of_scenario}
+use Rattle.target_units.specs.scsi_device.specs.Heard.{Instructions, no_instructions, instructions, instructions_after, is_of_scenario}
 use Rattle.target_course.specs.declared.course.Name.{Name}
 use Rattle.target_course.specs.Plans.{plan_at}
 use Rattle.target_course.specs.Courses.{name_of, naming, course_selected, course_reselected, IsTold, IsOfProcess, HasEnds, IsCourse, IsReadyProcess, IsLabelOf}

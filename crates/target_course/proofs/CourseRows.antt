@@ -13,20 +13,20 @@ use Rattle.bus_lines.specs.Handshakes.{handshakes}
 use Rattle.scenario.specs.declared.value.TargetDef.{TargetDef}
 use Rattle.disk_array.specs.Processes.{command_at, process_if, process_of}
 use Rattle.disk_array.proofs.SeatLookups.{none_at}
-use Rattle.bus_story.specs.Items.{Item, process, abort}
-use Rattle.bus_dialogue.specs.Events.{leaving_events}
-use Rattle.bus_dialogue.specs.Wants.{Ready}
+use Rattle.bus_due.specs.bus_story.specs.Items.{Item, process, abort}
+use Rattle.bus_due.specs.bus_dialogue.specs.Events.{leaving_events}
+use Rattle.bus_due.specs.bus_dialogue.specs.Wants.{Ready}
 use Rattle.bus_due.specs.Faithful.{faithful, same_process}
 use Rattle.bus_due.specs.LastingState.{has_negotiated}
 use Rattle.bus_due.specs.Telling.{id_of, target_events}
 use Rattle.bus_due.specs.Wants.{ready_of}
 use Rattle.target_course.specs.declared.course.Name.{Name}
 use Rattle.scenario.specs.Value.{ScenarioValue}
-use Rattle.bus_story.specs.BusState.{RowReading, row_reading}
-use Rattle.bus_dialogue.specs.declared.exchange.Leaving.{Leaving}
-use Rattle.bus_dialogue.specs.Hearing.{begun, hearing}
-use Rattle.bus_dialogue.specs.NextPhase.{Serving, leaving_by, phase_of}
-use Rattle.bus_dialogue.specs.Ends.{follows_by, is_pulsed_phase, offering_by}
+use Rattle.bus_due.specs.bus_story.specs.BusState.{RowReading, row_reading}
+use Rattle.bus_due.specs.bus_dialogue.specs.declared.exchange.Leaving.{Leaving}
+use Rattle.bus_due.specs.bus_dialogue.specs.Hearing.{begun, hearing}
+use Rattle.bus_due.specs.bus_dialogue.specs.NextPhase.{Serving, leaving_by, phase_of}
+use Rattle.bus_due.specs.bus_dialogue.specs.Ends.{follows_by, is_pulsed_phase, offering_by}
 use Rattle.bus_due.specs.Defs.{target_def_of}
 use Rattle.bus_due.specs.Plain.{IsPlain}
 use Rattle.bus_due.specs.RunState.{RunState, bus_of, agreement_of, drives_of, item_of}
@@ -34,7 +34,7 @@ use Rattle.bus_due.specs.RunSteps.{run_state}
 use Rattle.bus_due.specs.Sights.{hearing_of, pace_of, serving_of}
 use Rattle.bus_due.specs.Tasks.{given_of}
 use Rattle.bus_phases.specs.Dialogue.{dialogue}
-use Rattle.scsi_device.specs.Heard.{instructions, heard, is_message, is_of_scenario, is_true_turn, is_heard_after, may_leave}
+use Rattle.target_units.specs.scsi_device.specs.Heard.{instructions, heard, is_message, is_of_scenario, is_true_turn, is_heard_after, may_leave}
 use Rattle.target_course.specs.declared.course.ProcessState.{ProcessState}
 use Rattle.target_course.specs.Agreeing.{AreAgreeing}
 use Rattle.target_course.specs.Alike.{AreAlike}

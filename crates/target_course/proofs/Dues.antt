@@ -7,20 +7,20 @@ use Rattle.bus_trace.specs.Trace.{bus, last_time}
 use Rattle.bus_trace.specs.Terms.{connection, receiver}
 use Rattle.bus_lines.specs.Handshakes.{handshakes}
 use Rattle.bus_reactions.specs.Sight.{sight}
-use Rattle.bus_dialogue.specs.Hearing.{begun}
-use Rattle.bus_dialogue.specs.Wants as wants
+use Rattle.bus_due.specs.bus_dialogue.specs.Hearing.{begun}
+use Rattle.bus_due.specs.bus_dialogue.specs.Wants as wants
 use Rattle.scenario.specs.declared.value.FaultDef.{FaultDef}
 use Rattle.scenario.specs.declared.value.TargetDef.{TargetDef}
 use Rattle.scenario.specs.Value.{ScenarioValue}
-use Rattle.bus_story.specs.Samples.{latency_of, host_latency, target_latency}
-use Rattle.bus_story.specs.TraceHistory.{aim_of}
+use Rattle.bus_due.specs.bus_story.specs.Samples.{latency_of, host_latency, target_latency}
+use Rattle.bus_due.specs.bus_story.specs.TraceHistory.{aim_of}
 use Rattle.bus_reactions.specs.declared.due.Due.{Due}
 use Rattle.bus_reactions.specs.declared.due.Myself.{Myself}
 use Rattle.bus_reactions.specs.declared.due.Want.{Want}
 use Rattle.bus_reactions.specs.Linking.{link_due, sample_time}
 use Rattle.bus_reactions.specs.Reset.{with_reset}
 use Rattle.bus_reactions.specs.Ends as hand
-use Rattle.bus_dialogue.specs.Ends.{pace_by, offering_by}
+use Rattle.bus_due.specs.bus_dialogue.specs.Ends.{pace_by, offering_by}
 use Rattle.bus_due.specs.Defs.{host_of}
 use Rattle.bus_due.specs.RunState.{RunState}
 use Rattle.bus_due.specs.RunSteps.{run_state}
@@ -31,12 +31,12 @@ use Rattle.bus_due.specs.Next.{due}
 use Rattle.bus_due.specs.Plain.{IsPlain, AreOfDevices}
 use Rattle.bus_due.specs.PlainDue.{IsThere, IsLinked, under_reset, target_reaction}
 use Rattle.bus_reactions.specs.declared.ends.Pace.{Pace}
-use Rattle.scsi_device.specs.Told.{told, pace_of, first_fault, flip_by, AreFlips}
+use Rattle.target_units.specs.scsi_device.specs.Told.{told, pace_of, first_fault, flip_by, AreFlips}
 use Rattle.target_course.specs.States.{offering_in, TargetState, IsOwnConnection, IsTargetOf, IsTargetLine, IsNoInitiator}
 use Rattle.target_units.specs.Readies.{ready_unit}
 use Rattle.target_course.proofs.Alike.{dues_alike}
 use Rattle.target_course.specs.Dues.{myself_by, want_of_ready, link_by, hand_by, calm_by, target_next}
-use Rattle.bus_rules.specs.Order.{is_of_device}
+use Rattle.bus_due.specs.bus_rules.specs.Order.{is_of_device}
 
 -- ---- the scenario
 

@@ -17,13 +17,13 @@ use Rattle.scenario.specs.declared.value.CmdDef.{CmdDef}
 use Rattle.disk_array.specs.Order.{range_in}
 use Rattle.disk_array.specs.Processes.{Process, command_at, process_of}
 use Rattle.disk_array.specs.Units.{unit_state_at}
-use Rattle.bus_story.specs.BusState.{RowReading, row_reading}
-use Rattle.bus_story.specs.Items.{Item, process, abort}
-use Rattle.bus_dialogue.specs.Arrivals.{policy_of}
-use Rattle.bus_dialogue.specs.DataRuns.{run_in}
-use Rattle.bus_dialogue.specs.Hearing.{hearing}
-use Rattle.bus_dialogue.specs.NextPhase.{phase_of}
-use Rattle.bus_dialogue.specs.declared.exchange.Hearing.{Hearing}
+use Rattle.bus_due.specs.bus_story.specs.BusState.{RowReading, row_reading}
+use Rattle.bus_due.specs.bus_story.specs.Items.{Item, process, abort}
+use Rattle.bus_due.specs.bus_dialogue.specs.Arrivals.{policy_of}
+use Rattle.bus_due.specs.bus_dialogue.specs.DataRuns.{run_in}
+use Rattle.bus_due.specs.bus_dialogue.specs.Hearing.{hearing}
+use Rattle.bus_due.specs.bus_dialogue.specs.NextPhase.{phase_of}
+use Rattle.bus_due.specs.bus_dialogue.specs.declared.exchange.Hearing.{Hearing}
 use Rattle.bus_due.specs.Defs.{target_def_of}
 use Rattle.bus_due.specs.Faithful.{has_ends, faithful, is_faithful}
 use Rattle.bus_due.specs.LastingState.{progress_in}
@@ -33,8 +33,8 @@ use Rattle.bus_due.specs.RunSteps.{run_state, leaving_of}
 use Rattle.bus_due.specs.Sights.{hearing_of}
 use Rattle.bus_due.specs.Tasks.{blocks_in, size_of, task_if, task_of}
 use Rattle.bus_due.specs.Telling.{id_of}
-use Rattle.scsi_device.specs.Lines.{IsCommandLine}
-use Rattle.scsi_device.specs.Writes.{writer_of, is_data_out, brings_byte, writers_with, writers, block_size, is_of_size, is_next_byte, is_written_byte, is_written_run, ends_run, is_written_in, is_written_on, is_written, written, start_of_run}
+use Rattle.target_units.specs.scsi_device.specs.Lines.{IsCommandLine}
+use Rattle.target_units.specs.scsi_device.specs.Writes.{writer_of, is_data_out, brings_byte, writers_with, writers, block_size, is_of_size, is_next_byte, is_written_byte, is_written_run, ends_run, is_written_in, is_written_on, is_written, written, start_of_run}
 use Rattle.target_course.specs.Gathered.{bytes_of, GatheredValue, gathering_at, gathered_with, gathered_seen, nothing_gathered, unit_room, place_in_run, IsRunningIn, IsGatheredOf, IsSentSo, IsAtUnit, AreAllGathered}
 use Rattle.target_units.specs.Seated.{is_same_process}
 use Rattle.target_course.specs.States.{IsOwnConnection}

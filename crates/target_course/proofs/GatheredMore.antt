@@ -24,14 +24,14 @@ use Rattle.disk_array.specs.ArrayHistory as Play
 use Rattle.disk_array.specs.Order.{range_in}
 use Rattle.disk_array.specs.Processes.{Process, process_of, same_id}
 use Rattle.disk_array.specs.Units.{unit_state_at}
-use Rattle.bus_story.specs.BusState.{RowReading, row_reading}
-use Rattle.bus_dialogue.specs.Arrivals.{policy_of}
-use Rattle.bus_dialogue.specs.DataRuns.{run_in, run_length}
-use Rattle.bus_dialogue.specs.NextPhase.{phase_of}
-use Rattle.bus_dialogue.specs.PhaseBytes.{one_if}
-use Rattle.bus_dialogue.specs.declared.exchange.Hearing.{Hearing}
-use Rattle.bus_dialogue.specs.declared.exchange.Phase.TheVariants as phases
-use Rattle.bus_dialogue.specs.declared.exchange.Task.{Task}
+use Rattle.bus_due.specs.bus_story.specs.BusState.{RowReading, row_reading}
+use Rattle.bus_due.specs.bus_dialogue.specs.Arrivals.{policy_of}
+use Rattle.bus_due.specs.bus_dialogue.specs.DataRuns.{run_in, run_length}
+use Rattle.bus_due.specs.bus_dialogue.specs.NextPhase.{phase_of}
+use Rattle.bus_due.specs.bus_dialogue.specs.PhaseBytes.{one_if}
+use Rattle.bus_due.specs.bus_dialogue.specs.declared.exchange.Hearing.{Hearing}
+use Rattle.bus_due.specs.bus_dialogue.specs.declared.exchange.Phase.TheVariants as phases
+use Rattle.bus_due.specs.bus_dialogue.specs.declared.exchange.Task.{Task}
 use Rattle.bus_due.specs.Defs.{target_def_of}
 use Rattle.bus_due.specs.Faithful.{has_ends}
 use Rattle.bus_due.specs.LastingState.{ProcessProgress, progress_in, progress_with}
@@ -40,7 +40,7 @@ use Rattle.bus_due.specs.RunState.{RunState, array_of, bus_of, carried_here, pro
 use Rattle.bus_due.specs.RunSteps.{run_state, progress_by_leaving, progress_after, served_after, exchange_after, leaving_of}
 use Rattle.bus_due.specs.Sights.{hearing_of, leaving}
 use Rattle.bus_due.specs.Tasks.{blocks_in, reply_now, size_of, task_with, task_if, task_of}
-use Rattle.scsi_device.specs.Writes.{writer_of, is_data_out, brings_byte, writers_with, writers, block_size, is_of_size, is_writer, is_whole_run, is_written_run, is_written_byte, ends_run, is_written_in, is_written_on, is_written, start_of_run}
+use Rattle.target_units.specs.scsi_device.specs.Writes.{writer_of, is_data_out, brings_byte, writers_with, writers, block_size, is_of_size, is_writer, is_whole_run, is_written_run, is_written_byte, ends_run, is_written_in, is_written_on, is_written, start_of_run}
 use Rattle.target_course.specs.Gathered.{GatheredValue, gathering_at, HasCome, IsRunningIn, AreAllGathered}
 use Rattle.target_course.proofs.GatheredSteps.{AreByteGathered, data_out_is}
 use Rattle.target_course.proofs.GatheredWhole.{next_start}
@@ -51,7 +51,7 @@ use Rattle.target_course.proofs.ServedEnds.{connection_stays}
 use Rattle.bus_base.proofs.Tests.{wrong}
 use Rattle.disk_array.proofs.SeatLookups.{same_id_is}
 use Rattle.disk_array.proofs.SeatReplies.{id_self}
-use Rattle.scsi_device.proofs.PhaseLines.{no_input}
+use Rattle.target_units.specs.scsi_device.proofs.PhaseLines.{no_input}
 
 come_less : (v : GatheredValue) (p : Process) (a b : ℕ) → a ≤ b → HasCome v p b → HasCome v p a
 come_less v p a b l h = omega (arith, l, h)

@@ -16,16 +16,16 @@ use Rattle.scenario.specs.Value.{ScenarioValue}
 use Rattle.scenario.specs.declared.value.CmdDef.{CmdDef}
 use Rattle.disk_array.specs.ArrayHistory as Play
 use Rattle.disk_array.specs.Processes.{Process, process_of}
-use Rattle.bus_story.specs.BusState.{RowReading, row_reading}
-use Rattle.bus_story.specs.Items.{Item, process, abort}
-use Rattle.bus_dialogue.specs.Arrivals.{policy_of}
-use Rattle.bus_dialogue.specs.DataRuns.{run_at}
-use Rattle.bus_dialogue.specs.Hearing.{hearing}
-use Rattle.bus_dialogue.specs.NextPhase.{phase_of}
-use Rattle.bus_dialogue.specs.declared.exchange.Hearing.{Hearing}
-use Rattle.bus_dialogue.specs.declared.exchange.Phase.{Phase}
-use Rattle.bus_dialogue.specs.declared.exchange.Phase.TheVariants as phases
-use Rattle.bus_dialogue.specs.declared.exchange.Task.{Task}
+use Rattle.bus_due.specs.bus_story.specs.BusState.{RowReading, row_reading}
+use Rattle.bus_due.specs.bus_story.specs.Items.{Item, process, abort}
+use Rattle.bus_due.specs.bus_dialogue.specs.Arrivals.{policy_of}
+use Rattle.bus_due.specs.bus_dialogue.specs.DataRuns.{run_at}
+use Rattle.bus_due.specs.bus_dialogue.specs.Hearing.{hearing}
+use Rattle.bus_due.specs.bus_dialogue.specs.NextPhase.{phase_of}
+use Rattle.bus_due.specs.bus_dialogue.specs.declared.exchange.Hearing.{Hearing}
+use Rattle.bus_due.specs.bus_dialogue.specs.declared.exchange.Phase.{Phase}
+use Rattle.bus_due.specs.bus_dialogue.specs.declared.exchange.Phase.TheVariants as phases
+use Rattle.bus_due.specs.bus_dialogue.specs.declared.exchange.Task.{Task}
 use Rattle.bus_due.specs.Defs.{target_def_of}
 use Rattle.bus_due.specs.Faithful.{has_ends, is_sent_at, is_true_beginning, is_true_crossing, is_true_hearing, is_known_process, is_true_leaving, is_faithful, faithful}
 use Rattle.bus_due.specs.Plain.{IsPlain, AreOfDevices}
@@ -35,7 +35,7 @@ use Rattle.bus_due.specs.RunSteps.{run_state}
 use Rattle.bus_due.specs.Sights.{hearing_of}
 use Rattle.bus_due.specs.Tasks.{reply_now, task_with, task_if, task_of}
 use Rattle.bus_due.specs.Telling.{id_of}
-use Rattle.scsi_device.specs.Writes.{is_data_out, brings_byte}
+use Rattle.target_units.specs.scsi_device.specs.Writes.{is_data_out, brings_byte}
 use Rattle.target_course.specs.Gathered.{Gathering, empty_gathering, gathering_of, gathering_with, bytes_of, GatheredValue, gathering_at, gathered_with, most_room, unit_room, empty_unit, nothing_gathered, gathered_seen, place_in_run, IsGatheringOf, IsGatheredOf, IsSentSo}
 use Rattle.target_units.specs.Seated.{is_same_process}
 use Rattle.target_course.proofs.ServedEnds.{ends_are}

@@ -10,13 +10,13 @@ use Rattle.bus_trace.specs.declared.Row.{Row}
 use Rattle.bus_trace.specs.declared.connection.Connection.{Connection}
 use Rattle.scenario.specs.Value.{ScenarioValue}
 use Rattle.disk_array.specs.Processes.{Process, process_of}
-use Rattle.bus_dialogue.specs.PhaseBytes.{one_if}
-use Rattle.bus_dialogue.specs.declared.exchange.Phase.{Phase}
-use Rattle.bus_dialogue.specs.declared.exchange.Phase.TheVariants as phases
+use Rattle.bus_due.specs.bus_dialogue.specs.PhaseBytes.{one_if}
+use Rattle.bus_due.specs.bus_dialogue.specs.declared.exchange.Phase.{Phase}
+use Rattle.bus_due.specs.bus_dialogue.specs.declared.exchange.Phase.TheVariants as phases
 use Rattle.bus_due.specs.LastingState.{progress_in}
 use Rattle.bus_due.specs.RunState.{RunState}
 use Rattle.bus_due.specs.RunSteps.{run_state}
-use Rattle.scsi_device.specs.Writes.{Writer, writer_of, is_data_out, writers_with, writers, is_writer, is_next_byte, start_of_run}
+use Rattle.target_units.specs.scsi_device.specs.Writes.{Writer, writer_of, is_data_out, writers_with, writers, is_writer, is_next_byte, start_of_run}
 use Rattle.target_course.specs.Gathered.{Gathering, empty_gathering, gathering_of, gathering_with, GatheredValue, gathering_at, gathered_with, HasCome, IsRunningIn, IsGatheringOf, AreAllGathered}
 use Rattle.target_units.specs.Seated.{is_same_process}
 use Rattle.target_course.proofs.GatheredRows.{own_so, unit_put}

@@ -14,8 +14,8 @@ use Rattle.scenario.specs.declared.value.CmdDef.{CmdDef}
 use Rattle.scenario.specs.declared.value.Policy.{Policy}
 use Rattle.scenario.specs.declared.value.Policy.TheVariants as policies
 use Rattle.disk_array.specs.Processes.{Process, command_at, process_by, process_if, process_of, sense_process, command_process}
-use Rattle.bus_dialogue.specs.DataRuns.{run_in}
-use Rattle.scsi_device.specs.Lines.{IsCommandLine}
+use Rattle.bus_due.specs.bus_dialogue.specs.DataRuns.{run_in}
+use Rattle.target_units.specs.scsi_device.specs.Lines.{IsCommandLine}
 use Rattle.target_course.specs.Gathered.{Gathering, gathering_with, write_room, most_room, unit_room}
 
 -- ---- a byte more

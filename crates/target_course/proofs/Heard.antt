@@ -4,9 +4,9 @@ use Rattle.bus_trace.specs.declared.Row.{Row}
 use Rattle.bus_trace.specs.declared.connection.Connection.{Connection}
 use Rattle.bus_trace.specs.Terms.{connection}
 use Rattle.scenario.specs.Value.{ScenarioValue}
-use Rattle.bus_story.specs.BusState.{RowReading, row_reading}
-use Rattle.bus_dialogue.specs.Planning.{plan_after}
-use Rattle.bus_dialogue.specs.Hearing.{hearing}
+use Rattle.bus_due.specs.bus_story.specs.BusState.{RowReading, row_reading}
+use Rattle.bus_due.specs.bus_dialogue.specs.Planning.{plan_after}
+use Rattle.bus_due.specs.bus_dialogue.specs.Hearing.{hearing}
 use Rattle.bus_due.specs.RunState.{RunState}
 use Rattle.bus_due.specs.RunSteps.{run_state, exchange_after, leaving_of}
 use Rattle.bus_due.specs.Sights.{hearing_of, leaving}

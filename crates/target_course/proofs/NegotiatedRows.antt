@@ -18,12 +18,12 @@ use Rattle.bus_trace.specs.declared.changes.Change.{Change}
 use Rattle.bus_trace.specs.declared.connection.Connection.{Connection}
 use Rattle.bus_trace.specs.declared.selection.Call.{Call}
 use Rattle.scenario.specs.Value.{ScenarioValue}
-use Rattle.bus_story.specs.BusState.{RowReading, row_reading}
-use Rattle.bus_story.specs.HistoryEvents.{row_events_by, link_events}
-use Rattle.bus_story.specs.TraceHistory.{aim_of}
-use Rattle.bus_dialogue.specs.Hearing.{hearing}
-use Rattle.bus_dialogue.specs.Planning.{first_plan}
-use Rattle.bus_dialogue.specs.declared.exchange.Hearing.{Hearing}
+use Rattle.bus_due.specs.bus_story.specs.BusState.{RowReading, row_reading}
+use Rattle.bus_due.specs.bus_story.specs.HistoryEvents.{row_events_by, link_events}
+use Rattle.bus_due.specs.bus_story.specs.TraceHistory.{aim_of}
+use Rattle.bus_due.specs.bus_dialogue.specs.Hearing.{hearing}
+use Rattle.bus_due.specs.bus_dialogue.specs.Planning.{first_plan}
+use Rattle.bus_due.specs.bus_dialogue.specs.declared.exchange.Hearing.{Hearing}
 use Rattle.bus_due.specs.LastingState.{Negotiated, has_negotiated, with_negotiated, pairs_without, negotiated_after_event, negotiated_after}
 use Rattle.bus_due.specs.Plain.{IsPlain, AreOfDevices}
 use Rattle.bus_due.specs.RunState.{RunState}
@@ -33,7 +33,7 @@ use Rattle.bus_due.specs.Sights.{hearing_of, leaving}
 use Rattle.bus_due.specs.Wants.{ready_of}
 use Rattle.target_course.specs.Negotiated.{NegotiatedValue, nobody_met, opened_in, met_by_opening, is_opening_left, met_by_connection, met_after_reset, met_after_event, met_after_events, negotiated_seen, is_open_to, HasMet, IsOpening, IsOpeningIf, IsNegotiatedOf, IsHeardSo}
 use Rattle.target_course.specs.Progress.{is_phase_left}
-use Rattle.scsi_device.specs.Heard.{heard}
+use Rattle.target_units.specs.scsi_device.specs.Heard.{heard}
 use Rattle.target_course.proofs.HeardOpenings.{left_told, cause_stays, phase_stays}
 use Rattle.target_course.proofs.ServedEnds.{connection_stays}
 use Rattle.bus_base.proofs.Tests.{or_false, put_at}

@@ -28,22 +28,22 @@ use Rattle.disk_unit.specs.declared.media.Plan.{Plan as UnitPlan}
 use Rattle.disk_unit.specs.declared.unit.Reply.{Reply as UnitReply}
 use Rattle.disk_unit.specs.Plans.{plan_of}
 use Rattle.disk_unit.specs.Units.{told_of, planned_reply}
-use Rattle.bus_story.specs.BusState.{RowReading, row_reading}
-use Rattle.bus_story.specs.CarriedBytes.{CarriedBytes}
-use Rattle.bus_story.specs.HistoryEvents.{carried_if, end_events, is_completion, row_events_by}
-use Rattle.bus_story.specs.Items.{Item, process, abort}
-use Rattle.bus_story.specs.Links.{Link}
-use Rattle.bus_story.specs.TraceHistory.{trace_history}
-use Rattle.bus_dialogue.specs.declared.exchange.Arrival.{Arrival}
-use Rattle.bus_dialogue.specs.declared.exchange.Arrival.TheVariants as arrivals
-use Rattle.bus_dialogue.specs.declared.exchange.Cause.{Cause}
-use Rattle.bus_dialogue.specs.declared.exchange.Cause.TheVariants as causes
-use Rattle.bus_dialogue.specs.declared.exchange.Phase.{Phase}
-use Rattle.bus_dialogue.specs.declared.exchange.Phase.TheVariants as phases
-use Rattle.bus_dialogue.specs.declared.exchange.Plan.{Plan}
-use Rattle.bus_dialogue.specs.Events.{arrival_event, arrival_events, arrival_run_events, detected_events, has_replied, is_status_next, leaving_events, newest_with, reply_events}
-use Rattle.bus_dialogue.specs.Hearing.{hearing}
-use Rattle.bus_dialogue.specs.NextPhase.{Serving, phase_leaving, phase_of}
+use Rattle.bus_due.specs.bus_story.specs.BusState.{RowReading, row_reading}
+use Rattle.bus_due.specs.bus_story.specs.CarriedBytes.{CarriedBytes}
+use Rattle.bus_due.specs.bus_story.specs.HistoryEvents.{carried_if, end_events, is_completion, row_events_by}
+use Rattle.bus_due.specs.bus_story.specs.Items.{Item, process, abort}
+use Rattle.bus_due.specs.bus_story.specs.Links.{Link}
+use Rattle.bus_due.specs.bus_story.specs.TraceHistory.{trace_history}
+use Rattle.bus_due.specs.bus_dialogue.specs.declared.exchange.Arrival.{Arrival}
+use Rattle.bus_due.specs.bus_dialogue.specs.declared.exchange.Arrival.TheVariants as arrivals
+use Rattle.bus_due.specs.bus_dialogue.specs.declared.exchange.Cause.{Cause}
+use Rattle.bus_due.specs.bus_dialogue.specs.declared.exchange.Cause.TheVariants as causes
+use Rattle.bus_due.specs.bus_dialogue.specs.declared.exchange.Phase.{Phase}
+use Rattle.bus_due.specs.bus_dialogue.specs.declared.exchange.Phase.TheVariants as phases
+use Rattle.bus_due.specs.bus_dialogue.specs.declared.exchange.Plan.{Plan}
+use Rattle.bus_due.specs.bus_dialogue.specs.Events.{arrival_event, arrival_events, arrival_run_events, detected_events, has_replied, is_status_next, leaving_events, newest_with, reply_events}
+use Rattle.bus_due.specs.bus_dialogue.specs.Hearing.{hearing}
+use Rattle.bus_due.specs.bus_dialogue.specs.NextPhase.{Serving, phase_leaving, phase_of}
 use Rattle.bus_due.specs.Allowed.{allowed, is_allowed}
 use Rattle.bus_due.specs.Plain.{IsPlain}
 use Rattle.bus_due.specs.RunState.{RunState, array_of, bus_of, or_start, process_item, process_served}
@@ -52,7 +52,7 @@ use Rattle.bus_due.specs.Sights.{hearing_of, serving_of}
 use Rattle.bus_due.specs.Tasks.{reply_now}
 use Rattle.bus_due.specs.Telling.{events_of_ends, events_of_ends_in, id_of, initiator_events, is_true_telling, target_events, telling}
 use Rattle.bus_due.proofs.SameEvents.{events_are}
-use Rattle.scsi_device.specs.Heard.{Instructions, heard, instructions, is_beginning, is_heard, is_heard_after, is_heard_on, is_heard_row, is_new, is_uncounted}
+use Rattle.target_units.specs.scsi_device.specs.Heard.{Instructions, heard, instructions, is_beginning, is_heard, is_heard_after, is_heard_on, is_heard_row, is_new, is_uncounted}
 use Rattle.target_course.specs.Courses.{events_of_target}
 use Rattle.target_course.specs.Replies.{reply_after, IsReplyOf, IsOutlookAt}
 use Rattle.target_units.specs.Seated.{reply_told}

@@ -13,15 +13,15 @@ use Rattle.bus_reactions.specs.declared.ends.Pace.{Pace}
 use Rattle.bus_reactions.specs.Linking.{link_due, sample_time}
 use Rattle.bus_reactions.specs.Ends as hand
 use Rattle.bus_reactions.specs.Reset.{with_reset}
-use Rattle.bus_dialogue.specs.declared.exchange.Leaving.{Leaving}
-use Rattle.bus_dialogue.specs.NextPhase.{leaving_by}
-use Rattle.bus_dialogue.specs.Ends.{offering_by}
+use Rattle.bus_due.specs.bus_dialogue.specs.declared.exchange.Leaving.{Leaving}
+use Rattle.bus_due.specs.bus_dialogue.specs.NextPhase.{leaving_by}
+use Rattle.bus_due.specs.bus_dialogue.specs.Ends.{offering_by}
 use Rattle.target_units.specs.declared.ready.Ready.{Ready}
 use Rattle.target_course.specs.declared.knowledge.Knowledge.{Knowledge}
 use Rattle.target_course.specs.Servings.{serving_with, AreBytesOf}
-use Rattle.scsi_device.specs.Told.{Told, told, pace_of, flip_by}
+use Rattle.target_units.specs.scsi_device.specs.Told.{Told, told, pace_of, flip_by}
 use Rattle.target_course.specs.States.{TargetState, state_of}
-use Rattle.bus_rules.specs.Order.{is_of_device}
+use Rattle.bus_due.specs.bus_rules.specs.Order.{is_of_device}
 
 abbrev pub myself_by : TargetDef → Told → TargetState → Myself
 myself_by d t i = record { dev = d.dev; latency = d.latency; own = t.lines; since = i.own.row }

@@ -11,3 +11,6 @@ pub mod Shown
 pub mod Progress
 pub mod Negotiated
 pub mod Gathered
+-- Handed on to the crates above that list this one and not these.
+pub use Rattle.target_units.specs.scsi_device
+pub use Rattle.target_units

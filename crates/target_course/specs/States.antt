@@ -8,11 +8,11 @@ use Rattle.scenario.specs.Value.{ScenarioValue}
 use Rattle.bus_trace.specs.Trace.{bus, drives}
 use Rattle.bus_lines.specs.Handshakes.{handshakes}
 use Rattle.bus_reactions.specs.declared.ends.Offering.{Offering}
-use Rattle.bus_dialogue.specs.Ends.{offering_by}
-use Rattle.bus_dialogue.specs.Hearing.{begun}
-use Rattle.scsi_device.specs.Told.{told, pace_of}
+use Rattle.bus_due.specs.bus_dialogue.specs.Ends.{offering_by}
+use Rattle.bus_due.specs.bus_dialogue.specs.Hearing.{begun}
+use Rattle.target_units.specs.scsi_device.specs.Told.{told, pace_of}
 use Rattle.target_course.specs.Alike.{AreAlike}
-use Rattle.bus_dialogue.specs.NextPhase as next_phase
+use Rattle.bus_due.specs.bus_dialogue.specs.NextPhase as next_phase
 use Rattle.bus_due.specs.Own.{Own, own_of}
 use Rattle.bus_due.specs.Defs.{host_of, target_def_of}
 use Rattle.bus_due.specs.Wants.{ready_of}

@@ -8,11 +8,11 @@ ghost use Rattle.bus_lines.specs.Timely.{IsTimely};
 ghost use Rattle.connect.specs.Ready as link;
 ghost use Rattle.handshake.specs.Bounds.{IsReady, IsSteady};
 ghost use Rattle.scenario.specs.Value.{ScenarioValue};
-ghost use Rattle.bus_dialogue.specs.Observer.{IsObserverOf};
+ghost use Rattle.bus_due.specs.bus_dialogue.specs.Observer.{IsObserverOf};
 ghost use Rattle.bus_due.specs.Next.{due};
 ghost use Rattle.bus_due.specs.Plain.{AreOfDevices};
 ghost use Rattle.bus_due.specs.RunSteps.{run_state};
-ghost use Rattle.scsi_device.specs.Told.{told, pace_of, first_fault};
+ghost use Rattle.target_units.specs.scsi_device.specs.Told.{told, pace_of, first_fault};
 ghost use Rattle.target_course.specs.States.{TargetState, state_of, IsTargetOf, IsTargetLine, IsNoInitiator, IsReadyWithin, IsWithin};
 ghost use Rattle.target_course.specs.Dues.{want_of_ready, link_by, HasBytesOf, offering_of_target, due_of_offering, plain_by, hand_by, calm_by, target_next};
 
@@ -20,14 +20,14 @@ use crate::knowledge::Knowledge;
 use crate::laws::dues_are_of_targets;
 use crate::offering::offering_by;
 use bus_base::Ns;
-use bus_dialogue::Observer;
+use bus_due::the_bus_dialogue::Observer;
 use bus_lines::BusView;
 use bus_reactions::{Due, Myself, Offering, Pace, Want};
 use connect::{due_with_reset, link_due, sample_time};
 use handshake::target_due;
 use scenario::{FaultDef, TargetDef};
-use scsi_device::{Itself, flip, lines_seen, pace, sampled};
 use target_units::Ready;
+use target_units::the_scsi_device::{Itself, flip, lines_seen, pace, sampled};
 
 /// What a target of this line is, by what the view shows of it.
 pub fn myself(def: &TargetDef, itself: &Itself, view: &BusView) -> Myself

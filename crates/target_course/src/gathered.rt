@@ -5,27 +5,27 @@ ghost use Rattle.bus_trace.specs.Terms.{connection as connection_after};
 ghost use Rattle.scenario.specs.Needs.{is_write, sent_count};
 ghost use Rattle.scenario.specs.Value.{ScenarioValue};
 ghost use Rattle.disk_array.specs.Processes.{Process, process_of};
-ghost use Rattle.bus_dialogue.specs.Hearing.{hearing as hearing_in};
+ghost use Rattle.bus_due.specs.bus_dialogue.specs.Hearing.{hearing as hearing_in};
 ghost use Rattle.bus_due.specs.Faithful.{faithful};
 ghost use Rattle.bus_due.specs.LastingState.{progress_in};
 ghost use Rattle.bus_due.specs.Plain.{AreOfDevices};
 ghost use Rattle.bus_due.specs.RunSteps.{run_state};
-ghost use Rattle.scsi_device.specs.Lines.{FitsBus};
-ghost use Rattle.scsi_device.specs.Writes.{is_data_out, brings_byte, written, start_of_run};
+ghost use Rattle.target_units.specs.scsi_device.specs.Lines.{FitsBus};
+ghost use Rattle.target_units.specs.scsi_device.specs.Writes.{is_data_out, brings_byte, written, start_of_run};
 ghost use Rattle.target_course.specs.Gathered.{empty_gathering, gathering_of, gathering_with, bytes_of, gathering_at, gathered_with, write_room, unit_room, empty_unit, nothing_gathered, gathered_seen, place_in_run, IsRunningIn, IsGatheredOf, AreAllGathered, IsSentSo, IsAtUnit};
 ghost use Rattle.target_units.specs.Seated.{is_same_process};
 
 use crate::data_runs::run_start;
 use crate::next_phase::phase_of;
 use bus_base::{Dev, NoMemory, ProcId};
-use bus_dialogue::{Hearing, Phase, Task};
+use bus_due::the_bus_dialogue::{Hearing, Phase, Task};
 use bus_due::{hearings_are_plain, kept_is_plain};
 use bus_trace::{Connection, rows_change_one_device};
 use cdb_codec::{CdbFault, Command, from_cdb};
 use scenario::{CmdDef, Policy, Scenario, need, sent_count};
-use scsi_device::scenarios_fit_the_bus;
 use std::alloc::Global;
 use std::marker::Model;
+use target_units::the_scsi_device::scenarios_fit_the_bus;
 
 // What came to a unit of one process, from the first byte on, as far as there is room.
 #[derive(Drop)]

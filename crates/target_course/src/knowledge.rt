@@ -1,7 +1,7 @@
 //! What a target knows itself.
 use crate::serving::{DataBytes, Serving};
-use scsi_device::Itself;
 use target_units::Ready;
+use target_units::the_scsi_device::Itself;
 
 /// What a target knows itself.
 #[derive(Clone, Copy)]

@@ -7,17 +7,17 @@ ghost use Rattle.scenario.specs.Value.{ScenarioValue};
 ghost use Rattle.bus_due.specs.Next.{due};
 ghost use Rattle.bus_due.specs.Plain.{AreOfDevices};
 ghost use Rattle.bus_due.specs.RunSteps.{run_state};
-ghost use Rattle.scsi_device.specs.Told.{told, first_fault};
+ghost use Rattle.target_units.specs.scsi_device.specs.Told.{told, first_fault};
 ghost use Rattle.target_course.specs.States.{TargetState, IsTargetOf, IsTargetLine, IsNoInitiator};
 ghost use Rattle.target_course.specs.Dues.{target_next};
 ghost use Rattle.target_course.specs.Plans.{plan_at, leaving_after, plan_begun};
 ghost use Rattle.bus_trace.specs.declared.connection.Connection.{Connection};
 ghost use Rattle.bus_trace.specs.Terms.{connection};
-ghost use Rattle.bus_dialogue.specs.Planning.{plan_after};
-ghost use Rattle.bus_dialogue.specs.Hearing.{hearing};
+ghost use Rattle.bus_due.specs.bus_dialogue.specs.Planning.{plan_after};
+ghost use Rattle.bus_due.specs.bus_dialogue.specs.Hearing.{hearing};
 
 use bus_due::{end_reactions_are_due, hearings_are_plain, kept_is_plain};
-use scsi_device::devices_know_enough;
+use target_units::the_scsi_device::devices_know_enough;
 
 /// What is due of a target is what it does next by what all devices are told, by what it knows itself, and by the first
 /// fault that has not struck yet.

@@ -53,3 +53,7 @@ pub use plans::{first_plan, no_plan, plan_after};
 pub use progress::{Counts, CountsPair, Progress, is_phase_left};
 pub use replies::{replies_come_later, reply_after};
 pub use serving::{DataBytes, Serving};
+
+// Handed on to the crates above that list this one and not these.
+pub use target_units as the_target_units;
+pub use target_units::the_scsi_device;

@@ -1,7 +1,7 @@
 //! What the target of a connection has to do in the phase (ANSI X3.131-1994, 6.1.5, 6.1.9, 6.2.1).
 ghost use Rattle.std.specs.Prelude.{ℕ, ◌≡◌, ◌<◌, ◌^◌, List};
-ghost use Rattle.bus_dialogue.specs.NextPhase.{leaving_by};
-ghost use Rattle.bus_dialogue.specs.Ends.{seek_before, follows_by, offering_by};
+ghost use Rattle.bus_due.specs.bus_dialogue.specs.NextPhase.{leaving_by};
+ghost use Rattle.bus_due.specs.bus_dialogue.specs.Ends.{seek_before, follows_by, offering_by};
 ghost use Rattle.target_course.specs.Fits.{AreFit};
 ghost use Rattle.target_course.specs.Servings.{serving_with, AreBytesOf};
 

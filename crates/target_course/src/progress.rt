@@ -5,7 +5,7 @@ ghost use Rattle.bus_trace.specs.declared.Row.{Row};
 ghost use Rattle.bus_trace.specs.Terms.{connection as connection_after};
 ghost use Rattle.scenario.specs.Value.{ScenarioValue};
 ghost use Rattle.disk_array.specs.Processes.{Process, process_of};
-ghost use Rattle.bus_dialogue.specs.Hearing.{hearing as hearing_in};
+ghost use Rattle.bus_due.specs.bus_dialogue.specs.Hearing.{hearing as hearing_in};
 ghost use Rattle.bus_due.specs.Faithful.{faithful};
 ghost use Rattle.bus_due.specs.LastingState.{progress_in};
 ghost use Rattle.bus_due.specs.Plain.{AreOfDevices};
@@ -14,7 +14,7 @@ ghost use Rattle.target_course.specs.Progress.{no_counts, counts_after, no_pair,
 ghost use Rattle.bus_phases.specs.Phases.{count_after};
 
 use bus_base::{Dev, NoMemory, ProcId};
-use bus_dialogue::{Hearing, Leaving};
+use bus_due::the_bus_dialogue::{Hearing, Leaving};
 use bus_due::{hearings_are_plain, kept_is_plain};
 use bus_phases::count_after;
 use bus_trace::{Connection, changes_phase};

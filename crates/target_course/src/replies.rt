@@ -11,7 +11,7 @@ ghost use Rattle.disk_unit.specs.Units.{told_of, planned_reply};
 ghost use Rattle.bus_due.specs.Allowed.{allowed};
 ghost use Rattle.bus_due.specs.Plain.{AreOfDevices};
 ghost use Rattle.bus_due.specs.Telling.{telling};
-ghost use Rattle.scsi_device.specs.Heard.{heard};
+ghost use Rattle.target_units.specs.scsi_device.specs.Heard.{heard};
 ghost use Rattle.target_course.specs.Courses.{events_of_target};
 ghost use Rattle.target_course.specs.Replies.{reply_if, reply_after, IsReplyOf, IsOutlookAt};
 ghost use Rattle.target_course.specs.Shown.{shown_list};

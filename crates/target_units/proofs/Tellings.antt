@@ -20,7 +20,7 @@ use Rattle.disk_array.specs.Units.{RunningProcess, UnitState, has_no_current}
 use Rattle.disk_array.specs.Steps.{process_count, running_count}
 use Rattle.disk_array.specs.Seats
 use Rattle.disk_array.specs.Seats.{Seat}
-use Rattle.bus_dialogue.specs.Wants.{ready_in}
+use Rattle.bus_due.specs.bus_dialogue.specs.Wants.{ready_in}
 use Rattle.tag_queue.specs.Queue.{is_held}
 use Rattle.disk_unit.specs.Books.{UnitBooks, sense_or_none}
 use Rattle.disk_unit.specs.Disk.{disk_reply, disk_context}

@@ -9,7 +9,7 @@ use Rattle.disk_array.specs.Steps.{context_at}
 use Rattle.disk_array.specs.Seats
 use Rattle.disk_array.specs.Seats.{Seat, seat_of}
 use Rattle.disk_array.specs.SoundArray.{IsSound, IsOwnRunning}
-use Rattle.bus_dialogue.specs.Wants as wants
+use Rattle.bus_due.specs.bus_dialogue.specs.Wants as wants
 use Rattle.bus_due.specs.Wants as due
 use Rattle.bus_due.specs.Tasks.{room_of, size_of, reply_now}
 use Rattle.target_units.specs.Readies.{ready_unit}

@@ -4,3 +4,5 @@ pub mod Readies
 pub mod Units
 pub mod Fillings
 pub mod Rooms
+-- Handed on to the crates above that list this one and not these.
+pub use Rattle.scsi_device

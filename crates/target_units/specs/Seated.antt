@@ -25,7 +25,7 @@ use Rattle.disk_unit.specs.Units.{IsAborted, is_reported, bytes_taken, books_if_
 use Rattle.disk_unit.specs.declared.unit.Accepted.{Accepted}
 use Rattle.disk_unit.specs.declared.unit.Accepted.TheVariants as accepted
 use Rattle.disk_unit.specs.declared.unit.Reply.{Reply as UnitReply}
-use Rattle.bus_dialogue.specs.declared.exchange.Room.{Room}
+use Rattle.bus_due.specs.bus_dialogue.specs.declared.exchange.Room.{Room}
 use Rattle.target_units.specs.declared.ready.Ready.{Ready}
 use Rattle.bus_due.specs.RunSteps.{is_same_running}
 

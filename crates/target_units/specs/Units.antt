@@ -12,7 +12,7 @@ use Rattle.disk_array.specs.SoundArray.{HasSeats, IsSound}
 use Rattle.disk_array.specs.Steps.{step}
 use Rattle.disk_array.specs.Execution.{Reply, execution}
 use Rattle.disk_array.specs.Units.{Array, UnitState}
-use Rattle.bus_dialogue.specs.declared.exchange.Room.{Room}
+use Rattle.bus_due.specs.bus_dialogue.specs.declared.exchange.Room.{Room}
 use Rattle.disk_array.specs.Contents.{Contents}
 use Rattle.disk_unit.specs.Books.{books_after_reset}
 use Rattle.disk_unit.specs.Sparse.{Store}

@@ -28,3 +28,6 @@ pub use logical::LogicalUnit;
 pub use ready::Ready;
 pub use seated::SeatedUnit;
 pub use units::Units;
+
+// Handed on to the crates above that list this one and not these.
+pub use scsi_device as the_scsi_device;

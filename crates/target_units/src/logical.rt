@@ -11,7 +11,7 @@ ghost use Rattle.disk_array.specs.Execution.{Reply as ArrayReply, execution, is_
 ghost use Rattle.disk_array.specs.Processes.{Process};
 ghost use Rattle.disk_array.specs.Units.{RunningProcess, guest_at, starting_array};
 ghost use Rattle.disk_array.specs.Seats.{Seat, seat_of, settled_seat, seat_after_accept, seat_after_refuse, seat_after_run, seat_after_failure, seat_after_end, seat_after_loss, seat_after_aborted, current_of, running_at, context_of, contents_of, is_any_held, is_initiator};
-ghost use Rattle.bus_dialogue.specs.Wants.{ready_in};
+ghost use Rattle.bus_due.specs.bus_dialogue.specs.Wants.{ready_in};
 ghost use Rattle.disk_unit.specs.Disk.{blocks_written};
 ghost use Rattle.disk_unit.specs.Units.{told_of};
 ghost use Rattle.disk_unit.specs.Plans.{plan_of};
@@ -26,7 +26,7 @@ use crate::absent::AbsentUnit;
 use crate::ready::Ready;
 use crate::seated::SeatedUnit;
 use bus_base::{AbortKind, Class, Dev, NoMemory, Ns, ProcId};
-use bus_dialogue::Room;
+use bus_due::the_bus_dialogue::Room;
 use disk_unit::{Accepted, Plan, Reply, SparseBlocks};
 use scenario::{Scenario, TargetDef, UnitDef, unit_line};
 use std::alloc::Global;

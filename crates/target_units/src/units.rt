@@ -28,7 +28,7 @@ ghost use Rattle.bus_due.specs.Tasks.{room_of, size_of, reply_now};
 use crate::logical::LogicalUnit;
 use crate::ready::Ready;
 use bus_base::{AbortKind, Class, Dev, NoMemory, Ns, ProcId};
-use bus_dialogue::Room;
+use bus_due::the_bus_dialogue::Room;
 use disk_unit::{Accepted, Plan, Reply, SparseBlocks};
 use scenario::{Scenario, TargetDef};
 use scsi_device::scenarios_fit_the_bus;

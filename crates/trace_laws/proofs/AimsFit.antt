@@ -4,36 +4,36 @@ use Rattle.std.proofs.Common.{inl, inr, ℕ, zero, suc, ◌≡◌, ◌≢◌, �
 use Rattle.std.specs.Prelude.{if◌then◌else◌, is_some, is_none, slice_set}
 use Rattle.std.proofs.lemmas.Bool.{cases_eq}
 use Rattle.std.proofs.lemmas.Option.{same_Some}
-use Rattle.bus_trace.specs.LineSet.{LineSet, none}
-use Rattle.bus_trace.proofs.Buses.{bus_off}
-use Rattle.bus_trace.proofs.OneRow.{drives-other}
-use Rattle.bus_trace.specs.declared.Row.{Row}
-use Rattle.bus_trace.specs.declared.arbitration.Arbitration.{Arbitration}
-use Rattle.bus_trace.specs.declared.selection.Call.{Call}
-use Rattle.bus_trace.specs.declared.changes.Change.{Change}
-use Rattle.bus_trace.specs.Changes.{change_of, rises, falls}
-use Rattle.bus_trace.specs.Terms.{is_free, arbitration, arbitration_after, call, call_goes_on, connection, connection_after, free_since}
-use Rattle.bus_trace.specs.Trace.{bus, drives, driven_after}
-use Rattle.scenario.specs.Value.{ScenarioValue}
-use Rattle.bus_base.specs.declared.Event.{Event}
-use Rattle.bus_story.specs.BusState.{RowReading, row_reading}
-use Rattle.bus_story.specs.Items.{Item, Sent, item_at}
-use Rattle.bus_story.specs.HistoryEvents.{row_events_by}
-use Rattle.bus_story.specs.Story.{Story}
-use Rattle.bus_story.specs.TraceHistory.{aim_of, is_arbitration_entry, story_with_aim, story_on_free_bus, story_by_change}
+use Rattle.bus_due.specs.bus_trace.specs.LineSet.{LineSet, none}
+use Rattle.bus_due.specs.bus_trace.proofs.Buses.{bus_off}
+use Rattle.bus_due.specs.bus_trace.proofs.OneRow.{drives-other}
+use Rattle.bus_due.specs.bus_trace.specs.declared.Row.{Row}
+use Rattle.bus_due.specs.bus_trace.specs.declared.arbitration.Arbitration.{Arbitration}
+use Rattle.bus_due.specs.bus_trace.specs.declared.selection.Call.{Call}
+use Rattle.bus_due.specs.bus_trace.specs.declared.changes.Change.{Change}
+use Rattle.bus_due.specs.bus_trace.specs.Changes.{change_of, rises, falls}
+use Rattle.bus_due.specs.bus_trace.specs.Terms.{is_free, arbitration, arbitration_after, call, call_goes_on, connection, connection_after, free_since}
+use Rattle.bus_due.specs.bus_trace.specs.Trace.{bus, drives, driven_after}
+use Rattle.bus_due.specs.scenario.specs.Value.{ScenarioValue}
+use Rattle.bus_due.specs.bus_base.specs.declared.Event.{Event}
+use Rattle.bus_due.specs.bus_story.specs.BusState.{RowReading, row_reading}
+use Rattle.bus_due.specs.bus_story.specs.Items.{Item, Sent, item_at}
+use Rattle.bus_due.specs.bus_story.specs.HistoryEvents.{row_events_by}
+use Rattle.bus_due.specs.bus_story.specs.Story.{Story}
+use Rattle.bus_due.specs.bus_story.specs.TraceHistory.{aim_of, is_arbitration_entry, story_with_aim, story_on_free_bus, story_by_change}
 use Rattle.bus_due.specs.Plain.{AreOfDevices}
 use Rattle.bus_due.specs.RunState.{RunState}
 use Rattle.bus_due.specs.RunSteps.{run_state, run_state_with_events}
 use Rattle.bus_due.proofs.Plains.{run_state_plain}
-use Rattle.bus_laws.proofs.Apart.{change_plain, free_by, nothing_shown, on_free}
+use Rattle.link_laws.specs.bus_laws.proofs.Apart.{change_plain, free_by, nothing_shown, on_free}
 use Rattle.trace_laws.proofs.Called.{sel_of_call}
 use Rattle.trace_laws.proofs.Impossible.{none_some}
 use Rattle.trace_laws.proofs.Tests.{falls_true}
 use Rattle.trace_laws.proofs.UnderRst.{line_off, drives_next}
 use Rattle.trace_laws.proofs.NextItems.{IsNextIf, next_is}
 use Rattle.trace_laws.specs.ItemFacts.{IsNext, IsAimed, AimsFit}
-use Rattle.bus_base.proofs.Tests.{wrong, wrong'}
-use Rattle.disk_array.specs.Seats.{is_initiator}
+use Rattle.bus_due.specs.bus_base.proofs.Tests.{wrong, wrong'}
+use Rattle.bus_due.specs.disk_array.specs.Seats.{is_initiator}
 
 -- ---- aims
 

@@ -2,22 +2,22 @@
 use Rattle.std.proofs.Common.{ℕ, ◌≡◌, Bool, true, false, not, ◌&&◌, ◌||◌, ◌==◌, ◌∙◌, List, [], ◌∷◌, Option, Some, None, refl, sym, ap}
 use Rattle.std.specs.Prelude.{if◌then◌else◌, is_some}
 use Rattle.std.proofs.lemmas.Option.{same_Some}
-use Rattle.bus_base.specs.declared.ProcId.{ProcId}
-use Rattle.bus_base.specs.declared.Event.TheVariants as events
-use Rattle.scenario.specs.Value.{ScenarioValue}
-use Rattle.disk_array.specs.ArrayHistory.{reply_in}
-use Rattle.disk_array.specs.Contents.{Contents}
-use Rattle.disk_array.specs.Processes.{Process, process_of, same_id}
-use Rattle.disk_array.specs.Execution.{Reply, CommandContext, Execution, execution, aborted_reply}
-use Rattle.disk_array.specs.Order.{choice, without_process}
-use Rattle.disk_array.specs.Seats as Seats
-use Rattle.disk_array.specs.Seats.{Seat, seat_of, seat_if, settled_seat, settled_seat_if, current_of, running_at, unit_mapped, unit_with_choice, unit_with_reply, unit_with_contents}
-use Rattle.disk_array.specs.SoundArray.{IsSound, HasSeats}
-use Rattle.disk_array.specs.Units.{RunningProcess, UnitState, Array, unit_state_at, guest_at, without_guest, nexus_of, has_no_current, with_current, settled_array, without_reply}
-use Rattle.disk_array.specs.Steps as Steps
-use Rattle.disk_array.specs.Steps.{running_if, guests_with_reply, has_ended}
-use Rattle.disk_array.proofs.SeatLaws.{run_law, fail_law}
-use Rattle.disk_array.proofs.SoundArrays.{step_sound}
+use Rattle.bus_due.specs.bus_base.specs.declared.ProcId.{ProcId}
+use Rattle.bus_due.specs.bus_base.specs.declared.Event.TheVariants as events
+use Rattle.bus_due.specs.scenario.specs.Value.{ScenarioValue}
+use Rattle.bus_due.specs.disk_array.specs.ArrayHistory.{reply_in}
+use Rattle.bus_due.specs.disk_array.specs.Contents.{Contents}
+use Rattle.bus_due.specs.disk_array.specs.Processes.{Process, process_of, same_id}
+use Rattle.bus_due.specs.disk_array.specs.Execution.{Reply, CommandContext, Execution, execution, aborted_reply}
+use Rattle.bus_due.specs.disk_array.specs.Order.{choice, without_process}
+use Rattle.bus_due.specs.disk_array.specs.Seats as Seats
+use Rattle.bus_due.specs.disk_array.specs.Seats.{Seat, seat_of, seat_if, settled_seat, settled_seat_if, current_of, running_at, unit_mapped, unit_with_choice, unit_with_reply, unit_with_contents}
+use Rattle.bus_due.specs.disk_array.specs.SoundArray.{IsSound, HasSeats}
+use Rattle.bus_due.specs.disk_array.specs.Units.{RunningProcess, UnitState, Array, unit_state_at, guest_at, without_guest, nexus_of, has_no_current, with_current, settled_array, without_reply}
+use Rattle.bus_due.specs.disk_array.specs.Steps as Steps
+use Rattle.bus_due.specs.disk_array.specs.Steps.{running_if, guests_with_reply, has_ended}
+use Rattle.bus_due.specs.disk_array.proofs.SeatLaws.{run_law, fail_law}
+use Rattle.bus_due.specs.disk_array.proofs.SoundArrays.{step_sound}
 use Rattle.bus_books.proofs.Lookups.{self_id}
 use Rattle.trace_laws.specs.Places.{Waits, Runs, OnUnits, OnGuests, IsAway, IsAtRest, MayRun, IsAnswered}
 use Rattle.trace_laws.proofs.EachProcess.{each_settled}
@@ -25,7 +25,7 @@ use Rattle.trace_laws.proofs.Impossible.{none_some, some_none}
 use Rattle.trace_laws.proofs.OtherProcesses.{reply_at, executed, away_rests}
 use Rattle.trace_laws.proofs.SeatedProcesses.{running_own}
 use Rattle.trace_laws.proofs.ListedReplies.{running_id}
-use Rattle.disk_array.proofs.SeatReplies.{first, guest_replied, no_guest_replied}
+use Rattle.bus_due.specs.disk_array.proofs.SeatReplies.{first, guest_replied, no_guest_replied}
 
 -- ---- a reply is given at a seat
 

@@ -3,28 +3,28 @@ use Rattle.std.proofs.Common.{ℕ, ◌≡◌, ◌<◌, Bool, true, false, not, �
 use Rattle.std.specs.Prelude.{if◌then◌else◌, is_some, is_none, nat_lt, ◌==◌}
 use Rattle.std.specs.List.{AllByRecursion}
 use Rattle.std.proofs.lemmas.Option.{same_Some}
-use Rattle.bus_base.specs.declared.AbortKind.{AbortKind}
-use Rattle.bus_base.specs.declared.AbortKind.TheVariants as aborts
-use Rattle.bus_base.specs.declared.Event.{Event}
-use Rattle.bus_base.specs.declared.Event.TheVariants as events
-use Rattle.bus_base.specs.declared.ProcId.{ProcId}
-use Rattle.cdb_codec.specs.Cdb.{command_of}
-use Rattle.cdb_codec.specs.declared.command.Sense.{Sense}
-use Rattle.cdb_codec.specs.declared.sense.TheConstants.{ABORTED_COMMAND}
-use Rattle.cdb_codec.specs.declared.status.TheConstants.{GOOD, CHECK_CONDITION}
-use Rattle.scenario.specs.declared.value.FillDef.{FillDef}
-use Rattle.scenario.specs.declared.value.HostDef.{HostDef}
-use Rattle.scenario.specs.declared.value.UnitDef.{UnitDef}
-use Rattle.scenario.specs.Value.{ScenarioValue}
+use Rattle.bus_due.specs.bus_base.specs.declared.AbortKind.{AbortKind}
+use Rattle.bus_due.specs.bus_base.specs.declared.AbortKind.TheVariants as aborts
+use Rattle.bus_due.specs.bus_base.specs.declared.Event.{Event}
+use Rattle.bus_due.specs.bus_base.specs.declared.Event.TheVariants as events
+use Rattle.bus_due.specs.bus_base.specs.declared.ProcId.{ProcId}
+use Rattle.bus_due.specs.cdb_codec.specs.Cdb.{command_of}
+use Rattle.bus_due.specs.cdb_codec.specs.declared.command.Sense.{Sense}
+use Rattle.bus_due.specs.cdb_codec.specs.declared.sense.TheConstants.{ABORTED_COMMAND}
+use Rattle.bus_due.specs.cdb_codec.specs.declared.status.TheConstants.{GOOD, CHECK_CONDITION}
+use Rattle.bus_due.specs.scenario.specs.declared.value.FillDef.{FillDef}
+use Rattle.bus_due.specs.scenario.specs.declared.value.HostDef.{HostDef}
+use Rattle.bus_due.specs.scenario.specs.declared.value.UnitDef.{UnitDef}
+use Rattle.bus_due.specs.scenario.specs.Value.{ScenarioValue}
 use Rattle.text_words.specs.Spelling.{AreBytes}
-use Rattle.disk_array.specs.Contents.{Contents, filled_contents, blank_contents, with_block}
-use Rattle.disk_array.specs.Execution.{Reply, Execution, execution, is_request_sense, check_condition, queue_full, sense_of, commands_cleared}
-use Rattle.disk_array.specs.Order.{choice}
-use Rattle.disk_array.specs.Processes.{Process, process_of, same_id}
-use Rattle.disk_array.specs.SoundArray.{IsOwnRunning, AllOwnUnits, AllOwnGuests}
-use Rattle.disk_array.specs.Steps
-use Rattle.disk_array.specs.Units.{RunningProcess, UnitState, Nexus, Array, same_nexus, sense_of_nexus, senses_without, nexuses_without, is_held, unit_state_at, with_unit, guest_at, without_guest, with_current, has_no_current, units_after_choice, settled_array, starting_array, starting_units, nexus_of}
-use Rattle.scsi_device.proofs.Finds.{all_more}
+use Rattle.bus_due.specs.disk_array.specs.Contents.{Contents, filled_contents, blank_contents, with_block}
+use Rattle.bus_due.specs.disk_array.specs.Execution.{Reply, Execution, execution, is_request_sense, check_condition, queue_full, sense_of, commands_cleared}
+use Rattle.bus_due.specs.disk_array.specs.Order.{choice}
+use Rattle.bus_due.specs.disk_array.specs.Processes.{Process, process_of, same_id}
+use Rattle.bus_due.specs.disk_array.specs.SoundArray.{IsOwnRunning, AllOwnUnits, AllOwnGuests}
+use Rattle.bus_due.specs.disk_array.specs.Steps
+use Rattle.bus_due.specs.disk_array.specs.Units.{RunningProcess, UnitState, Nexus, Array, same_nexus, sense_of_nexus, senses_without, nexuses_without, is_held, unit_state_at, with_unit, guest_at, without_guest, with_current, has_no_current, units_after_choice, settled_array, starting_array, starting_units, nexus_of}
+use Rattle.target_units.specs.scsi_device.proofs.Finds.{all_more}
 use Rattle.trace_laws.proofs.ByteExecutions.{HoldsBytes, block_small, IsByteSense, HasByteReply, check_small, HasByteContext, gives_bytes}
 use Rattle.trace_laws.proofs.Impossible.{none_some}
 

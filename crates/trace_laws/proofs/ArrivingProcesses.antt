@@ -5,19 +5,19 @@ use Rattle.std.specs.Prelude.{if◌then◌else◌, is_some, nat_lt}
 use Rattle.std.specs.List.{list_any}
 use Rattle.std.proofs.lemmas.Bool.Decides.{nat_tests}
 use Rattle.std.proofs.lemmas.Option.{same_Some}
-use Rattle.bus_base.specs.declared.ProcId.{ProcId}
-use Rattle.bus_base.specs.declared.events.Pick.{Pick}
-use Rattle.bus_base.specs.declared.events.Pick.TheVariants as picks
-use Rattle.bus_base.specs.declared.Event.TheVariants as events
-use Rattle.cdb_codec.specs.Cdb.{command_of}
-use Rattle.scenario.specs.Value.{ScenarioValue}
-use Rattle.disk_array.specs.ArrayHistory.{reply_in}
-use Rattle.disk_array.specs.Processes.{Process, process_of, same_id}
-use Rattle.disk_array.specs.Execution.{Reply, is_request_sense, queue_full, aborted_reply}
-use Rattle.disk_array.specs.Order.{choice, process_at_if, picked_place, runnable_by, entry_of, is_head, is_ordered, has_none_before, has_ordered, is_held_back}
-use Rattle.disk_array.specs.Units.{RunningProcess, UnitState, Nexus, Array, is_held, unit_state_at, with_unit, guest_at, has_no_current, with_current, unit_after_choice, units_after_choice, settled_array, without_reply}
-use Rattle.disk_array.specs.Steps as Steps
-use Rattle.disk_array.specs.Steps.{process_count, running_if, running_in, running_process, is_waiting, has_ended}
+use Rattle.bus_due.specs.bus_base.specs.declared.ProcId.{ProcId}
+use Rattle.bus_due.specs.bus_base.specs.declared.events.Pick.{Pick}
+use Rattle.bus_due.specs.bus_base.specs.declared.events.Pick.TheVariants as picks
+use Rattle.bus_due.specs.bus_base.specs.declared.Event.TheVariants as events
+use Rattle.bus_due.specs.cdb_codec.specs.Cdb.{command_of}
+use Rattle.bus_due.specs.scenario.specs.Value.{ScenarioValue}
+use Rattle.bus_due.specs.disk_array.specs.ArrayHistory.{reply_in}
+use Rattle.bus_due.specs.disk_array.specs.Processes.{Process, process_of, same_id}
+use Rattle.bus_due.specs.disk_array.specs.Execution.{Reply, is_request_sense, queue_full, aborted_reply}
+use Rattle.bus_due.specs.disk_array.specs.Order.{choice, process_at_if, picked_place, runnable_by, entry_of, is_head, is_ordered, has_none_before, has_ordered, is_held_back}
+use Rattle.bus_due.specs.disk_array.specs.Units.{RunningProcess, UnitState, Nexus, Array, is_held, unit_state_at, with_unit, guest_at, has_no_current, with_current, unit_after_choice, units_after_choice, settled_array, without_reply}
+use Rattle.bus_due.specs.disk_array.specs.Steps as Steps
+use Rattle.bus_due.specs.disk_array.specs.Steps.{process_count, running_if, running_in, running_process, is_waiting, has_ended}
 use Rattle.bus_books.proofs.Lookups.{self_id}
 use Rattle.trace_laws.specs.Places.{Waits, Runs, OnUnits, OnGuests, Each, IsAway, IsUnanswered, IsAtRest, IsUntouched, IsOutside, MayRun, IsAnswered, AreWithin}
 use Rattle.trace_laws.proofs.EachProcess.{append_waits, with_units, unit_has, chosen, each_settled}
@@ -25,7 +25,7 @@ use Rattle.trace_laws.proofs.Impossible.{none_some, some_none}
 use Rattle.trace_laws.proofs.OtherProcesses.{away_units}
 use Rattle.trace_laws.proofs.QueueDepths.{unit_within}
 use Rattle.std.proofs.lemmas.Bool.{eqb-true}
-use Rattle.bus_base.proofs.Tests.{and_first, and_second}
+use Rattle.bus_due.specs.bus_base.proofs.Tests.{and_first, and_second}
 
 -- ---- who is away is not found
 

@@ -3,33 +3,33 @@
 use Rattle.std.proofs.Common.{inl, inr, ℕ, ◌≡◌, ◌⊎◌, ◌<◌, Bool, true, false, not, ◌∙◌, List, [], ◌∷◌, Option, Some, None, refl, sym, ap, subst}
 use Rattle.std.specs.Prelude.{if◌then◌else◌, is_some}
 use Rattle.std.proofs.lemmas.Option.{same_Some}
-use Rattle.bus_trace.proofs.Sets.{same_set-eq}
-use Rattle.bus_trace.specs.LineSet.{LineSet, union}
-use Rattle.bus_trace.specs.declared.Row.{Row}
-use Rattle.bus_trace.specs.declared.changes.Change.{Change}
-use Rattle.bus_trace.specs.declared.connection.Connection.{Connection}
-use Rattle.bus_trace.specs.declared.selection.Call.{Call}
-use Rattle.bus_trace.specs.declared.selection.Calling.{Calling}
-use Rattle.bus_trace.specs.Changes.{change_of, falls}
-use Rattle.bus_trace.specs.Phases.{changes_phase, is_command}
-use Rattle.bus_trace.specs.Terms.{call, connected, connected_by, connected_of, connection, connection_after, connection_of}
-use Rattle.bus_trace.specs.Trace.{bus}
-use Rattle.bus_rules.specs.Reset.{only_rst}
-use Rattle.bus_rules.specs.Rules.{broken_rule}
-use Rattle.scenario.specs.Value.{ScenarioValue}
-use Rattle.scenario.specs.Writing.{Obeys}
-use Rattle.disk_array.specs.ArrayHistory.{reply_in}
-use Rattle.disk_array.specs.Units.{Array}
-use Rattle.disk_array.specs.Seats.{is_initiator}
-use Rattle.bus_story.specs.BusState.{RowReading, row_reading}
-use Rattle.bus_story.specs.CarriedBytes.{CarriedBytes, carried_of, is_status_phase}
-use Rattle.bus_story.specs.HistoryEvents.{bus_free_events, carried_if, connection_events, end_events, is_completion, phase_events}
-use Rattle.bus_story.specs.Items.{Item, process, abort}
-use Rattle.bus_story.specs.Links.{Link}
-use Rattle.bus_story.specs.TraceHistory.{aim_of}
-use Rattle.bus_dialogue.specs.declared.exchange.Hearing.{Hearing}
-use Rattle.bus_dialogue.specs.Events.{is_status_next}
-use Rattle.bus_dialogue.specs.NextPhase.{phase_of}
+use Rattle.bus_due.specs.bus_trace.proofs.Sets.{same_set-eq}
+use Rattle.bus_due.specs.bus_trace.specs.LineSet.{LineSet, union}
+use Rattle.bus_due.specs.bus_trace.specs.declared.Row.{Row}
+use Rattle.bus_due.specs.bus_trace.specs.declared.changes.Change.{Change}
+use Rattle.bus_due.specs.bus_trace.specs.declared.connection.Connection.{Connection}
+use Rattle.bus_due.specs.bus_trace.specs.declared.selection.Call.{Call}
+use Rattle.bus_due.specs.bus_trace.specs.declared.selection.Calling.{Calling}
+use Rattle.bus_due.specs.bus_trace.specs.Changes.{change_of, falls}
+use Rattle.bus_due.specs.bus_trace.specs.Phases.{changes_phase, is_command}
+use Rattle.bus_due.specs.bus_trace.specs.Terms.{call, connected, connected_by, connected_of, connection, connection_after, connection_of}
+use Rattle.bus_due.specs.bus_trace.specs.Trace.{bus}
+use Rattle.bus_due.specs.bus_rules.specs.Reset.{only_rst}
+use Rattle.bus_due.specs.bus_rules.specs.Rules.{broken_rule}
+use Rattle.bus_due.specs.scenario.specs.Value.{ScenarioValue}
+use Rattle.bus_due.specs.scenario.specs.Writing.{Obeys}
+use Rattle.bus_due.specs.disk_array.specs.ArrayHistory.{reply_in}
+use Rattle.bus_due.specs.disk_array.specs.Units.{Array}
+use Rattle.bus_due.specs.disk_array.specs.Seats.{is_initiator}
+use Rattle.bus_due.specs.bus_story.specs.BusState.{RowReading, row_reading}
+use Rattle.bus_due.specs.bus_story.specs.CarriedBytes.{CarriedBytes, carried_of, is_status_phase}
+use Rattle.bus_due.specs.bus_story.specs.HistoryEvents.{bus_free_events, carried_if, connection_events, end_events, is_completion, phase_events}
+use Rattle.bus_due.specs.bus_story.specs.Items.{Item, process, abort}
+use Rattle.bus_due.specs.bus_story.specs.Links.{Link}
+use Rattle.bus_due.specs.bus_story.specs.TraceHistory.{aim_of}
+use Rattle.bus_due.specs.bus_dialogue.specs.declared.exchange.Hearing.{Hearing}
+use Rattle.bus_due.specs.bus_dialogue.specs.Events.{is_status_next}
+use Rattle.bus_due.specs.bus_dialogue.specs.NextPhase.{phase_of}
 use Rattle.bus_due.specs.Least.{IsLeast}
 use Rattle.bus_due.specs.Next.{due, IsPrompt}
 use Rattle.bus_due.specs.Plain.{IsPlain}
@@ -38,11 +38,11 @@ use Rattle.bus_due.specs.RunSteps.{item_if, run_state, served_after, events_of_r
 use Rattle.bus_due.specs.Sights.{hearing_of}
 use Rattle.bus_due.specs.Wants.{abort_target, initiator_if, ready_of, target_of}
 use Rattle.bus_due.proofs.Plains.{run_state_plain}
-use Rattle.scsi_device.specs.Heard.{Instructions, instructions, instructions_after, instructions_on, instructions_with}
-use Rattle.scsi_device.proofs.PhaseLines.{command_is}
+use Rattle.target_units.specs.scsi_device.specs.Heard.{Instructions, instructions, instructions_after, instructions_on, instructions_with}
+use Rattle.target_units.specs.scsi_device.proofs.PhaseLines.{command_is}
 use Rattle.bus_books.specs.Knowing.{Knows}
-use Rattle.bus_laws.proofs.Apart.{change_plain}
-use Rattle.bus_laws.proofs.Prompt.{least_is}
+use Rattle.link_laws.specs.bus_laws.proofs.Apart.{change_plain}
+use Rattle.link_laws.specs.bus_laws.proofs.Prompt.{least_is}
 use Rattle.link_laws.specs.LinkStages.{AnyStage, apart, linked}
 use Rattle.trace_laws.specs.Attendance.{AbortsBetween, AnswersBadly, AttendedFacts, IsNotGood}
 use Rattle.trace_laws.specs.AttendanceAsked.{AttendanceAsked}
@@ -62,7 +62,7 @@ use Rattle.trace_laws.proofs.RowAttendance.{no_item}
 use Rattle.trace_laws.proofs.ShownEvents.{row_shows}
 use Rattle.trace_laws.proofs.UnderRst.{quiet_at_end}
 use Rattle.trace_laws.proofs.UnknownTurns.{fails_first, turn_gives}
-use Rattle.bus_base.proofs.Tests.{wrong, wrong'}
+use Rattle.bus_due.specs.bus_base.proofs.Tests.{wrong, wrong'}
 
 -- ---- as a selection begins a connection for an abort
 
@@ -108,7 +108,7 @@ called_for s p row n alone e selects was = by_call (call p) refl (made_is p row 
 -- ---- the row
 
 -- What is known after a connection went on with the row.
-still_unknown : (w : Rattle.bus_dialogue.specs.declared.exchange.Hearing.Hearing) (plan : Rattle.bus_dialogue.specs.declared.exchange.Plan.Plan) (i : Instructions) → (instructions_on w plan i).known ≡ false → i.known ≡ false
+still_unknown : (w : Rattle.bus_due.specs.bus_dialogue.specs.declared.exchange.Hearing.Hearing) (plan : Rattle.bus_due.specs.bus_dialogue.specs.declared.exchange.Plan.Plan) (i : Instructions) → (instructions_on w plan i).known ≡ false → i.known ≡ false
 still_unknown w plan i e = go i.known refl
   where
     go : (q : Bool) → i.known ≡ q → i.known ≡ false
@@ -243,7 +243,7 @@ attended_next s p row h = record { aborts = λ n e off. aborts n e off (kind n e
             status_next : is_status_phase g.change.after ≡ true
             status_next = ap (λ (x : Change). is_status_phase x.after) (sym g.row_is.change_is) ∙ status
 
-            before : is_command d.change.before ≡ Rattle.scsi_device.specs.Heard.is_command_phase (phase_of (bus_of k))
+            before : is_command d.change.before ≡ Rattle.target_units.specs.scsi_device.specs.Heard.is_command_phase (phase_of (bus_of k))
             before = ap (λ (x : Change). is_command x.before) g.row_is.change_is ∙ ap is_command (sym g.row_is.bus_is) ∙ command_is (bus_of k)
 
             go : (b : Bool) → k.exchange.begun ≡ b → is_some own.failure ≡ true

@@ -1,29 +1,29 @@
 -- ATN in a row of a connection, by what its ends are due to do (6.1.5.1, 6.2.1).
 use Rattle.std.proofs.Common.{inl, inr, ℕ, ◌≡◌, Bool, true, false, not, ◌&&◌, ◌||◌, ◌∙◌, List, ◌∷◌, Option, Some, None, refl, sym, ap, subst}
 use Rattle.std.specs.Prelude.{if◌then◌else◌}
-use Rattle.bus_trace.specs.LineSet.{LineSet}
-use Rattle.bus_trace.specs.declared.Row.{Row}
-use Rattle.bus_trace.specs.declared.changes.Change.{Change}
-use Rattle.bus_trace.specs.declared.connection.Connection.{Connection}
-use Rattle.bus_trace.specs.Changes.{change_of, implies}
-use Rattle.bus_trace.specs.Phases.{changes_phase, is_message_in}
-use Rattle.bus_trace.specs.Terms.{connection}
-use Rattle.bus_trace.specs.Trace.{bus, drives, last_time}
-use Rattle.bus_trace.proofs.Sets.{same_self}
-use Rattle.bus_phases.specs.Dialogue.{dialogue}
-use Rattle.bus_lines.specs.Handshakes.{handshakes}
-use Rattle.scenario.specs.Value.{ScenarioValue}
-use Rattle.bus_dialogue.specs.declared.exchange.Leaving.{Leaving}
-use Rattle.bus_dialogue.specs.declared.exchange.Phase.{Phase}
-use Rattle.bus_dialogue.specs.declared.exchange.Phase.TheVariants as phases
-use Rattle.bus_dialogue.specs.Hearing.{begun}
-use Rattle.bus_dialogue.specs.NextPhase.{Serving, phase_of, phase_lines, phase_leaving}
-use Rattle.bus_dialogue.specs.PhaseBytes.{lines_by}
+use Rattle.bus_due.specs.bus_trace.specs.LineSet.{LineSet}
+use Rattle.bus_due.specs.bus_trace.specs.declared.Row.{Row}
+use Rattle.bus_due.specs.bus_trace.specs.declared.changes.Change.{Change}
+use Rattle.bus_due.specs.bus_trace.specs.declared.connection.Connection.{Connection}
+use Rattle.bus_due.specs.bus_trace.specs.Changes.{change_of, implies}
+use Rattle.bus_due.specs.bus_trace.specs.Phases.{changes_phase, is_message_in}
+use Rattle.bus_due.specs.bus_trace.specs.Terms.{connection}
+use Rattle.bus_due.specs.bus_trace.specs.Trace.{bus, drives, last_time}
+use Rattle.bus_due.specs.bus_trace.proofs.Sets.{same_self}
+use Rattle.bus_due.specs.bus_phases.specs.Dialogue.{dialogue}
+use Rattle.bus_due.specs.bus_lines.specs.Handshakes.{handshakes}
+use Rattle.bus_due.specs.scenario.specs.Value.{ScenarioValue}
+use Rattle.bus_due.specs.bus_dialogue.specs.declared.exchange.Leaving.{Leaving}
+use Rattle.bus_due.specs.bus_dialogue.specs.declared.exchange.Phase.{Phase}
+use Rattle.bus_due.specs.bus_dialogue.specs.declared.exchange.Phase.TheVariants as phases
+use Rattle.bus_due.specs.bus_dialogue.specs.Hearing.{begun}
+use Rattle.bus_due.specs.bus_dialogue.specs.NextPhase.{Serving, phase_of, phase_lines, phase_leaving}
+use Rattle.bus_due.specs.bus_dialogue.specs.PhaseBytes.{lines_by}
 use Rattle.bus_due.specs.RunSteps.{run_state}
 use Rattle.bus_due.specs.Sights.{serving_at}
-use Rattle.bus_laws.specs.Ends.{EndLines, initiator_side, target_side, connected_bus, Linked, ends_selected}
-use Rattle.bus_laws.specs.Rows.{row_of_lines, row_of_fault, change_to}
-use Rattle.bus_laws.proofs.Rows.{fault_change}
+use Rattle.link_laws.specs.bus_laws.specs.Ends.{EndLines, initiator_side, target_side, connected_bus, Linked, ends_selected}
+use Rattle.link_laws.specs.bus_laws.specs.Rows.{row_of_lines, row_of_fault, change_to}
+use Rattle.link_laws.specs.bus_laws.proofs.Rows.{fault_change}
 use Rattle.link_laws.specs.Phases.{ends}
 use Rattle.link_laws.proofs.EndDues.{offering_with}
 use Rattle.link_laws.proofs.Moves.{initiator_moves, target_moves, phase_same, no_rise}
@@ -36,7 +36,7 @@ use Rattle.trace_laws.proofs.LinkRows as rows
 use Rattle.trace_laws.proofs.LinkRows.{LinkRow, is_unasked}
 use Rattle.trace_laws.proofs.Tests.{none_both}
 use Rattle.trace_laws.proofs.Turns.{freed_connection}
-use Rattle.bus_base.proofs.Tests.{wrong, wrong', and_first}
+use Rattle.bus_due.specs.bus_base.proofs.Tests.{wrong, wrong', and_first}
 
 -- Outside MESSAGE OUT and the phases to the initiator ATN is false.
 abbrev pub IsLow : List Row → Type 0

@@ -2,22 +2,22 @@
 use Rattle.std.proofs.Common.{ℕ, ◌≡◌, Bool, true, false, not, ◌&&◌, ◌||◌, ◌==◌, ◌∙◌, List, [], ◌∷◌, ◌++◌, Option, Some, None, refl, sym, ap, subst}
 use Rattle.std.specs.Prelude.{⊤, if◌then◌else◌, is_none, nat_lt}
 use Rattle.std.proofs.lemmas.Option.{same_Some}
-use Rattle.bus_base.specs.declared.Event.{Event}
-use Rattle.bus_base.specs.declared.Event.TheVariants as events
-use Rattle.bus_base.specs.declared.ProcId.{ProcId}
-use Rattle.cdb_codec.specs.declared.sense.TheConstants.{ABORTED_COMMAND}
-use Rattle.cdb_codec.specs.declared.status.TheConstants.{GOOD, CHECK_CONDITION}
-use Rattle.cdb_codec.specs.Cdb.{command_of}
-use Rattle.scenario.specs.Value.{ScenarioValue}
-use Rattle.disk_array.specs.ArrayHistory.{array_step, reply_in}
-use Rattle.disk_array.specs.Execution.{Reply, check_condition, is_request_sense, queue_full, sense_of}
-use Rattle.disk_array.specs.Processes.{Process, process_of, same_id}
-use Rattle.disk_array.specs.Steps.{accept_step, accept_step_at, after_status, array_without, end_step, end_step_with, fail_step, fail_step_of_new, has_ended, is_waiting, process_count, refuse_step, refuse_step_at, running_process, settled_array_if, with_guest, with_listed_reply, with_reply}
-use Rattle.disk_array.specs.Units.{Array, RunningProcess, UnitState, nexus_of, nexuses_without, senses_without, settled_array, unit_state_at, with_unit}
+use Rattle.bus_due.specs.bus_base.specs.declared.Event.{Event}
+use Rattle.bus_due.specs.bus_base.specs.declared.Event.TheVariants as events
+use Rattle.bus_due.specs.bus_base.specs.declared.ProcId.{ProcId}
+use Rattle.bus_due.specs.cdb_codec.specs.declared.sense.TheConstants.{ABORTED_COMMAND}
+use Rattle.bus_due.specs.cdb_codec.specs.declared.status.TheConstants.{GOOD, CHECK_CONDITION}
+use Rattle.bus_due.specs.cdb_codec.specs.Cdb.{command_of}
+use Rattle.bus_due.specs.scenario.specs.Value.{ScenarioValue}
+use Rattle.bus_due.specs.disk_array.specs.ArrayHistory.{array_step, reply_in}
+use Rattle.bus_due.specs.disk_array.specs.Execution.{Reply, check_condition, is_request_sense, queue_full, sense_of}
+use Rattle.bus_due.specs.disk_array.specs.Processes.{Process, process_of, same_id}
+use Rattle.bus_due.specs.disk_array.specs.Steps.{accept_step, accept_step_at, after_status, array_without, end_step, end_step_with, fail_step, fail_step_of_new, has_ended, is_waiting, process_count, refuse_step, refuse_step_at, running_process, settled_array_if, with_guest, with_listed_reply, with_reply}
+use Rattle.bus_due.specs.disk_array.specs.Units.{Array, RunningProcess, UnitState, nexus_of, nexuses_without, senses_without, settled_array, unit_state_at, with_unit}
 use Rattle.bus_due.specs.RunSteps.{array_after_events}
 use Rattle.trace_laws.specs.Attendance.{IsNotGood}
 use Rattle.trace_laws.proofs.Impossible.{none_some}
-use Rattle.bus_base.proofs.Tests.{wrong'}
+use Rattle.bus_due.specs.bus_base.proofs.Tests.{wrong'}
 
 -- ---- what is listed
 

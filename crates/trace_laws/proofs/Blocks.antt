@@ -3,27 +3,27 @@
 use Rattle.std.proofs.Common.{ℕ, zero, suc, ◌≡◌, Bool, true, false, List, [], ◌∷◌, Option, Some, None, Ok, refl, sym, ap, subst, ◌∙◌, arith}
 use Rattle.std.specs.List.{AllByRecursion}
 use Rattle.std.proofs.lemmas.Option.{same_Some}
-use Rattle.bus_base.specs.declared.ProcId.{ProcId}
-use Rattle.cdb_codec.specs.Cdb.{has_group_len}
-use Rattle.scenario.specs.declared.value.CmdDef.{CmdDef}
-use Rattle.scenario.specs.Value.{ScenarioValue}
-use Rattle.scenario.specs.Needs.{sent_of}
-use Rattle.scenario.specs.Forms.{CmdSaid}
-use Rattle.scenario.specs.Reading.{guard, in_8, time_in, tag_in, is_block, are_ends, cmd_def}
-use Rattle.scenario.specs.Writing.{IsHex, IsHexPayload, Obeys}
+use Rattle.bus_due.specs.bus_base.specs.declared.ProcId.{ProcId}
+use Rattle.bus_due.specs.cdb_codec.specs.Cdb.{has_group_len}
+use Rattle.bus_due.specs.scenario.specs.declared.value.CmdDef.{CmdDef}
+use Rattle.bus_due.specs.scenario.specs.Value.{ScenarioValue}
+use Rattle.bus_due.specs.scenario.specs.Needs.{sent_of}
+use Rattle.bus_due.specs.scenario.specs.Forms.{CmdSaid}
+use Rattle.bus_due.specs.scenario.specs.Reading.{guard, in_8, time_in, tag_in, is_block, are_ends, cmd_def}
+use Rattle.bus_due.specs.scenario.specs.Writing.{IsHex, IsHexPayload, Obeys}
 use Rattle.text_words.specs.Spelling.{AreBytes}
-use Rattle.bus_trace.specs.LineSet.{LineSet}
-use Rattle.bus_trace.specs.Phases.{is_message_out, is_command}
+use Rattle.bus_due.specs.bus_trace.specs.LineSet.{LineSet}
+use Rattle.bus_due.specs.bus_trace.specs.Phases.{is_message_out, is_command}
 use Rattle.std.specs.Prelude.{◌<◌, ◌+◌, slice_index_or, if◌then◌else◌}
-use Rattle.scenario.specs.declared.value.Payload.{Payload}
-use Rattle.scenario.specs.declared.value.Payload.TheVariants as payloads
-use Rattle.bus_dialogue.specs.Exchange.{Speech, next_word}
-use Rattle.bus_dialogue.specs.Sending.{Sending, byte_to_send}
+use Rattle.bus_due.specs.scenario.specs.declared.value.Payload.{Payload}
+use Rattle.bus_due.specs.scenario.specs.declared.value.Payload.TheVariants as payloads
+use Rattle.bus_due.specs.bus_dialogue.specs.Exchange.{Speech, next_word}
+use Rattle.bus_due.specs.bus_dialogue.specs.Sending.{Sending, byte_to_send}
 use Rattle.bus_due.specs.Sights.{sending_by, sending_of}
-use Rattle.scenario.proofs.Steps.{bind_ok, ok_is, guard_ok}
-use Rattle.disk_array.specs.Processes.{Process, bytes_from, payload_bytes, command_at, sense_block, process_by, process_if, process_of}
+use Rattle.bus_due.specs.scenario.proofs.Steps.{bind_ok, ok_is, guard_ok}
+use Rattle.bus_due.specs.disk_array.specs.Processes.{Process, bytes_from, payload_bytes, command_at, sense_block, process_by, process_if, process_of}
 use Rattle.bus_due.specs.RunState.{RunState, item_of, process_item, process_here, process_served}
-use Rattle.bus_story.specs.Items.{Item, process, abort}
+use Rattle.bus_due.specs.bus_story.specs.Items.{Item, process, abort}
 use Rattle.trace_laws.proofs.EachLine.{Any, each_line}
 
 abbrev IsBlock : CmdDef → Type 0

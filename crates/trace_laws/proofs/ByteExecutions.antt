@@ -3,18 +3,18 @@ use Rattle.std.proofs.Common.{ℕ, zero, suc, ◌≡◌, ◌<◌, ◌+◌, ◌-�
 use Rattle.std.specs.Prelude.{if◌then◌else◌, min, nat_lt, Result, ◌==◌}
 use Rattle.std.specs.List.{AllByRecursion, list_all}
 use Rattle.std.proofs.lemmas.Bool.Decides.{nat_tests}
-use Rattle.cdb_codec.specs.Blocks.{blocks_moved}
-use Rattle.cdb_codec.specs.Cdb.{command_of}
-use Rattle.cdb_codec.specs.Replies.{sense_data, inquiry_data, capacity_data}
-use Rattle.cdb_codec.specs.declared.command.CdbFault.{CdbFault}
-use Rattle.cdb_codec.specs.declared.command.CdbFault.TheVariants as faults
-use Rattle.cdb_codec.specs.declared.command.Command.{Command}
-use Rattle.cdb_codec.specs.declared.command.Command.TheVariants as commands
-use Rattle.cdb_codec.specs.declared.command.Sense.{Sense}
-use Rattle.cdb_codec.specs.declared.replies.TheConstants.{SENSE_LEN, INQUIRY_LEN}
+use Rattle.bus_due.specs.cdb_codec.specs.Blocks.{blocks_moved}
+use Rattle.bus_due.specs.cdb_codec.specs.Cdb.{command_of}
+use Rattle.bus_due.specs.cdb_codec.specs.Replies.{sense_data, inquiry_data, capacity_data}
+use Rattle.bus_due.specs.cdb_codec.specs.declared.command.CdbFault.{CdbFault}
+use Rattle.bus_due.specs.cdb_codec.specs.declared.command.CdbFault.TheVariants as faults
+use Rattle.bus_due.specs.cdb_codec.specs.declared.command.Command.{Command}
+use Rattle.bus_due.specs.cdb_codec.specs.declared.command.Command.TheVariants as commands
+use Rattle.bus_due.specs.cdb_codec.specs.declared.command.Sense.{Sense}
+use Rattle.bus_due.specs.cdb_codec.specs.declared.replies.TheConstants.{SENSE_LEN, INQUIRY_LEN}
 use Rattle.text_words.specs.Spelling.{AreBytes}
-use Rattle.disk_array.specs.Contents.{Contents, zero_block, touched_block, block_at, touched_with, with_block, bytes_at, with_bytes}
-use Rattle.disk_array.specs.Execution.{Reply, CommandContext, Execution, good, check_condition, needs_unit, heeds_attention, range_of, is_good_range, returned_sense, reply_execution, write_execution, command_execution, range_execution, cdb_execution, attention_execution, execution, invalid_opcode, block_out_of_range, invalid_field, unit_not_supported}
+use Rattle.bus_due.specs.disk_array.specs.Contents.{Contents, zero_block, touched_block, block_at, touched_with, with_block, bytes_at, with_bytes}
+use Rattle.bus_due.specs.disk_array.specs.Execution.{Reply, CommandContext, Execution, good, check_condition, needs_unit, heeds_attention, range_of, is_good_range, returned_sense, reply_execution, write_execution, command_execution, range_execution, cdb_execution, attention_execution, execution, invalid_opcode, block_out_of_range, invalid_field, unit_not_supported}
 use Rattle.trace_laws.proofs.Spoken.{small_append, small_take}
 
 -- ---- blocks

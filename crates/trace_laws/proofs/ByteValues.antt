@@ -2,40 +2,40 @@
 use Rattle.std.proofs.Common.{ℕ, ◌≡◌, ◌<◌, ◌+◌, Bool, true, false, List, [], ◌∷◌, Option, Some, None, refl, arith}
 use Rattle.std.specs.Prelude.{if◌then◌else◌}
 use Rattle.std.specs.List.{AllByRecursion}
-use Rattle.bus_base.specs.declared.Event.{Event}
-use Rattle.bus_base.specs.declared.ProcId.{ProcId}
-use Rattle.bus_trace.specs.declared.Row.{Row}
-use Rattle.bus_trace.specs.declared.connection.Connection.{Connection}
+use Rattle.bus_due.specs.bus_base.specs.declared.Event.{Event}
+use Rattle.bus_due.specs.bus_base.specs.declared.ProcId.{ProcId}
+use Rattle.bus_due.specs.bus_trace.specs.declared.Row.{Row}
+use Rattle.bus_due.specs.bus_trace.specs.declared.connection.Connection.{Connection}
 use Rattle.text_words.specs.Spelling.{AreBytes}
-use Rattle.scenario.specs.declared.value.FillDef.{FillDef}
-use Rattle.scenario.specs.declared.value.Policy.{Policy}
-use Rattle.scenario.specs.Value.{ScenarioValue}
-use Rattle.scenario.specs.Writing.{IsHex, Obeys}
-use Rattle.disk_array.specs.ArrayHistory as Play
-use Rattle.disk_array.specs.Execution.{Reply}
-use Rattle.disk_array.specs.Processes.{Process, same_id}
-use Rattle.disk_array.specs.SoundArray.{IsSound, HasSeats}
-use Rattle.disk_array.specs.Steps
-use Rattle.disk_array.specs.Units.{Array, starting_array, unit_state_at, nexus_of}
-use Rattle.disk_array.proofs.SoundArrays.{step_sound, start_sound}
-use Rattle.bus_story.specs.BusState.{row_reading}
-use Rattle.bus_story.specs.HistoryEvents.{row_events_by}
-use Rattle.bus_story.specs.Items.{Item, process, abort}
-use Rattle.bus_dialogue.specs.declared.exchange.Messages.{Messages}
-use Rattle.bus_dialogue.specs.declared.exchange.Phase.{Phase}
-use Rattle.bus_dialogue.specs.declared.exchange.Phase.TheVariants as phases
-use Rattle.bus_dialogue.specs.declared.exchange.Task.{Task}
-use Rattle.bus_dialogue.specs.Arrivals.{policy_of}
-use Rattle.bus_dialogue.specs.DataRuns.{run_at}
-use Rattle.bus_dialogue.specs.Exchange.{bytes_of_messages}
-use Rattle.bus_dialogue.specs.NextPhase.{Serving, phase_of}
-use Rattle.bus_dialogue.specs.PhaseBytes.{status_byte, data_byte, phase_byte, one_if}
+use Rattle.bus_due.specs.scenario.specs.declared.value.FillDef.{FillDef}
+use Rattle.bus_due.specs.scenario.specs.declared.value.Policy.{Policy}
+use Rattle.bus_due.specs.scenario.specs.Value.{ScenarioValue}
+use Rattle.bus_due.specs.scenario.specs.Writing.{IsHex, Obeys}
+use Rattle.bus_due.specs.disk_array.specs.ArrayHistory as Play
+use Rattle.bus_due.specs.disk_array.specs.Execution.{Reply}
+use Rattle.bus_due.specs.disk_array.specs.Processes.{Process, same_id}
+use Rattle.bus_due.specs.disk_array.specs.SoundArray.{IsSound, HasSeats}
+use Rattle.bus_due.specs.disk_array.specs.Steps
+use Rattle.bus_due.specs.disk_array.specs.Units.{Array, starting_array, unit_state_at, nexus_of}
+use Rattle.bus_due.specs.disk_array.proofs.SoundArrays.{step_sound, start_sound}
+use Rattle.bus_due.specs.bus_story.specs.BusState.{row_reading}
+use Rattle.bus_due.specs.bus_story.specs.HistoryEvents.{row_events_by}
+use Rattle.bus_due.specs.bus_story.specs.Items.{Item, process, abort}
+use Rattle.bus_due.specs.bus_dialogue.specs.declared.exchange.Messages.{Messages}
+use Rattle.bus_due.specs.bus_dialogue.specs.declared.exchange.Phase.{Phase}
+use Rattle.bus_due.specs.bus_dialogue.specs.declared.exchange.Phase.TheVariants as phases
+use Rattle.bus_due.specs.bus_dialogue.specs.declared.exchange.Task.{Task}
+use Rattle.bus_due.specs.bus_dialogue.specs.Arrivals.{policy_of}
+use Rattle.bus_due.specs.bus_dialogue.specs.DataRuns.{run_at}
+use Rattle.bus_due.specs.bus_dialogue.specs.Exchange.{bytes_of_messages}
+use Rattle.bus_due.specs.bus_dialogue.specs.NextPhase.{Serving, phase_of}
+use Rattle.bus_due.specs.bus_dialogue.specs.PhaseBytes.{status_byte, data_byte, phase_byte, one_if}
 use Rattle.bus_due.specs.Plain.{AreOfDevices}
 use Rattle.bus_due.specs.RunState.{RunState, bus_of, or_start, array_of, process_item, process_served}
 use Rattle.bus_due.specs.RunSteps.{run_state, run_state_after, array_after_events}
 use Rattle.bus_due.specs.Sights.{serving_of, leaving}
 use Rattle.bus_due.specs.Tasks.{reply_now, status_by, task_if, given_if}
-use Rattle.scsi_device.proofs.Finds.{all_are}
+use Rattle.target_units.specs.scsi_device.proofs.Finds.{all_are}
 use Rattle.trace_laws.specs.ByteValues.{HasByteValues}
 use Rattle.trace_laws.proofs.ArrayBytes.{HasBytes, HasBytesIf, HasByteCode, SendsBytes, IsByteListed, settles, step_bytes, start_bytes, context_small}
 use Rattle.trace_laws.proofs.Blocks.{bytes_of_process, byte_small}

@@ -2,48 +2,48 @@
 use Rattle.std.proofs.Common.{ℕ, ◌≡◌, ◌<◌, Bool, true, false, not, ◌&&◌, ◌==◌, ◌∙◌, List, [], ◌∷◌, Option, Some, None, refl, sym, ap, subst}
 use Rattle.std.specs.Prelude.{if◌then◌else◌}
 use Rattle.std.proofs.lemmas.Option.{same_Some}
-use Rattle.bus_trace.specs.LineSet.{LineSet}
-use Rattle.bus_trace.specs.declared.Row.{Row}
-use Rattle.bus_trace.specs.declared.Kind.{Kind}
-use Rattle.bus_trace.specs.declared.connection.Connection.{Connection}
-use Rattle.bus_trace.specs.declared.changes.Change.{Change}
-use Rattle.bus_trace.specs.declared.selection.Call.{Call}
-use Rattle.bus_trace.specs.declared.selection.Calling.{Calling}
-use Rattle.bus_trace.specs.Changes.{change_of, rises, falls}
-use Rattle.bus_trace.specs.Terms.{call, call_goes_on, calling_after, caller_goes_on, called_goes_on, new_calling, other_id, drives_two_ids, arbitration, connection, connection_of, connected, connected_by, connected_of}
-use Rattle.bus_trace.specs.Trace.{bus, drives, driven_after}
-use Rattle.bus_lines.specs.declared.stage.Stage.TheVariants.{InCalling}
-use Rattle.bus_lines.specs.Stage.{stage}
-use Rattle.scenario.specs.Value.{ScenarioValue}
-use Rattle.disk_array.specs.SoundArray.{AllOwnUnits, HasSeats}
-use Rattle.disk_array.specs.Units.{Array}
-use Rattle.disk_array.proofs.SoundArrays.{history_sound, start_units}
-use Rattle.disk_array.specs.Seats.{is_initiator}
-use Rattle.bus_story.specs.Samples.{latency_of}
-use Rattle.bus_story.specs.TraceHistory.{aim_of, trace_history}
-use Rattle.bus_reactions.specs.declared.due.Due.{Due}
+use Rattle.bus_due.specs.bus_trace.specs.LineSet.{LineSet}
+use Rattle.bus_due.specs.bus_trace.specs.declared.Row.{Row}
+use Rattle.bus_due.specs.bus_trace.specs.declared.Kind.{Kind}
+use Rattle.bus_due.specs.bus_trace.specs.declared.connection.Connection.{Connection}
+use Rattle.bus_due.specs.bus_trace.specs.declared.changes.Change.{Change}
+use Rattle.bus_due.specs.bus_trace.specs.declared.selection.Call.{Call}
+use Rattle.bus_due.specs.bus_trace.specs.declared.selection.Calling.{Calling}
+use Rattle.bus_due.specs.bus_trace.specs.Changes.{change_of, rises, falls}
+use Rattle.bus_due.specs.bus_trace.specs.Terms.{call, call_goes_on, calling_after, caller_goes_on, called_goes_on, new_calling, other_id, drives_two_ids, arbitration, connection, connection_of, connected, connected_by, connected_of}
+use Rattle.bus_due.specs.bus_trace.specs.Trace.{bus, drives, driven_after}
+use Rattle.bus_due.specs.bus_lines.specs.declared.stage.Stage.TheVariants.{InCalling}
+use Rattle.bus_due.specs.bus_lines.specs.Stage.{stage}
+use Rattle.bus_due.specs.scenario.specs.Value.{ScenarioValue}
+use Rattle.bus_due.specs.disk_array.specs.SoundArray.{AllOwnUnits, HasSeats}
+use Rattle.bus_due.specs.disk_array.specs.Units.{Array}
+use Rattle.bus_due.specs.disk_array.proofs.SoundArrays.{history_sound, start_units}
+use Rattle.bus_due.specs.disk_array.specs.Seats.{is_initiator}
+use Rattle.bus_due.specs.bus_story.specs.Samples.{latency_of}
+use Rattle.bus_due.specs.bus_story.specs.TraceHistory.{aim_of, trace_history}
+use Rattle.bus_due.specs.bus_reactions.specs.declared.due.Due.{Due}
 use Rattle.bus_due.specs.Least.{IsLeast}
 use Rattle.bus_due.specs.Plain.{AreOfDevices}
 use Rattle.bus_due.specs.RunState.{RunState, array_of, or_start}
 use Rattle.bus_due.specs.RunSteps.{run_state}
 use Rattle.bus_due.specs.Wants.{callee, target_of, initiator_if}
 use Rattle.bus_due.proofs.Plains.{run_state_plain}
-use Rattle.scsi_device.specs.Lines.{AreUnits}
+use Rattle.target_units.specs.scsi_device.specs.Lines.{AreUnits}
 use Rattle.bus_books.specs.Traces.{IsAimedAt, IsReadyFor}
 use Rattle.bus_books.proofs.ReadyProcesses.{selects_for, reselects_by}
-use Rattle.bus_laws.specs.Ends.{BeginsConnection, by_selection, by_reselection}
-use Rattle.bus_laws.specs.Callings.{both_ids, won_call}
-use Rattle.bus_laws.specs.Reactions.{own_time, unreset_due}
-use Rattle.bus_laws.specs.Stages.{BusStage, on_free_bus, in_arbitration, after_arbitration, with_both_ids, awaiting_answer, after_withdrawal, after_answer, after_takeover, in_reset, in_connection, CalmStanding}
-use Rattle.bus_laws.proofs.Apart.{KeepsAll, still_keeps}
-use Rattle.bus_laws.proofs.CallDues.{calls_due, is_calling}
-use Rattle.bus_laws.proofs.Dues.{is_there}
-use Rattle.bus_laws.proofs.Rows.{stage_is}
-use Rattle.bus_laws.proofs.TwoIds.{is_call}
+use Rattle.link_laws.specs.bus_laws.specs.Ends.{BeginsConnection, by_selection, by_reselection}
+use Rattle.link_laws.specs.bus_laws.specs.Callings.{both_ids, won_call}
+use Rattle.link_laws.specs.bus_laws.specs.Reactions.{own_time, unreset_due}
+use Rattle.link_laws.specs.bus_laws.specs.Stages.{BusStage, on_free_bus, in_arbitration, after_arbitration, with_both_ids, awaiting_answer, after_withdrawal, after_answer, after_takeover, in_reset, in_connection, CalmStanding}
+use Rattle.link_laws.specs.bus_laws.proofs.Apart.{KeepsAll, still_keeps}
+use Rattle.link_laws.specs.bus_laws.proofs.CallDues.{calls_due, is_calling}
+use Rattle.link_laws.specs.bus_laws.proofs.Dues.{is_there}
+use Rattle.link_laws.specs.bus_laws.proofs.Rows.{stage_is}
+use Rattle.link_laws.specs.bus_laws.proofs.TwoIds.{is_call}
 use Rattle.trace_laws.proofs.Impossible.{none_some}
 use Rattle.trace_laws.proofs.Tests.{not_not, falls_true}
 use Rattle.std.proofs.lemmas.Bool.{eqb-true}
-use Rattle.bus_base.proofs.Tests.{wrong, and_false}
+use Rattle.bus_due.specs.bus_base.proofs.Tests.{wrong, and_false}
 
 -- A connection is made for the item of its initiator, or the process that its target has ready: the caller called the device that
 -- it is due to call.

@@ -1,23 +1,23 @@
 -- As the connection that serves a process ends, it is over, or has an answer, or nothing has struck it (6.1.1, 6.6.5, 6.6.6).
 use Rattle.std.proofs.Common.{inr, ◌≡◌, ◌<◌, Bool, true, false, not, ◌&&◌, ◌∙◌, List, ◌∷◌, Some, None, refl, sym, ap, true≢false}
-use Rattle.bus_base.specs.declared.ProcId.{ProcId}
-use Rattle.bus_base.specs.declared.Event.{Event}
-use Rattle.bus_trace.specs.LineSet.{LineSet}
-use Rattle.bus_trace.specs.declared.Row.{Row}
-use Rattle.bus_trace.specs.declared.changes.Change.{Change}
-use Rattle.bus_trace.specs.declared.connection.Connection.{Connection}
-use Rattle.bus_trace.specs.Changes.{change_of, rises}
-use Rattle.scenario.specs.Value.{ScenarioValue}
-use Rattle.scenario.specs.Writing.{Obeys}
-use Rattle.bus_story.specs.BusState.{row_reading}
-use Rattle.bus_story.specs.HistoryEvents.{item_loss_events, bus_free_events}
-use Rattle.bus_story.specs.Items.{Item, process, has_item, sense_item}
-use Rattle.bus_story.specs.Links.{Link, LastMessage, plain}
-use Rattle.bus_story.specs.Story.{Story, story_after_events}
-use Rattle.bus_story.specs.TraceHistory.{story_by_change}
-use Rattle.bus_dialogue.specs.declared.exchange.Phase.{Phase}
-use Rattle.bus_dialogue.specs.declared.exchange.Phase.TheVariants as phases
-use Rattle.bus_dialogue.specs.NextPhase.{phase_of}
+use Rattle.bus_due.specs.bus_base.specs.declared.ProcId.{ProcId}
+use Rattle.bus_due.specs.bus_base.specs.declared.Event.{Event}
+use Rattle.bus_due.specs.bus_trace.specs.LineSet.{LineSet}
+use Rattle.bus_due.specs.bus_trace.specs.declared.Row.{Row}
+use Rattle.bus_due.specs.bus_trace.specs.declared.changes.Change.{Change}
+use Rattle.bus_due.specs.bus_trace.specs.declared.connection.Connection.{Connection}
+use Rattle.bus_due.specs.bus_trace.specs.Changes.{change_of, rises}
+use Rattle.bus_due.specs.scenario.specs.Value.{ScenarioValue}
+use Rattle.bus_due.specs.scenario.specs.Writing.{Obeys}
+use Rattle.bus_due.specs.bus_story.specs.BusState.{row_reading}
+use Rattle.bus_due.specs.bus_story.specs.HistoryEvents.{item_loss_events, bus_free_events}
+use Rattle.bus_due.specs.bus_story.specs.Items.{Item, process, has_item, sense_item}
+use Rattle.bus_due.specs.bus_story.specs.Links.{Link, LastMessage, plain}
+use Rattle.bus_due.specs.bus_story.specs.Story.{Story, story_after_events}
+use Rattle.bus_due.specs.bus_story.specs.TraceHistory.{story_by_change}
+use Rattle.bus_due.specs.bus_dialogue.specs.declared.exchange.Phase.{Phase}
+use Rattle.bus_due.specs.bus_dialogue.specs.declared.exchange.Phase.TheVariants as phases
+use Rattle.bus_due.specs.bus_dialogue.specs.NextPhase.{phase_of}
 use Rattle.bus_due.specs.Next.{IsPrompt}
 use Rattle.bus_due.specs.Plain.{IsPlain, AreOfDevices}
 use Rattle.bus_due.specs.RunState.{RunState, bus_of}
@@ -26,8 +26,8 @@ use Rattle.bus_due.proofs.Plains.{run_state_plain}
 use Rattle.bus_books.specs.Hearing.{is_in_phase}
 use Rattle.bus_books.specs.Knowing.{Knows}
 use Rattle.bus_books.specs.Traces.{Ends}
-use Rattle.bus_laws.proofs.Apart.{change_plain}
-use Rattle.bus_laws.proofs.Prompt.{least_is}
+use Rattle.link_laws.specs.bus_laws.proofs.Apart.{change_plain}
+use Rattle.link_laws.specs.bus_laws.proofs.Prompt.{least_is}
 use Rattle.trace_laws.specs.ClearFacts.{StandsClear}
 use Rattle.trace_laws.specs.Failures.{FailFacts, SentAsLeft}
 use Rattle.trace_laws.specs.ItemFacts.{ItemFacts}

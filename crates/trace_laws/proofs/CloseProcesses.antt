@@ -2,14 +2,14 @@
 use Rattle.std.proofs.Common.{ℕ, ◌≡◌, Bool, true, false, ◌||◌, ◌==◌, ◌∙◌, Option, Some, None, refl, sym, ap}
 use Rattle.std.proofs.lemmas.Option.{same_Some}
 use Rattle.std.specs.Prelude.{if◌then◌else◌}
-use Rattle.bus_base.specs.declared.ProcId.{ProcId}
-use Rattle.bus_base.specs.declared.Event.TheVariants as events
-use Rattle.scenario.specs.Value.{ScenarioValue}
-use Rattle.disk_array.specs.Execution.{Reply}
-use Rattle.disk_array.specs.Processes.{same_id}
-use Rattle.disk_array.specs.Steps as Steps
-use Rattle.disk_array.specs.Steps.{has_ended, running_process}
-use Rattle.disk_array.specs.Units.{RunningProcess, Array, settled_array}
+use Rattle.bus_due.specs.bus_base.specs.declared.ProcId.{ProcId}
+use Rattle.bus_due.specs.bus_base.specs.declared.Event.TheVariants as events
+use Rattle.bus_due.specs.scenario.specs.Value.{ScenarioValue}
+use Rattle.bus_due.specs.disk_array.specs.Execution.{Reply}
+use Rattle.bus_due.specs.disk_array.specs.Processes.{same_id}
+use Rattle.bus_due.specs.disk_array.specs.Steps as Steps
+use Rattle.bus_due.specs.disk_array.specs.Steps.{has_ended, running_process}
+use Rattle.bus_due.specs.disk_array.specs.Units.{RunningProcess, Array, settled_array}
 use Rattle.bus_books.proofs.Lookups.{self_id}
 use Rattle.trace_laws.proofs.Impossible.{none_some}
 use Rattle.trace_laws.proofs.ListedReplies.{running_id}

@@ -2,40 +2,40 @@
 use Rattle.std.proofs.Common.{ℕ, ◌<◌, ◌+◌, ◌%◌, Bool, true, false, not, ◌&&◌, List, [], ◌∷◌, ◌++◌, Option, Some, None, arith}
 use Rattle.std.specs.Prelude.{if◌then◌else◌, is_some, is_none, ◌==◌}
 use Rattle.std.specs.List.{AllByRecursion, list_any}
-use Rattle.bus_base.specs.declared.Event.{Event}
-use Rattle.bus_base.specs.declared.Event.TheVariants as events
-use Rattle.bus_base.specs.declared.ProcId.{ProcId}
-use Rattle.bus_trace.specs.declared.Kind.{Kind}
-use Rattle.bus_trace.specs.declared.Kind.TheVariants.{Drives, Fault}
-use Rattle.bus_trace.specs.Changes.{rises, falls}
-use Rattle.bus_trace.specs.LineSet.{LineSet}
-use Rattle.bus_trace.specs.Phases.{changes_phase, is_command, is_data}
-use Rattle.bus_trace.specs.declared.Row.{Row}
-use Rattle.bus_trace.specs.declared.changes.Change.{Change}
-use Rattle.bus_trace.specs.declared.connection.Connection.{Connection}
-use Rattle.bus_trace.specs.declared.selection.Call.{Call}
-use Rattle.bus_trace.specs.declared.selection.Calling.{Calling}
-use Rattle.cdb_codec.specs.declared.sense.TheConstants.{PARITY_ERROR, INITIATOR_DETECTED_ERROR}
-use Rattle.cdb_codec.specs.declared.status.TheConstants.{CHECK_CONDITION}
-use Rattle.msg_grammar.specs.declared.message.MsgOut.{MsgOut}
-use Rattle.msg_grammar.specs.declared.message.MsgIn.{MsgIn}
-use Rattle.msg_grammar.specs.declared.message.MsgIn.TheVariants as to_initiator
-use Rattle.scenario.specs.declared.value.AbortDef.{AbortDef}
-use Rattle.scenario.specs.declared.value.CmdDef.{CmdDef}
-use Rattle.scenario.specs.Value.{ScenarioValue}
-use Rattle.disk_array.specs.Processes.{same_id}
-use Rattle.disk_array.specs.ArrayHistory.{array_after}
-use Rattle.bus_story.specs.BusState.{RowReading, row_reading}
-use Rattle.bus_story.specs.CarriedBytes.{CarriedBytes, with_restored_pointers, carried_after_message, carried_after_byte, carried_after_fault, is_status_phase, carried_at, with_carried, carried_or_nothing, carried_of, is_whole_block}
-use Rattle.bus_story.specs.HistoryEvents.{carried_if, queue_event, queue_events, status_event, status_events, phase_events, is_completion, end_events, item_loss_events, abort_line_at, abort_line_events, item_abort_events, bus_free_events, link_events, row_events_by, is_refuse}
-use Rattle.bus_story.specs.Items.{Item, process, abort, sense_item}
-use Rattle.bus_story.specs.Links.{Link, LastMessage, plain, complete, disconnect, abortive, link_of, link_after_name, last_out, last_in}
-use Rattle.bus_story.specs.Items.{is_open}
-use Rattle.bus_story.specs.Items.{count_item}
-use Rattle.bus_story.specs.Story as Told
-use Rattle.bus_story.specs.Story.{Story}
-use Rattle.bus_story.specs.TraceHistory as Rows
-use Rattle.bus_story.specs.TraceHistory.{aim_of, story_after}
+use Rattle.bus_due.specs.bus_base.specs.declared.Event.{Event}
+use Rattle.bus_due.specs.bus_base.specs.declared.Event.TheVariants as events
+use Rattle.bus_due.specs.bus_base.specs.declared.ProcId.{ProcId}
+use Rattle.bus_due.specs.bus_trace.specs.declared.Kind.{Kind}
+use Rattle.bus_due.specs.bus_trace.specs.declared.Kind.TheVariants.{Drives, Fault}
+use Rattle.bus_due.specs.bus_trace.specs.Changes.{rises, falls}
+use Rattle.bus_due.specs.bus_trace.specs.LineSet.{LineSet}
+use Rattle.bus_due.specs.bus_trace.specs.Phases.{changes_phase, is_command, is_data}
+use Rattle.bus_due.specs.bus_trace.specs.declared.Row.{Row}
+use Rattle.bus_due.specs.bus_trace.specs.declared.changes.Change.{Change}
+use Rattle.bus_due.specs.bus_trace.specs.declared.connection.Connection.{Connection}
+use Rattle.bus_due.specs.bus_trace.specs.declared.selection.Call.{Call}
+use Rattle.bus_due.specs.bus_trace.specs.declared.selection.Calling.{Calling}
+use Rattle.bus_due.specs.cdb_codec.specs.declared.sense.TheConstants.{PARITY_ERROR, INITIATOR_DETECTED_ERROR}
+use Rattle.bus_due.specs.cdb_codec.specs.declared.status.TheConstants.{CHECK_CONDITION}
+use Rattle.bus_due.specs.msg_grammar.specs.declared.message.MsgOut.{MsgOut}
+use Rattle.bus_due.specs.msg_grammar.specs.declared.message.MsgIn.{MsgIn}
+use Rattle.bus_due.specs.msg_grammar.specs.declared.message.MsgIn.TheVariants as to_initiator
+use Rattle.bus_due.specs.scenario.specs.declared.value.AbortDef.{AbortDef}
+use Rattle.bus_due.specs.scenario.specs.declared.value.CmdDef.{CmdDef}
+use Rattle.bus_due.specs.scenario.specs.Value.{ScenarioValue}
+use Rattle.bus_due.specs.disk_array.specs.Processes.{same_id}
+use Rattle.bus_due.specs.disk_array.specs.ArrayHistory.{array_after}
+use Rattle.bus_due.specs.bus_story.specs.BusState.{RowReading, row_reading}
+use Rattle.bus_due.specs.bus_story.specs.CarriedBytes.{CarriedBytes, with_restored_pointers, carried_after_message, carried_after_byte, carried_after_fault, is_status_phase, carried_at, with_carried, carried_or_nothing, carried_of, is_whole_block}
+use Rattle.bus_due.specs.bus_story.specs.HistoryEvents.{carried_if, queue_event, queue_events, status_event, status_events, phase_events, is_completion, end_events, item_loss_events, abort_line_at, abort_line_events, item_abort_events, bus_free_events, link_events, row_events_by, is_refuse}
+use Rattle.bus_due.specs.bus_story.specs.Items.{Item, process, abort, sense_item}
+use Rattle.bus_due.specs.bus_story.specs.Links.{Link, LastMessage, plain, complete, disconnect, abortive, link_of, link_after_name, last_out, last_in}
+use Rattle.bus_due.specs.bus_story.specs.Items.{is_open}
+use Rattle.bus_due.specs.bus_story.specs.Items.{count_item}
+use Rattle.bus_due.specs.bus_story.specs.Story as Told
+use Rattle.bus_due.specs.bus_story.specs.Story.{Story}
+use Rattle.bus_due.specs.bus_story.specs.TraceHistory as Rows
+use Rattle.bus_due.specs.bus_story.specs.TraceHistory.{aim_of, story_after}
 use Rattle.trace_laws.proofs.ArrayBytes.{HasByteCode}
 
 abbrev CodeIf : Option ℕ → Type 0
@@ -299,7 +299,7 @@ by_in s b l (Some m) h = by_name s b l (link_after_name b.sent s.commands l m) m
 byte : (k : CarriedBytes) (x : LineSet) (n : ℕ) → HasCode k → HasCode (carried_after_byte k x n)
 byte k x n h = go (is_command x) (is_data x) (is_status_phase x)
   where
-    go : (q r t : Bool) → HasCode (if q then record k { command = Rattle.bus_story.specs.CarriedBytes.area_with k.command n; block = k.block ++ n ∷ [] } else if r then record k { moved = Rattle.bus_story.specs.CarriedBytes.area_with k.moved n } else if t then record k { status = Rattle.bus_story.specs.CarriedBytes.area_with k.status n } else k)
+    go : (q r t : Bool) → HasCode (if q then record k { command = Rattle.bus_due.specs.bus_story.specs.CarriedBytes.area_with k.command n; block = k.block ++ n ∷ [] } else if r then record k { moved = Rattle.bus_due.specs.bus_story.specs.CarriedBytes.area_with k.moved n } else if t then record k { status = Rattle.bus_due.specs.bus_story.specs.CarriedBytes.area_with k.status n } else k)
     go true r t = h
     go false true t = h
     go false false true = h

@@ -2,29 +2,29 @@
 use Rattle.std.proofs.Common.{ℕ, ◌≡◌, ◌<◌, Bool, true, false, not, ◌&&◌, ◌%◌, ◌∙◌, List, [], ◌∷◌, ◌++◌, length, Option, Some, None, refl, sym, ap, subst, arith, length-append}
 use Rattle.std.specs.Prelude.{if◌then◌else◌, is_some, nat_lt, slice_index}
 use Rattle.std.proofs.lemmas.Bool.Decides.{nat_tests}
-use Rattle.bus_trace.specs.LineSet.{LineSet}
-use Rattle.bus_trace.specs.declared.Row.{Row}
-use Rattle.bus_trace.specs.declared.changes.Change.{Change}
-use Rattle.bus_trace.specs.declared.connection.Connection.{Connection}
-use Rattle.bus_trace.specs.Phases.{changes_phase, is_message_out, is_message_in, is_command}
-use Rattle.bus_trace.specs.Terms.{is_fault, receiver_in}
-use Rattle.bus_phases.specs.declared.dialogue.Dialogue.{Dialogue}
-use Rattle.bus_phases.specs.declared.spoken.CommandBytes.{CommandBytes}
-use Rattle.bus_phases.specs.declared.spoken.Heard.{Heard}
-use Rattle.bus_phases.specs.Dialogue.{command_on, heard_with_command, fresh_bytes, byte_out, byte_in, byte_else}
-use Rattle.cdb_codec.specs.Cdb.{group_len, is_len, has_group_len}
-use Rattle.msg_grammar.specs.declared.message.MsgOut.{MsgOut}
-use Rattle.msg_grammar.specs.Messages.{got_out, got_in}
-use Rattle.scenario.specs.Value.{ScenarioValue}
-use Rattle.bus_story.specs.BusState.{RowReading, whole_out, whole_in}
-use Rattle.bus_story.specs.Links.{Link}
-use Rattle.bus_dialogue.specs.declared.exchange.Cause.{Cause}
-use Rattle.bus_dialogue.specs.declared.exchange.Next.{Next}
-use Rattle.bus_dialogue.specs.declared.exchange.Phase.{Phase}
-use Rattle.bus_dialogue.specs.declared.exchange.Phase.TheVariants as phases
-use Rattle.bus_dialogue.specs.declared.exchange.Plan.{Plan}
-use Rattle.bus_dialogue.specs.Exchange.{Exchange, plan_after_message}
-use Rattle.bus_dialogue.specs.NextPhase.{phase_of}
+use Rattle.bus_due.specs.bus_trace.specs.LineSet.{LineSet}
+use Rattle.bus_due.specs.bus_trace.specs.declared.Row.{Row}
+use Rattle.bus_due.specs.bus_trace.specs.declared.changes.Change.{Change}
+use Rattle.bus_due.specs.bus_trace.specs.declared.connection.Connection.{Connection}
+use Rattle.bus_due.specs.bus_trace.specs.Phases.{changes_phase, is_message_out, is_message_in, is_command}
+use Rattle.bus_due.specs.bus_trace.specs.Terms.{is_fault, receiver_in}
+use Rattle.bus_due.specs.bus_phases.specs.declared.dialogue.Dialogue.{Dialogue}
+use Rattle.bus_due.specs.bus_phases.specs.declared.spoken.CommandBytes.{CommandBytes}
+use Rattle.bus_due.specs.bus_phases.specs.declared.spoken.Heard.{Heard}
+use Rattle.bus_due.specs.bus_phases.specs.Dialogue.{command_on, heard_with_command, fresh_bytes, byte_out, byte_in, byte_else}
+use Rattle.bus_due.specs.cdb_codec.specs.Cdb.{group_len, is_len, has_group_len}
+use Rattle.bus_due.specs.msg_grammar.specs.declared.message.MsgOut.{MsgOut}
+use Rattle.bus_due.specs.msg_grammar.specs.Messages.{got_out, got_in}
+use Rattle.bus_due.specs.scenario.specs.Value.{ScenarioValue}
+use Rattle.bus_due.specs.bus_story.specs.BusState.{RowReading, whole_out, whole_in}
+use Rattle.bus_due.specs.bus_story.specs.Links.{Link}
+use Rattle.bus_due.specs.bus_dialogue.specs.declared.exchange.Cause.{Cause}
+use Rattle.bus_due.specs.bus_dialogue.specs.declared.exchange.Next.{Next}
+use Rattle.bus_due.specs.bus_dialogue.specs.declared.exchange.Phase.{Phase}
+use Rattle.bus_due.specs.bus_dialogue.specs.declared.exchange.Phase.TheVariants as phases
+use Rattle.bus_due.specs.bus_dialogue.specs.declared.exchange.Plan.{Plan}
+use Rattle.bus_due.specs.bus_dialogue.specs.Exchange.{Exchange, plan_after_message}
+use Rattle.bus_due.specs.bus_dialogue.specs.NextPhase.{phase_of}
 use Rattle.bus_due.specs.RunState.{RunState, bus_of, carried_here}
 use Rattle.bus_due.specs.RunSteps.{run_state_after}
 use Rattle.bus_books.specs.Giving.{Gives, GivesNext}
@@ -40,7 +40,7 @@ use Rattle.trace_laws.proofs.CommandStays.{Waits, WaitsThen, phase_same}
 use Rattle.trace_laws.proofs.CommandTurns.{serves_as, item_as}
 use Rattle.trace_laws.proofs.CommandMessages.{crossed_out, crossed_in, crossed_else, tells, same_item, SaidRow, said_in, GivenRow, given_for}
 use Rattle.trace_laws.proofs.Complaints.{speech_said}
-use Rattle.bus_base.proofs.Tests.{wrong, wrong'}
+use Rattle.bus_due.specs.bus_base.proofs.Tests.{wrong, wrong'}
 
 -- ---- COMMAND
 

@@ -1,26 +1,26 @@
 -- A connection begins: nothing of the command counts, and after a selection nothing of the block of its process is taken (6.6.19).
 use Rattle.std.proofs.Common.{◌≡◌, Bool, true, false, not, ◌&&◌, ◌∙◌, [], Option, Some, None, refl, sym, ap, subst}
 use Rattle.std.specs.Prelude.{if◌then◌else◌}
-use Rattle.bus_base.specs.declared.ProcId.{ProcId}
-use Rattle.bus_trace.specs.declared.Row.{Row}
-use Rattle.bus_trace.specs.declared.connection.Connection.{Connection}
-use Rattle.bus_phases.specs.declared.dialogue.Dialogue.{Dialogue}
-use Rattle.bus_phases.specs.declared.spoken.CommandBytes.{CommandBytes}
-use Rattle.bus_phases.specs.Dialogue.{no_command, opened, dialogue_after}
-use Rattle.scenario.specs.Value.{ScenarioValue}
-use Rattle.bus_story.specs.BusState.{row_reading}
-use Rattle.bus_story.specs.HistoryEvents.{row_events_by}
-use Rattle.bus_story.specs.Items.{Item, process, abort}
-use Rattle.bus_story.specs.Links.{link_of}
-use Rattle.bus_story.specs.PairAgreements.{agreement_in}
-use Rattle.bus_story.specs.Story.{Story}
-use Rattle.bus_story.specs.TraceHistory.{aim_of, story_with_restored, story_with_sent, story_after_connection, story_on_bus, story_by_change}
-use Rattle.bus_dialogue.specs.declared.exchange.Next.{Next}
-use Rattle.bus_dialogue.specs.declared.exchange.Next.TheVariants as nexts
-use Rattle.bus_dialogue.specs.declared.exchange.Phase.{Phase}
-use Rattle.bus_dialogue.specs.Exchange.{Exchange, no_messages}
-use Rattle.bus_dialogue.specs.NextPhase.{phase_of}
-use Rattle.bus_dialogue.specs.Planning.{first_plan}
+use Rattle.bus_due.specs.bus_base.specs.declared.ProcId.{ProcId}
+use Rattle.bus_due.specs.bus_trace.specs.declared.Row.{Row}
+use Rattle.bus_due.specs.bus_trace.specs.declared.connection.Connection.{Connection}
+use Rattle.bus_due.specs.bus_phases.specs.declared.dialogue.Dialogue.{Dialogue}
+use Rattle.bus_due.specs.bus_phases.specs.declared.spoken.CommandBytes.{CommandBytes}
+use Rattle.bus_due.specs.bus_phases.specs.Dialogue.{no_command, opened, dialogue_after}
+use Rattle.bus_due.specs.scenario.specs.Value.{ScenarioValue}
+use Rattle.bus_due.specs.bus_story.specs.BusState.{row_reading}
+use Rattle.bus_due.specs.bus_story.specs.HistoryEvents.{row_events_by}
+use Rattle.bus_due.specs.bus_story.specs.Items.{Item, process, abort}
+use Rattle.bus_due.specs.bus_story.specs.Links.{link_of}
+use Rattle.bus_due.specs.bus_story.specs.PairAgreements.{agreement_in}
+use Rattle.bus_due.specs.bus_story.specs.Story.{Story}
+use Rattle.bus_due.specs.bus_story.specs.TraceHistory.{aim_of, story_with_restored, story_with_sent, story_after_connection, story_on_bus, story_by_change}
+use Rattle.bus_due.specs.bus_dialogue.specs.declared.exchange.Next.{Next}
+use Rattle.bus_due.specs.bus_dialogue.specs.declared.exchange.Next.TheVariants as nexts
+use Rattle.bus_due.specs.bus_dialogue.specs.declared.exchange.Phase.{Phase}
+use Rattle.bus_due.specs.bus_dialogue.specs.Exchange.{Exchange, no_messages}
+use Rattle.bus_due.specs.bus_dialogue.specs.NextPhase.{phase_of}
+use Rattle.bus_due.specs.bus_dialogue.specs.Planning.{first_plan}
 use Rattle.bus_due.specs.RunState.{RunState, bus_of}
 use Rattle.bus_due.specs.RunSteps.{run_state_after, first_exchange, exchange_after, served_after, may_negotiate, item_if, messages_if, leaving_of}
 use Rattle.bus_due.specs.Wants.{ready_of}
@@ -31,8 +31,8 @@ use Rattle.trace_laws.specs.Commands.{IsNone, IsNoneOrAll, dialogue_of, Counts, 
 use Rattle.trace_laws.proofs.BlockRows.{block_in, undo_of, events_block, restored_own}
 use Rattle.trace_laws.proofs.Impossible.{none_some}
 use Rattle.trace_laws.proofs.PhaseLines.{in_phase}
-use Rattle.bus_base.proofs.Tests.{wrong, wrong'}
-use Rattle.bus_story.proofs.StorySteps.{events_link}
+use Rattle.bus_due.specs.bus_base.proofs.Tests.{wrong, wrong'}
+use Rattle.bus_due.specs.bus_story.proofs.StorySteps.{events_link}
 
 -- The pointers of its process are restored.
 restored_first : (b : Story) (n : Connection) (id : ProcId) → n.reselected ≡ false → aim_of b.aims n.initiator ≡ Some (process id) → block_in (story_after_connection b n) id ≡ []

@@ -2,37 +2,37 @@
 use Rattle.std.proofs.Common.{ℕ, ◌≡◌, ◌≤◌, Bool, true, false, not, ◌&&◌, ◌==◌, ◌∙◌, List, length, length-append, Option, Some, None, refl, sym, ap, subst, arith}
 use Rattle.std.specs.Prelude.{◌-◌, if◌then◌else◌, is_some, nat_lt}
 use Rattle.std.proofs.lemmas.Bool.Decides.{nat_tests}
-use Rattle.bus_base.specs.declared.ProcId.{ProcId}
-use Rattle.bus_trace.specs.LineSet.{LineSet}
-use Rattle.bus_trace.specs.declared.Row.{Row}
-use Rattle.bus_trace.specs.declared.changes.Change.{Change}
-use Rattle.bus_trace.specs.declared.agreements.Agreement.{Agreement}
-use Rattle.bus_trace.specs.declared.connection.Connection.{Connection}
-use Rattle.bus_trace.specs.Phases.{changes_phase, is_message_out, is_message_in}
-use Rattle.bus_trace.specs.Terms.{is_fault, receiver_in}
-use Rattle.bus_lines.specs.Handshakes.{Handshakes, no_handshakes, handshakes_after, asked_if, answered_if}
-use Rattle.bus_trace.specs.Changes.{rises}
-use Rattle.bus_phases.specs.declared.dialogue.Dialogue.{Dialogue}
-use Rattle.bus_phases.specs.Dialogue.{phase_begins}
-use Rattle.msg_grammar.specs.declared.message.MsgIn.TheVariants as to_initiator
-use Rattle.cdb_codec.specs.Cdb.{has_group_len}
-use Rattle.scenario.specs.declared.value.HostDef.{HostDef}
-use Rattle.scenario.specs.Value.{ScenarioValue}
-use Rattle.bus_dialogue.specs.declared.exchange.Cause.{Cause}
-use Rattle.bus_dialogue.specs.declared.exchange.Cause.TheVariants as causes
-use Rattle.bus_dialogue.specs.declared.exchange.Hearing.{Hearing}
-use Rattle.bus_dialogue.specs.declared.exchange.Leaving.{Leaving}
-use Rattle.bus_dialogue.specs.declared.exchange.Messages.{Messages}
-use Rattle.bus_dialogue.specs.declared.exchange.Next.{Next}
-use Rattle.bus_dialogue.specs.declared.exchange.Next.TheVariants as nexts
-use Rattle.bus_dialogue.specs.declared.exchange.Phase.{Phase}
-use Rattle.bus_dialogue.specs.declared.exchange.Phase.TheVariants as phases
-use Rattle.bus_dialogue.specs.declared.exchange.Plan.{Plan}
-use Rattle.bus_dialogue.specs.Exchange.{Exchange, one_message, plan_anew, speech_of, bytes_of_messages, from_byte}
-use Rattle.bus_dialogue.specs.NextPhase.{phase_of, leaving_by}
-use Rattle.bus_dialogue.specs.Planning.{cause_after, plan_in_message_out, plan_in_phase}
-use Rattle.bus_dialogue.specs.Speaking.{words_after}
-use Rattle.bus_dialogue.specs.Words.{parity_error, detected_error, answer_bytes}
+use Rattle.bus_due.specs.bus_base.specs.declared.ProcId.{ProcId}
+use Rattle.bus_due.specs.bus_trace.specs.LineSet.{LineSet}
+use Rattle.bus_due.specs.bus_trace.specs.declared.Row.{Row}
+use Rattle.bus_due.specs.bus_trace.specs.declared.changes.Change.{Change}
+use Rattle.bus_due.specs.bus_trace.specs.declared.agreements.Agreement.{Agreement}
+use Rattle.bus_due.specs.bus_trace.specs.declared.connection.Connection.{Connection}
+use Rattle.bus_due.specs.bus_trace.specs.Phases.{changes_phase, is_message_out, is_message_in}
+use Rattle.bus_due.specs.bus_trace.specs.Terms.{is_fault, receiver_in}
+use Rattle.bus_due.specs.bus_lines.specs.Handshakes.{Handshakes, no_handshakes, handshakes_after, asked_if, answered_if}
+use Rattle.bus_due.specs.bus_trace.specs.Changes.{rises}
+use Rattle.bus_due.specs.bus_phases.specs.declared.dialogue.Dialogue.{Dialogue}
+use Rattle.bus_due.specs.bus_phases.specs.Dialogue.{phase_begins}
+use Rattle.bus_due.specs.msg_grammar.specs.declared.message.MsgIn.TheVariants as to_initiator
+use Rattle.bus_due.specs.cdb_codec.specs.Cdb.{has_group_len}
+use Rattle.bus_due.specs.scenario.specs.declared.value.HostDef.{HostDef}
+use Rattle.bus_due.specs.scenario.specs.Value.{ScenarioValue}
+use Rattle.bus_due.specs.bus_dialogue.specs.declared.exchange.Cause.{Cause}
+use Rattle.bus_due.specs.bus_dialogue.specs.declared.exchange.Cause.TheVariants as causes
+use Rattle.bus_due.specs.bus_dialogue.specs.declared.exchange.Hearing.{Hearing}
+use Rattle.bus_due.specs.bus_dialogue.specs.declared.exchange.Leaving.{Leaving}
+use Rattle.bus_due.specs.bus_dialogue.specs.declared.exchange.Messages.{Messages}
+use Rattle.bus_due.specs.bus_dialogue.specs.declared.exchange.Next.{Next}
+use Rattle.bus_due.specs.bus_dialogue.specs.declared.exchange.Next.TheVariants as nexts
+use Rattle.bus_due.specs.bus_dialogue.specs.declared.exchange.Phase.{Phase}
+use Rattle.bus_due.specs.bus_dialogue.specs.declared.exchange.Phase.TheVariants as phases
+use Rattle.bus_due.specs.bus_dialogue.specs.declared.exchange.Plan.{Plan}
+use Rattle.bus_due.specs.bus_dialogue.specs.Exchange.{Exchange, one_message, plan_anew, speech_of, bytes_of_messages, from_byte}
+use Rattle.bus_due.specs.bus_dialogue.specs.NextPhase.{phase_of, leaving_by}
+use Rattle.bus_due.specs.bus_dialogue.specs.Planning.{cause_after, plan_in_message_out, plan_in_phase}
+use Rattle.bus_due.specs.bus_dialogue.specs.Speaking.{words_after}
+use Rattle.bus_due.specs.bus_dialogue.specs.Words.{parity_error, detected_error, answer_bytes}
 use Rattle.bus_due.specs.Defs.{host_of}
 use Rattle.bus_due.specs.RunState.{RunState, bus_of, carried_here}
 use Rattle.bus_due.specs.RunSteps.{run_state_after}
@@ -46,7 +46,7 @@ use Rattle.trace_laws.specs.Commands.{IsNone, IsNoneOrAll, dialogue_of, block_co
 use Rattle.trace_laws.proofs.BlockRows.{block_after, quiet_block, quiet_link}
 use Rattle.trace_laws.proofs.CommandLeavings.{IsReady, by_opening, by_restoring, LeadsIn, LeadsTo, Leads, IsLeft, leads}
 use Rattle.trace_laws.proofs.PhaseLines.{out_lines, in_phase, out_phase}
-use Rattle.bus_base.proofs.Tests.{wrong}
+use Rattle.bus_due.specs.bus_base.proofs.Tests.{wrong}
 
 -- ---- what stays
 

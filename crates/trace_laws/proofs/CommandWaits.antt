@@ -1,42 +1,42 @@
 -- In COMMAND the target asks for a byte while the block is not whole (6.1.6, 7.2).
 use Rattle.std.proofs.Common.{ℕ, ◌≡◌, ◌≢◌, ◌<◌, Bool, true, false, not, ◌&&◌, ◌==◌, ◌∙◌, List, [], ◌∷◌, Option, Some, None, refl, sym, ap, arith}
 use Rattle.std.specs.Prelude.{if◌then◌else◌}
-use Rattle.bus_base.specs.Faults.{counted_on}
-use Rattle.bus_trace.specs.LineSet.{LineSet, none, union, byte_set}
-use Rattle.bus_trace.specs.declared.Row.{Row}
-use Rattle.bus_trace.specs.declared.Kind.{Kind}
-use Rattle.bus_trace.specs.declared.Kind.TheVariants.{Drives, Fault}
-use Rattle.bus_trace.specs.declared.changes.Change.{Change}
-use Rattle.bus_trace.specs.declared.connection.Connection.{Connection}
-use Rattle.bus_trace.specs.Changes.{change_of, rises}
-use Rattle.bus_trace.specs.Phases.{changes_phase, is_command}
-use Rattle.bus_trace.specs.Terms.{connection, is_fault}
-use Rattle.bus_trace.specs.Trace.{bus, drives}
-use Rattle.bus_trace.proofs.Buses.{bus_two}
-use Rattle.bus_trace.proofs.OneRow.{bus-fault}
-use Rattle.bus_lines.specs.Handshakes.{Handshakes, handshakes, handshakes_after, handshakes_on, no_handshakes, asked_if, answered_if, strikes_if}
-use Rattle.cdb_codec.specs.Cdb.{has_group_len}
-use Rattle.scenario.specs.Value.{ScenarioValue}
-use Rattle.disk_array.specs.Processes.{Process}
-use Rattle.bus_dialogue.specs.declared.exchange.Phase.{Phase}
-use Rattle.bus_dialogue.specs.declared.exchange.Phase.TheVariants as phases
-use Rattle.bus_dialogue.specs.PhaseBytes.{has_whole_block, lines_by, phase_byte, one_if}
-use Rattle.bus_dialogue.specs.NextPhase.{Serving, phase_lines, phase_leaving, phase_of}
-use Rattle.bus_dialogue.specs.declared.exchange.Leaving.{Leaving}
+use Rattle.bus_due.specs.bus_base.specs.Faults.{counted_on}
+use Rattle.bus_due.specs.bus_trace.specs.LineSet.{LineSet, none, union, byte_set}
+use Rattle.bus_due.specs.bus_trace.specs.declared.Row.{Row}
+use Rattle.bus_due.specs.bus_trace.specs.declared.Kind.{Kind}
+use Rattle.bus_due.specs.bus_trace.specs.declared.Kind.TheVariants.{Drives, Fault}
+use Rattle.bus_due.specs.bus_trace.specs.declared.changes.Change.{Change}
+use Rattle.bus_due.specs.bus_trace.specs.declared.connection.Connection.{Connection}
+use Rattle.bus_due.specs.bus_trace.specs.Changes.{change_of, rises}
+use Rattle.bus_due.specs.bus_trace.specs.Phases.{changes_phase, is_command}
+use Rattle.bus_due.specs.bus_trace.specs.Terms.{connection, is_fault}
+use Rattle.bus_due.specs.bus_trace.specs.Trace.{bus, drives}
+use Rattle.bus_due.specs.bus_trace.proofs.Buses.{bus_two}
+use Rattle.bus_due.specs.bus_trace.proofs.OneRow.{bus-fault}
+use Rattle.bus_due.specs.bus_lines.specs.Handshakes.{Handshakes, handshakes, handshakes_after, handshakes_on, no_handshakes, asked_if, answered_if, strikes_if}
+use Rattle.bus_due.specs.cdb_codec.specs.Cdb.{has_group_len}
+use Rattle.bus_due.specs.scenario.specs.Value.{ScenarioValue}
+use Rattle.bus_due.specs.disk_array.specs.Processes.{Process}
+use Rattle.bus_due.specs.bus_dialogue.specs.declared.exchange.Phase.{Phase}
+use Rattle.bus_due.specs.bus_dialogue.specs.declared.exchange.Phase.TheVariants as phases
+use Rattle.bus_due.specs.bus_dialogue.specs.PhaseBytes.{has_whole_block, lines_by, phase_byte, one_if}
+use Rattle.bus_due.specs.bus_dialogue.specs.NextPhase.{Serving, phase_lines, phase_leaving, phase_of}
+use Rattle.bus_due.specs.bus_dialogue.specs.declared.exchange.Leaving.{Leaving}
 use Rattle.bus_due.specs.RunState.{process_served, carried_here}
 use Rattle.bus_due.specs.RunSteps.{run_state}
 use Rattle.bus_due.specs.Sights.{serving_at}
 use Rattle.bus_due.specs.Tasks.{task_if}
-use Rattle.bus_laws.specs.Ends.{EndLines, connected_bus, initiator_side, target_side, Linked}
-use Rattle.bus_laws.specs.Rows.{row_of_lines}
-use Rattle.bus_laws.proofs.Rows.{drives_own, drives_other}
+use Rattle.link_laws.specs.bus_laws.specs.Ends.{EndLines, connected_bus, initiator_side, target_side, Linked}
+use Rattle.link_laws.specs.bus_laws.specs.Rows.{row_of_lines}
+use Rattle.link_laws.specs.bus_laws.proofs.Rows.{drives_own, drives_other}
 use Rattle.link_laws.specs.Phases.{ends}
 use Rattle.link_laws.proofs.EndDues.{offering_with}
 use Rattle.link_laws.proofs.Moves.{initiator_moves, target_moves}
 use Rattle.trace_laws.proofs.LinkRows as rows
 use Rattle.trace_laws.proofs.LinkRows.{LinkRow, is_unasked}
 use Rattle.trace_laws.proofs.StatusOffers.{left_req}
-use Rattle.bus_base.proofs.Tests.{wrong, wrong', zero_of}
+use Rattle.bus_due.specs.bus_base.proofs.Tests.{wrong, wrong', zero_of}
 
 -- ---- a byte follows while the block is not whole
 

@@ -2,30 +2,30 @@
 use Rattle.std.proofs.Common.{◌≡◌, ◌<◌, Bool, true, false, ◌&&◌, ◌∙◌, List, [], ◌∷◌, length, Some, None, refl, sym, ap, subst}
 use Rattle.std.specs.Prelude.{if◌then◌else◌, is_some}
 use Rattle.std.proofs.lemmas.Option.{same_Some}
-use Rattle.bus_trace.specs.LineSet.{LineSet}
-use Rattle.bus_trace.specs.declared.Row.{Row}
-use Rattle.bus_trace.specs.declared.changes.Change.{Change}
-use Rattle.bus_trace.specs.declared.connection.Connection.{Connection}
-use Rattle.bus_trace.specs.Changes.{change_of}
-use Rattle.bus_trace.specs.Phases.{is_command, is_message_in}
-use Rattle.bus_lines.specs.Handshakes.{Handshakes}
-use Rattle.bus_trace.specs.Terms.{connection, connection_after, receiver_in, receiver_of}
-use Rattle.bus_trace.specs.Trace.{bus}
-use Rattle.scenario.specs.Value.{ScenarioValue}
-use Rattle.scenario.specs.Writing.{Obeys}
-use Rattle.bus_story.specs.BusState.{row_reading}
+use Rattle.bus_due.specs.bus_trace.specs.LineSet.{LineSet}
+use Rattle.bus_due.specs.bus_trace.specs.declared.Row.{Row}
+use Rattle.bus_due.specs.bus_trace.specs.declared.changes.Change.{Change}
+use Rattle.bus_due.specs.bus_trace.specs.declared.connection.Connection.{Connection}
+use Rattle.bus_due.specs.bus_trace.specs.Changes.{change_of}
+use Rattle.bus_due.specs.bus_trace.specs.Phases.{is_command, is_message_in}
+use Rattle.bus_due.specs.bus_lines.specs.Handshakes.{Handshakes}
+use Rattle.bus_due.specs.bus_trace.specs.Terms.{connection, connection_after, receiver_in, receiver_of}
+use Rattle.bus_due.specs.bus_trace.specs.Trace.{bus}
+use Rattle.bus_due.specs.scenario.specs.Value.{ScenarioValue}
+use Rattle.bus_due.specs.scenario.specs.Writing.{Obeys}
+use Rattle.bus_due.specs.bus_story.specs.BusState.{row_reading}
 use Rattle.bus_due.specs.Least.{IsLeast}
 use Rattle.bus_due.specs.Next.{due, IsPrompt}
 use Rattle.bus_due.specs.Plain.{IsPlain}
-use Rattle.disk_array.specs.Processes.{Process}
+use Rattle.bus_due.specs.disk_array.specs.Processes.{Process}
 use Rattle.bus_due.specs.RunState.{RunState, process_here, carried_here}
 use Rattle.bus_due.specs.RunSteps.{run_state}
 use Rattle.bus_due.proofs.Plains.{run_state_plain}
-use Rattle.scsi_device.proofs.FitLines.{obeys_fits, units_are}
+use Rattle.target_units.specs.scsi_device.proofs.FitLines.{obeys_fits, units_are}
 use Rattle.bus_books.specs.Traces.{GoesOn, RowOf, apart, begins, goes_on, ends, under_reset}
 use Rattle.bus_books.proofs.Aims.{aims_are}
-use Rattle.bus_laws.proofs.Apart.{change_plain}
-use Rattle.bus_laws.proofs.Prompt.{least_is}
+use Rattle.link_laws.specs.bus_laws.proofs.Apart.{change_plain}
+use Rattle.link_laws.specs.bus_laws.proofs.Prompt.{least_is}
 use Rattle.trace_laws.specs.Commands.{CommandBooks, CommandFacts, AnswersAtCommand, CommandAsked}
 use Rattle.trace_laws.specs.Offers.{OfferFacts}
 use Rattle.trace_laws.proofs.Blocks.{HasCommands, commands_are}
@@ -37,7 +37,7 @@ use Rattle.trace_laws.proofs.ConnectionRows.{ConnectionRow, connection_row, stag
 use Rattle.trace_laws.proofs.Impossible.{none_some}
 use Rattle.trace_laws.proofs.Joint.{Stood, NextStood, link_phase}
 use Rattle.trace_laws.proofs.Offers.{answers_at_command}
-use Rattle.bus_base.proofs.Tests.{wrong, wrong'}
+use Rattle.bus_due.specs.bus_base.proofs.Tests.{wrong, wrong'}
 
 pub command_start : (s : ScenarioValue) → CommandFacts s []
 command_start s = record { books = λ n e calm. none_some n e }

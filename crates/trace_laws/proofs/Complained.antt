@@ -1,42 +1,42 @@
 -- Of a prompt trace: the initiator complains only of a phase in which a byte was struck (6.6.10, 6.6.13).
 use Rattle.std.proofs.Common.{ℕ, ◌≡◌, inl, inr, Bool, true, false, not, ◌&&◌, ◌||◌, ◌∙◌, List, ◌∷◌, Option, Some, None, refl, sym, ap}
 use Rattle.std.specs.Prelude.{if◌then◌else◌, is_none, is_some}
-use Rattle.bus_trace.specs.LineSet.{LineSet}
-use Rattle.bus_trace.specs.declared.Row.{Row}
-use Rattle.bus_trace.specs.declared.agreements.Agreement.{Agreement}
-use Rattle.bus_trace.specs.declared.changes.Change.{Change}
-use Rattle.bus_trace.specs.declared.connection.Connection.{Connection}
-use Rattle.bus_trace.specs.Changes.{change_of}
-use Rattle.bus_trace.specs.Phases.{changes_phase, is_message_in, is_message_out}
-use Rattle.bus_trace.specs.Terms.{connection, connection_after}
-use Rattle.bus_trace.specs.Trace.{bus}
-use Rattle.bus_phases.specs.declared.dialogue.Dialogue.{Dialogue}
-use Rattle.msg_grammar.specs.Messages.{form_out}
-use Rattle.scenario.specs.declared.value.HostDef.{HostDef}
-use Rattle.scenario.specs.Value.{ScenarioValue}
-use Rattle.scenario.specs.Writing.{Obeys}
-use Rattle.bus_story.specs.BusState.{RowReading, row_reading}
-use Rattle.bus_dialogue.specs.declared.exchange.Cause.{Cause}
-use Rattle.bus_dialogue.specs.declared.exchange.Cause.TheVariants as causes
-use Rattle.bus_dialogue.specs.declared.exchange.Phase.{Phase}
-use Rattle.bus_dialogue.specs.declared.exchange.Phase.TheVariants as phases
-use Rattle.bus_dialogue.specs.declared.exchange.Plan.{Plan}
-use Rattle.bus_dialogue.specs.Exchange.{Speech}
-use Rattle.bus_dialogue.specs.NextPhase.{phase_of}
-use Rattle.bus_dialogue.specs.Words.{answer_bytes, host_answer}
+use Rattle.bus_due.specs.bus_trace.specs.LineSet.{LineSet}
+use Rattle.bus_due.specs.bus_trace.specs.declared.Row.{Row}
+use Rattle.bus_due.specs.bus_trace.specs.declared.agreements.Agreement.{Agreement}
+use Rattle.bus_due.specs.bus_trace.specs.declared.changes.Change.{Change}
+use Rattle.bus_due.specs.bus_trace.specs.declared.connection.Connection.{Connection}
+use Rattle.bus_due.specs.bus_trace.specs.Changes.{change_of}
+use Rattle.bus_due.specs.bus_trace.specs.Phases.{changes_phase, is_message_in, is_message_out}
+use Rattle.bus_due.specs.bus_trace.specs.Terms.{connection, connection_after}
+use Rattle.bus_due.specs.bus_trace.specs.Trace.{bus}
+use Rattle.bus_due.specs.bus_phases.specs.declared.dialogue.Dialogue.{Dialogue}
+use Rattle.bus_due.specs.msg_grammar.specs.Messages.{form_out}
+use Rattle.bus_due.specs.scenario.specs.declared.value.HostDef.{HostDef}
+use Rattle.bus_due.specs.scenario.specs.Value.{ScenarioValue}
+use Rattle.bus_due.specs.scenario.specs.Writing.{Obeys}
+use Rattle.bus_due.specs.bus_story.specs.BusState.{RowReading, row_reading}
+use Rattle.bus_due.specs.bus_dialogue.specs.declared.exchange.Cause.{Cause}
+use Rattle.bus_due.specs.bus_dialogue.specs.declared.exchange.Cause.TheVariants as causes
+use Rattle.bus_due.specs.bus_dialogue.specs.declared.exchange.Phase.{Phase}
+use Rattle.bus_due.specs.bus_dialogue.specs.declared.exchange.Phase.TheVariants as phases
+use Rattle.bus_due.specs.bus_dialogue.specs.declared.exchange.Plan.{Plan}
+use Rattle.bus_due.specs.bus_dialogue.specs.Exchange.{Speech}
+use Rattle.bus_due.specs.bus_dialogue.specs.NextPhase.{phase_of}
+use Rattle.bus_due.specs.bus_dialogue.specs.Words.{answer_bytes, host_answer}
 use Rattle.bus_due.specs.Least.{IsLeast}
 use Rattle.bus_due.specs.Next.{due, IsPrompt}
 use Rattle.bus_due.specs.Plain.{IsPlain}
 use Rattle.bus_due.specs.RunState.{RunState, bus_of}
 use Rattle.bus_due.specs.RunSteps.{run_state}
 use Rattle.bus_due.proofs.Plains.{run_state_plain}
-use Rattle.ending_causes.specs.WrongParity.{is_complaining, is_complaint, is_left, is_refusing, is_true_complaint}
+use Rattle.bus_books.specs.WrongParity.{is_complaining, is_complaint, is_left, is_refusing, is_true_complaint}
 use Rattle.bus_books.specs.Listening.{Understanding, nothing_understood, understood}
 use Rattle.bus_books.specs.Reactions.{IsOver}
 use Rattle.bus_books.specs.Speaking.{AreWordsHeard, Speaks}
 use Rattle.bus_books.proofs.Reactions.{out_over}
-use Rattle.bus_laws.proofs.Apart.{change_plain}
-use Rattle.bus_laws.proofs.Prompt.{least_is}
+use Rattle.link_laws.specs.bus_laws.proofs.Apart.{change_plain}
+use Rattle.link_laws.specs.bus_laws.proofs.Prompt.{least_is}
 use Rattle.link_laws.specs.LinkStages.{AnyStage, apart, linked}
 use Rattle.trace_laws.specs.RowAttendance.{IsCalmTurn}
 use Rattle.trace_laws.specs.Complaints.{ComplaintFacts, Refuses}
@@ -45,7 +45,7 @@ use Rattle.trace_laws.proofs.Crossings.{RowFacts, ends_here, stays}
 use Rattle.trace_laws.proofs.Impossible.{none_some}
 use Rattle.trace_laws.proofs.Joint.{NextStood, Stood, apart_connection, link_phase}
 use Rattle.trace_laws.proofs.PhaseLines.{out_lines}
-use Rattle.bus_base.proofs.Tests.{wrong, wrong'}
+use Rattle.bus_due.specs.bus_base.proofs.Tests.{wrong, wrong'}
 use Rattle.link_laws.proofs.Traces.{link_calm}
 
 -- ---- the answer to a request is heard as one

@@ -1,35 +1,35 @@
 -- ATN in a row of a phase to the initiator: it raises it only where a byte was struck, or a request is open (6.6.10, 6.6.13, 6.6.21).
 use Rattle.std.proofs.Common.{ℕ, ◌≡◌, Bool, true, false, ◌||◌, ◌∙◌, List, ◌∷◌, Option, Some, None, refl, sym, ap, subst}
-use Rattle.bus_trace.specs.LineSet.{LineSet}
-use Rattle.bus_trace.specs.declared.Row.{Row}
-use Rattle.bus_trace.specs.declared.changes.Change.{Change}
-use Rattle.bus_trace.specs.declared.connection.Connection.{Connection}
-use Rattle.bus_trace.specs.Changes.{change_of}
-use Rattle.bus_trace.specs.Terms.{connection}
-use Rattle.bus_trace.specs.Trace.{drives, last_time}
-use Rattle.bus_lines.specs.Handshakes.{first_of, handshakes, is_struck}
-use Rattle.bus_phases.specs.declared.words.End.TheVariants as sides
-use Rattle.bus_phases.specs.Dialogue.{dialogue, is_of_other}
-use Rattle.bus_dialogue.specs.declared.exchange.Leaving.{Leaving}
-use Rattle.bus_dialogue.specs.declared.exchange.Phase.{Phase}
-use Rattle.bus_dialogue.specs.NextPhase.{Serving, phase_lines, phase_of, phase_leaving}
-use Rattle.bus_dialogue.specs.PhaseBytes.{lines_by}
+use Rattle.bus_due.specs.bus_trace.specs.LineSet.{LineSet}
+use Rattle.bus_due.specs.bus_trace.specs.declared.Row.{Row}
+use Rattle.bus_due.specs.bus_trace.specs.declared.changes.Change.{Change}
+use Rattle.bus_due.specs.bus_trace.specs.declared.connection.Connection.{Connection}
+use Rattle.bus_due.specs.bus_trace.specs.Changes.{change_of}
+use Rattle.bus_due.specs.bus_trace.specs.Terms.{connection}
+use Rattle.bus_due.specs.bus_trace.specs.Trace.{drives, last_time}
+use Rattle.bus_due.specs.bus_lines.specs.Handshakes.{first_of, handshakes, is_struck}
+use Rattle.bus_due.specs.bus_phases.specs.declared.words.End.TheVariants as sides
+use Rattle.bus_due.specs.bus_phases.specs.Dialogue.{dialogue, is_of_other}
+use Rattle.bus_due.specs.bus_dialogue.specs.declared.exchange.Leaving.{Leaving}
+use Rattle.bus_due.specs.bus_dialogue.specs.declared.exchange.Phase.{Phase}
+use Rattle.bus_due.specs.bus_dialogue.specs.NextPhase.{Serving, phase_lines, phase_of, phase_leaving}
+use Rattle.bus_due.specs.bus_dialogue.specs.PhaseBytes.{lines_by}
 use Rattle.bus_due.specs.RunSteps.{run_state}
 use Rattle.bus_due.specs.Sights.{serving_at}
-use Rattle.bus_laws.specs.Ends.{EndLines, Linked, connected_bus, initiator_side, target_side}
-use Rattle.bus_laws.specs.Rows.{change_to, row_of_fault, row_of_lines}
-use Rattle.bus_laws.proofs.Rows.{fault_change}
+use Rattle.link_laws.specs.bus_laws.specs.Ends.{EndLines, Linked, connected_bus, initiator_side, target_side}
+use Rattle.link_laws.specs.bus_laws.specs.Rows.{change_to, row_of_fault, row_of_lines}
+use Rattle.link_laws.specs.bus_laws.proofs.Rows.{fault_change}
 use Rattle.link_laws.specs.Phases.{ends}
 use Rattle.link_laws.proofs.EndDues.{answering_with, offering_with}
 use Rattle.link_laws.proofs.Moves.{initiator_moves, target_moves}
-use Rattle.scenario.specs.Value.{ScenarioValue}
+use Rattle.bus_due.specs.scenario.specs.Value.{ScenarioValue}
 use Rattle.trace_laws.proofs.AttentionRows.{lines_are}
 use Rattle.trace_laws.proofs.Impossible.{none_some}
 use Rattle.trace_laws.proofs.Kept.{turn}
 use Rattle.trace_laws.proofs.LinkRows as rows
 use Rattle.trace_laws.proofs.LinkRows.{LinkRow}
 use Rattle.trace_laws.proofs.Turns.{freed_connection}
-use Rattle.bus_base.proofs.Tests.{wrong'}
+use Rattle.bus_due.specs.bus_base.proofs.Tests.{wrong'}
 
 -- ATN was true before the row; the byte of the newest request, or of the oldest that waits, was struck; or a request of the target is open.
 pub data Raised (p : List Row) (c : Change) : Type 0 where

@@ -2,34 +2,34 @@
 use Rattle.std.proofs.Common.{◌≡◌, ◌<◌, Bool, true, false, not, ◌&&◌, ◌||◌, ◌∙◌, List, ◌∷◌, Some, None, refl, sym, ap, subst}
 use Rattle.std.specs.Prelude.{is_some, if◌then◌else◌}
 use Rattle.std.proofs.lemmas.Option.{same_Some}
-use Rattle.bus_trace.specs.LineSet.{LineSet}
-use Rattle.bus_trace.proofs.Buses.{bus_on}
-use Rattle.bus_trace.specs.declared.Row.{Row}
-use Rattle.bus_trace.specs.declared.changes.Change.{Change}
-use Rattle.bus_trace.specs.declared.connection.Connection.{Connection}
-use Rattle.bus_trace.specs.Changes.{change_of, implies}
-use Rattle.bus_trace.specs.Terms.{call, connection, connection_after}
-use Rattle.bus_trace.specs.Trace.{bus, drives}
-use Rattle.bus_rules.specs.Reset.{only_rst}
-use Rattle.bus_dialogue.specs.Hearing.{begun}
-use Rattle.scenario.specs.Value.{ScenarioValue}
-use Rattle.scenario.specs.Writing.{Obeys}
-use Rattle.bus_story.specs.BusState.{row_reading}
+use Rattle.bus_due.specs.bus_trace.specs.LineSet.{LineSet}
+use Rattle.bus_due.specs.bus_trace.proofs.Buses.{bus_on}
+use Rattle.bus_due.specs.bus_trace.specs.declared.Row.{Row}
+use Rattle.bus_due.specs.bus_trace.specs.declared.changes.Change.{Change}
+use Rattle.bus_due.specs.bus_trace.specs.declared.connection.Connection.{Connection}
+use Rattle.bus_due.specs.bus_trace.specs.Changes.{change_of, implies}
+use Rattle.bus_due.specs.bus_trace.specs.Terms.{call, connection, connection_after}
+use Rattle.bus_due.specs.bus_trace.specs.Trace.{bus, drives}
+use Rattle.bus_due.specs.bus_rules.specs.Reset.{only_rst}
+use Rattle.bus_due.specs.bus_dialogue.specs.Hearing.{begun}
+use Rattle.bus_due.specs.scenario.specs.Value.{ScenarioValue}
+use Rattle.bus_due.specs.scenario.specs.Writing.{Obeys}
+use Rattle.bus_due.specs.bus_story.specs.BusState.{row_reading}
 use Rattle.bus_due.specs.Least.{IsLeast}
 use Rattle.bus_due.specs.Next.{due, IsPrompt}
 use Rattle.bus_due.specs.Plain.{AreOfDevices}
 use Rattle.bus_due.specs.RunSteps.{run_state}
 use Rattle.bus_due.specs.RunState.{RunState}
 use Rattle.bus_due.proofs.Plains.{run_state_plain}
-use Rattle.scsi_device.proofs.FitLines.{obeys_fits, seats_are}
+use Rattle.target_units.specs.scsi_device.proofs.FitLines.{obeys_fits, seats_are}
 use Rattle.bus_books.specs.Traces.{GoesOn, RowOf, apart as row_apart, begins, goes_on as row_goes_on, ends as row_ends, under_reset}
-use Rattle.bus_laws.specs.Reactions.{unreset_due}
-use Rattle.bus_laws.specs.Rows.{row_of_lines}
-use Rattle.bus_laws.proofs.Apart.{change_plain}
-use Rattle.bus_laws.proofs.Limits.{obeys_latencies}
-use Rattle.bus_laws.proofs.Prompt.{least_is}
-use Rattle.bus_laws.proofs.Rows.{drives_own}
-use Rattle.bus_laws.proofs.Together.{from_stage, by_reset, by_calm, reset_or_calm}
+use Rattle.link_laws.specs.bus_laws.specs.Reactions.{unreset_due}
+use Rattle.link_laws.specs.bus_laws.specs.Rows.{row_of_lines}
+use Rattle.link_laws.specs.bus_laws.proofs.Apart.{change_plain}
+use Rattle.link_laws.specs.bus_laws.proofs.Limits.{obeys_latencies}
+use Rattle.link_laws.specs.bus_laws.proofs.Prompt.{least_is}
+use Rattle.link_laws.specs.bus_laws.proofs.Rows.{drives_own}
+use Rattle.link_laws.specs.bus_laws.proofs.Together.{from_stage, by_reset, by_calm, reset_or_calm}
 use Rattle.link_laws.specs.LinkStages.{LinkStage, when_selected, when_settling, when_turning, when_offering, when_shaking, when_pulsing, AnyStage, apart, linked}
 use Rattle.trace_laws.proofs.Blocks.{commands_are}
 use Rattle.trace_laws.proofs.ByteValues.{byte_values}
@@ -39,7 +39,7 @@ use Rattle.trace_laws.proofs.Impossible.{none_some}
 use Rattle.trace_laws.proofs.Joint.{Stood, link_connection, values_of, apart_connection}
 use Rattle.trace_laws.proofs.LinkRows.{LinkRow, link_row}
 use Rattle.trace_laws.proofs.Steps.{HasValues}
-use Rattle.bus_base.proofs.Tests.{wrong}
+use Rattle.bus_due.specs.bus_base.proofs.Tests.{wrong}
 use Rattle.link_laws.proofs.Traces.{link_calm}
 
 -- ---- what stands

@@ -1,12 +1,12 @@
 -- The runs that are counted of a process, as one is made or a recovery is counted.
 use Rattle.std.proofs.Common.{◌≡◌, ◌+◌, Bool, true, false, ◌||◌, ◌∙◌, List, ◌∷◌, refl, sym, ap}
 use Rattle.std.specs.Prelude.{if◌then◌else◌}
-use Rattle.bus_base.specs.declared.ProcId.{ProcId}
-use Rattle.disk_array.specs.Processes.{same_id}
-use Rattle.bus_dialogue.specs.PhaseBytes.{one_if}
+use Rattle.bus_due.specs.bus_base.specs.declared.ProcId.{ProcId}
+use Rattle.bus_due.specs.disk_array.specs.Processes.{same_id}
+use Rattle.bus_due.specs.bus_dialogue.specs.PhaseBytes.{one_if}
 use Rattle.bus_due.specs.LastingState.{ProcessProgress, progress_in, progress_with}
 use Rattle.bus_books.proofs.Lookups.{id_is}
-use Rattle.bus_base.proofs.Tests.{plus_none}
+use Rattle.bus_due.specs.bus_base.proofs.Tests.{plus_none}
 
 pub counted_runs : (made : List ProcessProgress) (id : ProcId) (runs recovers : Bool) (other : ProcId) → (other ≡ id → ⊥) → (progress_in (progress_with made id runs recovers) other).runs ≡ (progress_in made other).runs
 counted_runs made id runs recovers other ne = by (runs || recovers)

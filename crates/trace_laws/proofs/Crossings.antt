@@ -4,40 +4,40 @@ use Rattle.std.proofs.Common.{ℕ, ◌≡◌, ◌<◌, ◌⊎◌, inl, inr, Bool
 use Rattle.std.specs.Prelude.{if◌then◌else◌, is_some, nat_lt}
 use Rattle.std.specs.Int.RustNames.{bit_or, count_ones}
 use Rattle.std.specs.Int.Bits.{or_zero_r}
-use Rattle.bus_trace.specs.LineSet.{LineSet, none, has_odd_parity}
-use Rattle.bus_trace.specs.declared.Row.{Row}
-use Rattle.bus_trace.specs.declared.changes.Change.{Change}
-use Rattle.bus_trace.specs.declared.connection.Connection.{Connection}
-use Rattle.bus_trace.specs.Changes.{change_of, rises}
-use Rattle.bus_trace.specs.Phases.{changes_phase, is_message_out, is_message_in}
-use Rattle.bus_trace.specs.Terms.{connection, receiver_in}
-use Rattle.bus_trace.specs.Trace.{bus, drives, last_time}
-use Rattle.bus_trace.proofs.OddParity.{byte_odd, byte_back}
-use Rattle.bus_trace.proofs.Sets.{same_self}
-use Rattle.bus_phases.specs.Dialogue.{dialogue}
-use Rattle.bus_lines.specs.Handshakes.{handshakes}
-use Rattle.scenario.specs.Value.{ScenarioValue}
-use Rattle.bus_reactions.specs.declared.ends.Offering.{Offering}
-use Rattle.bus_reactions.specs.Target.{byte_bits, bits_if}
-use Rattle.bus_dialogue.specs.declared.exchange.Leaving.{Leaving}
-use Rattle.bus_dialogue.specs.declared.exchange.Phase.{Phase}
-use Rattle.bus_dialogue.specs.declared.exchange.Phase.TheVariants as phases
-use Rattle.bus_dialogue.specs.Ends.{offering_by, is_pulsed_phase}
-use Rattle.bus_dialogue.specs.Exchange.{bytes_of_messages, attends_with}
-use Rattle.bus_dialogue.specs.Hearing.{begun}
-use Rattle.bus_dialogue.specs.NextPhase.{Serving, phase_of, phase_leaving, leaving_by}
-use Rattle.bus_dialogue.specs.PhaseBytes.{lines_by}
-use Rattle.bus_dialogue.specs.Sending.{byte_to_send}
+use Rattle.bus_due.specs.bus_trace.specs.LineSet.{LineSet, none, has_odd_parity}
+use Rattle.bus_due.specs.bus_trace.specs.declared.Row.{Row}
+use Rattle.bus_due.specs.bus_trace.specs.declared.changes.Change.{Change}
+use Rattle.bus_due.specs.bus_trace.specs.declared.connection.Connection.{Connection}
+use Rattle.bus_due.specs.bus_trace.specs.Changes.{change_of, rises}
+use Rattle.bus_due.specs.bus_trace.specs.Phases.{changes_phase, is_message_out, is_message_in}
+use Rattle.bus_due.specs.bus_trace.specs.Terms.{connection, receiver_in}
+use Rattle.bus_due.specs.bus_trace.specs.Trace.{bus, drives, last_time}
+use Rattle.bus_due.specs.bus_trace.proofs.OddParity.{byte_odd, byte_back}
+use Rattle.bus_due.specs.bus_trace.proofs.Sets.{same_self}
+use Rattle.bus_due.specs.bus_phases.specs.Dialogue.{dialogue}
+use Rattle.bus_due.specs.bus_lines.specs.Handshakes.{handshakes}
+use Rattle.bus_due.specs.scenario.specs.Value.{ScenarioValue}
+use Rattle.bus_due.specs.bus_reactions.specs.declared.ends.Offering.{Offering}
+use Rattle.bus_due.specs.bus_reactions.specs.Target.{byte_bits, bits_if}
+use Rattle.bus_due.specs.bus_dialogue.specs.declared.exchange.Leaving.{Leaving}
+use Rattle.bus_due.specs.bus_dialogue.specs.declared.exchange.Phase.{Phase}
+use Rattle.bus_due.specs.bus_dialogue.specs.declared.exchange.Phase.TheVariants as phases
+use Rattle.bus_due.specs.bus_dialogue.specs.Ends.{offering_by, is_pulsed_phase}
+use Rattle.bus_due.specs.bus_dialogue.specs.Exchange.{bytes_of_messages, attends_with}
+use Rattle.bus_due.specs.bus_dialogue.specs.Hearing.{begun}
+use Rattle.bus_due.specs.bus_dialogue.specs.NextPhase.{Serving, phase_of, phase_leaving, leaving_by}
+use Rattle.bus_due.specs.bus_dialogue.specs.PhaseBytes.{lines_by}
+use Rattle.bus_due.specs.bus_dialogue.specs.Sending.{byte_to_send}
 use Rattle.bus_due.specs.Plain.{AreOfDevices}
 use Rattle.bus_due.specs.RunSteps.{run_state}
 use Rattle.bus_due.specs.Sights.{serving_at, sending_of, leaving, offering_of, answering_of}
 use Rattle.bus_due.proofs.Plains.{run_state_plain}
 use Rattle.bus_books.specs.Reactions.{IsAnswered, IsOver}
 use Rattle.bus_books.specs.Rows.{IsRowIn, still, strikes, crosses, turns}
-use Rattle.bus_laws.specs.Rows.{row_of_lines, row_of_fault, change_to}
-use Rattle.bus_laws.specs.Ends.{EndLines, initiator_side, target_side, connected_bus, Linked, ends_selected}
-use Rattle.bus_laws.proofs.Apart.{change_plain}
-use Rattle.bus_laws.proofs.Rows.{fault_change}
+use Rattle.link_laws.specs.bus_laws.specs.Rows.{row_of_lines, row_of_fault, change_to}
+use Rattle.link_laws.specs.bus_laws.specs.Ends.{EndLines, initiator_side, target_side, connected_bus, Linked, ends_selected}
+use Rattle.link_laws.specs.bus_laws.proofs.Apart.{change_plain}
+use Rattle.link_laws.specs.bus_laws.proofs.Rows.{fault_change}
 use Rattle.link_laws.specs.Phases.{ends}
 use Rattle.link_laws.proofs.EndDues.{offering_with, answering_with}
 use Rattle.link_laws.proofs.Leaves.{may_leave}
@@ -52,7 +52,7 @@ use Rattle.trace_laws.proofs.LinkRows.{LinkRow, is_pulsed, is_unasked}
 use Rattle.trace_laws.proofs.Steps.{IsDriven, HasValues}
 use Rattle.trace_laws.proofs.Tests.{none_both}
 use Rattle.trace_laws.proofs.Turns.{freed_bus, freed_connection}
-use Rattle.bus_base.proofs.Tests.{wrong, wrong', not_first}
+use Rattle.bus_due.specs.bus_base.proofs.Tests.{wrong, wrong', not_first}
 
 -- The connection goes on with the row.
 pub record Goes (s : ScenarioValue) (p : List Row) (row : Row) (n : Connection) : Type 0 where

@@ -4,40 +4,40 @@ use Rattle.std.proofs.Common.{ℕ, ◌≡◌, ◌≢◌, ◌<◌, ◌⊎◌, inl
 use Rattle.std.specs.Prelude.{if◌then◌else◌}
 use Rattle.std.proofs.lemmas.Bool.{cases_eq}
 use Rattle.std.proofs.lemmas.Option.{same_Some}
-use Rattle.bus_trace.specs.LineSet.{LineSet, none, same, same_set, union}
-use Rattle.bus_trace.proofs.Buses.{bus_on, bus_off}
-use Rattle.bus_trace.proofs.OneRow.{drives-fault}
-use Rattle.bus_trace.specs.declared.Kind.TheVariants.{Drives}
-use Rattle.bus_trace.specs.declared.Row.{Row}
-use Rattle.bus_trace.specs.declared.changes.Change.{Change}
-use Rattle.bus_trace.specs.declared.connection.Connection.{Connection}
-use Rattle.bus_trace.specs.Changes.{change_of, falls}
-use Rattle.bus_trace.specs.Phases.{changes_phase, is_message_in}
-use Rattle.bus_trace.specs.Terms.{call, connection, connection_after, connection_of}
-use Rattle.bus_trace.specs.Trace.{bus, drives, last_time, line_times}
-use Rattle.bus_trace.proofs.Sets.{same_self}
-use Rattle.bus_rules.specs.Reset.{only_rst}
-use Rattle.scenario.specs.Value.{ScenarioValue}
-use Rattle.scenario.specs.Writing.{Obeys}
-use Rattle.bus_reactions.specs.declared.due.Due.{Due}
-use Rattle.bus_reactions.specs.Linking.{bus_clear}
-use Rattle.bus_reactions.specs.Reactions.{due_at, earlier_due}
+use Rattle.bus_due.specs.bus_trace.specs.LineSet.{LineSet, none, same, same_set, union}
+use Rattle.bus_due.specs.bus_trace.proofs.Buses.{bus_on, bus_off}
+use Rattle.bus_due.specs.bus_trace.proofs.OneRow.{drives-fault}
+use Rattle.bus_due.specs.bus_trace.specs.declared.Kind.TheVariants.{Drives}
+use Rattle.bus_due.specs.bus_trace.specs.declared.Row.{Row}
+use Rattle.bus_due.specs.bus_trace.specs.declared.changes.Change.{Change}
+use Rattle.bus_due.specs.bus_trace.specs.declared.connection.Connection.{Connection}
+use Rattle.bus_due.specs.bus_trace.specs.Changes.{change_of, falls}
+use Rattle.bus_due.specs.bus_trace.specs.Phases.{changes_phase, is_message_in}
+use Rattle.bus_due.specs.bus_trace.specs.Terms.{call, connection, connection_after, connection_of}
+use Rattle.bus_due.specs.bus_trace.specs.Trace.{bus, drives, last_time, line_times}
+use Rattle.bus_due.specs.bus_trace.proofs.Sets.{same_self}
+use Rattle.bus_due.specs.bus_rules.specs.Reset.{only_rst}
+use Rattle.bus_due.specs.scenario.specs.Value.{ScenarioValue}
+use Rattle.bus_due.specs.scenario.specs.Writing.{Obeys}
+use Rattle.bus_due.specs.bus_reactions.specs.declared.due.Due.{Due}
+use Rattle.bus_due.specs.bus_reactions.specs.Linking.{bus_clear}
+use Rattle.bus_due.specs.bus_reactions.specs.Reactions.{due_at, earlier_due}
 use Rattle.bus_due.specs.Least.{IsLeast}
 use Rattle.bus_due.specs.Next.{due, IsPrompt}
 use Rattle.bus_due.specs.Own.{own_of}
 use Rattle.bus_due.specs.Plain.{AreOfDevices}
-use Rattle.scsi_device.proofs.FitLines.{obeys_fits, seats_are}
-use Rattle.bus_laws.proofs.Apart.{change_plain}
-use Rattle.bus_laws.specs.Ends.{BeginsConnection, EndLines, Linked, by_reselection, by_selection, connected_bus, target_side}
-use Rattle.bus_laws.specs.Reactions.{device_with, own_time, reset_due}
-use Rattle.bus_laws.specs.Rows.{row_of_fault, row_of_lines}
-use Rattle.bus_laws.specs.Stages.{UnderRst}
-use Rattle.bus_laws.proofs.Dues.{due_in_reset, is_at}
-use Rattle.bus_laws.proofs.FromFree.{row_is}
-use Rattle.bus_laws.proofs.Prompt.{least_is}
-use Rattle.bus_laws.proofs.Resets.{due_calm, due_holding, due_there, one_of, own_reset_is}
-use Rattle.bus_laws.proofs.Rows.{drives_other, drives_own, fault_change}
-use Rattle.bus_laws.proofs.Together.{by_calm, by_reset, reset_or_calm}
+use Rattle.target_units.specs.scsi_device.proofs.FitLines.{obeys_fits, seats_are}
+use Rattle.link_laws.specs.bus_laws.proofs.Apart.{change_plain}
+use Rattle.link_laws.specs.bus_laws.specs.Ends.{BeginsConnection, EndLines, Linked, by_reselection, by_selection, connected_bus, target_side}
+use Rattle.link_laws.specs.bus_laws.specs.Reactions.{device_with, own_time, reset_due}
+use Rattle.link_laws.specs.bus_laws.specs.Rows.{row_of_fault, row_of_lines}
+use Rattle.link_laws.specs.bus_laws.specs.Stages.{UnderRst}
+use Rattle.link_laws.specs.bus_laws.proofs.Dues.{due_in_reset, is_at}
+use Rattle.link_laws.specs.bus_laws.proofs.FromFree.{row_is}
+use Rattle.link_laws.specs.bus_laws.proofs.Prompt.{least_is}
+use Rattle.link_laws.specs.bus_laws.proofs.Resets.{due_calm, due_holding, due_there, one_of, own_reset_is}
+use Rattle.link_laws.specs.bus_laws.proofs.Rows.{drives_other, drives_own, fault_change}
+use Rattle.link_laws.specs.bus_laws.proofs.Together.{by_calm, by_reset, reset_or_calm}
 use Rattle.link_laws.specs.LinkStages.{AnyStage, LinkStage, apart, linked, when_offering, when_pulsing, when_selected, when_settling, when_shaking, when_turning}
 use Rattle.link_laws.specs.Phases.{ends}
 use Rattle.link_laws.proofs.Moves.{phase_same, target_moves}
@@ -51,7 +51,7 @@ use Rattle.trace_laws.proofs.Joint.{NextStood, Stood, values_of}
 use Rattle.trace_laws.proofs.LinkRows as rows
 use Rattle.trace_laws.proofs.LinkRows.{LinkRow, link_row}
 use Rattle.trace_laws.proofs.UnderRst.{bsy_stands}
-use Rattle.bus_base.proofs.Tests.{wrong, wrong'}
+use Rattle.bus_due.specs.bus_base.proofs.Tests.{wrong, wrong'}
 use Rattle.link_laws.proofs.Traces.{link_calm}
 use Rattle.trace_laws.specs.ResetLines.{HasNoPhase}
 

@@ -1,24 +1,24 @@
 -- A data run is done as a data phase is left.
 use Rattle.std.proofs.Common.{◌≡◌, ◌⊎◌, inl, inr, Bool, true, false, ◌∙◌, Option, Some, None, refl, sym, ap}
 use Rattle.std.specs.Prelude.{◌+◌, if◌then◌else◌, is_some, nat_lt}
-use Rattle.msg_grammar.specs.declared.message.MsgIn.{MsgIn}
-use Rattle.bus_trace.specs.declared.agreements.Agreement.{Agreement}
-use Rattle.scenario.specs.declared.value.TargetDef.{TargetDef}
-use Rattle.bus_dialogue.specs.declared.exchange.Arrival.{Arrival}
-use Rattle.bus_dialogue.specs.declared.exchange.Arrival.TheVariants as arrivals
-use Rattle.bus_dialogue.specs.declared.exchange.Cause.{Cause}
-use Rattle.bus_dialogue.specs.declared.exchange.Cause.TheVariants as causes
-use Rattle.bus_dialogue.specs.declared.exchange.Leaving.{Leaving}
-use Rattle.bus_dialogue.specs.declared.exchange.Next.{Next}
-use Rattle.bus_dialogue.specs.declared.exchange.Next.TheVariants as nexts
-use Rattle.bus_dialogue.specs.declared.exchange.Phase.{Phase}
-use Rattle.bus_dialogue.specs.declared.exchange.Phase.TheVariants as phases
-use Rattle.bus_dialogue.specs.declared.exchange.Task.{Task}
-use Rattle.bus_dialogue.specs.Arrivals.{policy_of}
-use Rattle.bus_dialogue.specs.DataRuns.{runs_in_all}
-use Rattle.bus_dialogue.specs.NextPhase.{Serving, phase_leaving, bus_free, phase_entry, recovery, recovery_limit, pointer_restoration, next_data_phase, request_or_command, after_offer, message_repetition, message_out_leaving, after_messages, disconnection, disconnect_messages, after_arrival, command_leaving, after_run, data_out_leaving, with_task, unless_attention}
-use Rattle.bus_dialogue.specs.Words.{request_by, is_naming}
-use Rattle.bus_base.proofs.Tests.{wrong'}
+use Rattle.bus_due.specs.msg_grammar.specs.declared.message.MsgIn.{MsgIn}
+use Rattle.bus_due.specs.bus_trace.specs.declared.agreements.Agreement.{Agreement}
+use Rattle.bus_due.specs.scenario.specs.declared.value.TargetDef.{TargetDef}
+use Rattle.bus_due.specs.bus_dialogue.specs.declared.exchange.Arrival.{Arrival}
+use Rattle.bus_due.specs.bus_dialogue.specs.declared.exchange.Arrival.TheVariants as arrivals
+use Rattle.bus_due.specs.bus_dialogue.specs.declared.exchange.Cause.{Cause}
+use Rattle.bus_due.specs.bus_dialogue.specs.declared.exchange.Cause.TheVariants as causes
+use Rattle.bus_due.specs.bus_dialogue.specs.declared.exchange.Leaving.{Leaving}
+use Rattle.bus_due.specs.bus_dialogue.specs.declared.exchange.Next.{Next}
+use Rattle.bus_due.specs.bus_dialogue.specs.declared.exchange.Next.TheVariants as nexts
+use Rattle.bus_due.specs.bus_dialogue.specs.declared.exchange.Phase.{Phase}
+use Rattle.bus_due.specs.bus_dialogue.specs.declared.exchange.Phase.TheVariants as phases
+use Rattle.bus_due.specs.bus_dialogue.specs.declared.exchange.Task.{Task}
+use Rattle.bus_due.specs.bus_dialogue.specs.Arrivals.{policy_of}
+use Rattle.bus_due.specs.bus_dialogue.specs.DataRuns.{runs_in_all}
+use Rattle.bus_due.specs.bus_dialogue.specs.NextPhase.{Serving, phase_leaving, bus_free, phase_entry, recovery, recovery_limit, pointer_restoration, next_data_phase, request_or_command, after_offer, message_repetition, message_out_leaving, after_messages, disconnection, disconnect_messages, after_arrival, command_leaving, after_run, data_out_leaving, with_task, unless_attention}
+use Rattle.bus_due.specs.bus_dialogue.specs.Words.{request_by, is_naming}
+use Rattle.bus_due.specs.bus_base.proofs.Tests.{wrong'}
 
 recovers_not : (def : Option TargetDef) (t : Task) (a b : Leaving) → a.done ≡ false → b.done ≡ false → (recovery def t a b).done ≡ false
 recovers_not def t a b h k = go t.in_hold (nat_lt t.recoveries (recovery_limit def))

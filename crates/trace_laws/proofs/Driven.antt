@@ -3,24 +3,24 @@
 use Rattle.std.proofs.Common.{ℕ, ◌≡◌, ◌<◌, Bool, true, false, not, ◌&&◌, ◌||◌, ◌==◌, ◌%◌, ◌∙◌, List, length, None, sym, ap, true≢false}
 use Rattle.std.specs.Prelude.{nat_lt, slice_index_or}
 use Rattle.std.specs.Int.RustNames.{count_ones}
-use Rattle.bus_trace.specs.LineSet.{LineSet}
-use Rattle.bus_trace.specs.declared.Row.{Row}
-use Rattle.bus_trace.specs.declared.connection.Connection.{Connection}
-use Rattle.bus_trace.specs.Terms.{connection}
-use Rattle.bus_trace.specs.Phases.{is_message_out, is_message_in}
-use Rattle.bus_trace.proofs.OddParity.{byte_odd}
-use Rattle.bus_phases.specs.Dialogue.{dialogue}
-use Rattle.bus_lines.specs.Handshakes.{handshakes}
-use Rattle.scenario.specs.Value.{ScenarioValue}
-use Rattle.bus_reactions.specs.Target.{byte_bits, bits_if}
-use Rattle.bus_dialogue.specs.Exchange.{attends_with, bytes_of_messages}
-use Rattle.bus_dialogue.specs.Hearing.{begun}
+use Rattle.bus_due.specs.bus_trace.specs.LineSet.{LineSet}
+use Rattle.bus_due.specs.bus_trace.specs.declared.Row.{Row}
+use Rattle.bus_due.specs.bus_trace.specs.declared.connection.Connection.{Connection}
+use Rattle.bus_due.specs.bus_trace.specs.Terms.{connection}
+use Rattle.bus_due.specs.bus_trace.specs.Phases.{is_message_out, is_message_in}
+use Rattle.bus_due.specs.bus_trace.proofs.OddParity.{byte_odd}
+use Rattle.bus_due.specs.bus_phases.specs.Dialogue.{dialogue}
+use Rattle.bus_due.specs.bus_lines.specs.Handshakes.{handshakes}
+use Rattle.bus_due.specs.scenario.specs.Value.{ScenarioValue}
+use Rattle.bus_due.specs.bus_reactions.specs.Target.{byte_bits, bits_if}
+use Rattle.bus_due.specs.bus_dialogue.specs.Exchange.{attends_with, bytes_of_messages}
+use Rattle.bus_due.specs.bus_dialogue.specs.Hearing.{begun}
 use Rattle.bus_due.specs.RunSteps.{run_state}
-use Rattle.bus_laws.specs.Ends.{EndLines, connected_bus, Linked}
+use Rattle.link_laws.specs.bus_laws.specs.Ends.{EndLines, connected_bus, Linked}
 use Rattle.link_laws.specs.Phases.{ends}
 use Rattle.link_laws.proofs.EndDues.{offering_with, answering_with}
 use Rattle.trace_laws.proofs.LinkRows.{is_pulsed, has_first, is_unasked}
-use Rattle.bus_base.proofs.Tests.{wrong, wrong'}
+use Rattle.bus_due.specs.bus_base.proofs.Tests.{wrong, wrong'}
 
 -- The next byte of MESSAGE IN, and whether one follows.
 abbrev pub message_at : ScenarioValue → List Row → ℕ

@@ -3,18 +3,18 @@
 use Rattle.std.proofs.Common.{ℕ, ◌≡◌, List, [], ◌∷◌, Ok, subst}
 use Rattle.std.specs.Prelude.{⊤}
 use Rattle.std.specs.List.{AllByRecursion}
-use Rattle.scenario.specs.declared.value.AbortDef.{AbortDef}
-use Rattle.scenario.specs.declared.value.CmdDef.{CmdDef}
-use Rattle.scenario.specs.declared.value.HostDef.{HostDef}
-use Rattle.scenario.specs.declared.value.TargetDef.{TargetDef}
-use Rattle.scenario.specs.Forms.{Said, CmdSaid, scsi_line, initiator_line, target_line, unit_line, fill_line, cmd_line, abort_line, reset_line, fault_line, end_line}
-use Rattle.scenario.specs.Needs.{need_of, sent_of}
-use Rattle.scenario.specs.Reading.{Progress, guard, is_payload, has_room, host_def, target_def, unit_def, fill_def, cmd_def, full_cmd_def, abort_def, reset_def, fault_def, added, said_after, fits_version, in_order, rank, kind_of, nothing}
-use Rattle.scenario.specs.Value.{ScenarioValue}
-use Rattle.scenario.specs.Writing.{saids, built, Obeys}
-use Rattle.scenario.proofs.Steps.{bind_ok, ok_is}
-use Rattle.scsi_device.proofs.Finds.{all_more}
-use Rattle.scsi_device.proofs.LineReads.{host_by, target_by, abort_by}
+use Rattle.bus_due.specs.scenario.specs.declared.value.AbortDef.{AbortDef}
+use Rattle.bus_due.specs.scenario.specs.declared.value.CmdDef.{CmdDef}
+use Rattle.bus_due.specs.scenario.specs.declared.value.HostDef.{HostDef}
+use Rattle.bus_due.specs.scenario.specs.declared.value.TargetDef.{TargetDef}
+use Rattle.bus_due.specs.scenario.specs.Forms.{Said, CmdSaid, scsi_line, initiator_line, target_line, unit_line, fill_line, cmd_line, abort_line, reset_line, fault_line, end_line}
+use Rattle.bus_due.specs.scenario.specs.Needs.{need_of, sent_of}
+use Rattle.bus_due.specs.scenario.specs.Reading.{Progress, guard, is_payload, has_room, host_def, target_def, unit_def, fill_def, cmd_def, full_cmd_def, abort_def, reset_def, fault_def, added, said_after, fits_version, in_order, rank, kind_of, nothing}
+use Rattle.bus_due.specs.scenario.specs.Value.{ScenarioValue}
+use Rattle.bus_due.specs.scenario.specs.Writing.{saids, built, Obeys}
+use Rattle.bus_due.specs.scenario.proofs.Steps.{bind_ok, ok_is}
+use Rattle.target_units.specs.scsi_device.proofs.Finds.{all_more}
+use Rattle.target_units.specs.scsi_device.proofs.LineReads.{host_by, target_by, abort_by}
 
 abbrev pub Any : {A : Type 0} → A → Type 0
 Any x = ⊤

@@ -1,38 +1,38 @@
 -- What a row of a connection makes of the faults that a process has met.
 use Rattle.std.proofs.Common.{ℕ, ◌≡◌, Bool, true, false, ◌%◌, ◌∙◌, List, [], ◌∷◌, ◌++◌, Option, Some, None, refl, sym, ap, subst}
 use Rattle.std.specs.Prelude.{if◌then◌else◌, is_some, is_none}
-use Rattle.bus_base.specs.declared.Event.{Event}
-use Rattle.bus_base.specs.declared.Event.TheVariants as events
-use Rattle.bus_base.specs.declared.ProcId.{ProcId}
-use Rattle.bus_trace.specs.LineSet.{LineSet}
-use Rattle.bus_trace.specs.declared.Row.{Row}
-use Rattle.bus_trace.specs.declared.Kind.{Kind}
-use Rattle.bus_trace.specs.declared.Kind.TheVariants.{Drives, Fault}
-use Rattle.bus_trace.specs.declared.changes.Change.{Change}
-use Rattle.bus_trace.specs.declared.connection.Connection.{Connection}
-use Rattle.bus_trace.specs.Phases.{is_command, is_data}
-use Rattle.bus_trace.specs.Terms.{is_fault, receiver_in}
-use Rattle.msg_grammar.specs.declared.message.MsgIn.{MsgIn}
-use Rattle.msg_grammar.specs.declared.message.MsgIn.TheVariants as to_initiator
-use Rattle.msg_grammar.specs.declared.message.MsgOut.{MsgOut}
-use Rattle.scenario.specs.Value.{ScenarioValue}
-use Rattle.disk_array.specs.Processes.{same_id}
-use Rattle.bus_story.specs.BusState.{RowReading, row_reading}
-use Rattle.bus_story.specs.CarriedBytes.{CarriedBytes, area_with, carried_of, with_carried, with_restored_pointers, carried_after_message, carried_after_byte, is_status_phase}
-use Rattle.bus_story.specs.HistoryEvents.{carried_if, row_events_by}
-use Rattle.bus_story.specs.Items.{Item, process, abort}
-use Rattle.bus_story.specs.Links.{Link, last_out, last_in, link_after_name}
-use Rattle.bus_story.specs.Story.{Story, by_abort, by_reset, is_aborted, is_sense_stopped, marked_refused, marked_shown, story_after_event, story_after_events}
-use Rattle.bus_story.specs.TraceHistory.{story_with_restored, story_with_carried, is_parity_error, story_after_out, carried_after_message_if, story_after_message, story_after_in, carried_after_byte_if, story_after_byte, story_after_fault, story_in_connection, story_on_bus, story_by_change}
-use Rattle.bus_story.proofs.StorySteps.{message_id, ends_carried, check_carried}
-use Rattle.bus_story.proofs.CarriedLists.{carried_id, carried_with}
+use Rattle.bus_due.specs.bus_base.specs.declared.Event.{Event}
+use Rattle.bus_due.specs.bus_base.specs.declared.Event.TheVariants as events
+use Rattle.bus_due.specs.bus_base.specs.declared.ProcId.{ProcId}
+use Rattle.bus_due.specs.bus_trace.specs.LineSet.{LineSet}
+use Rattle.bus_due.specs.bus_trace.specs.declared.Row.{Row}
+use Rattle.bus_due.specs.bus_trace.specs.declared.Kind.{Kind}
+use Rattle.bus_due.specs.bus_trace.specs.declared.Kind.TheVariants.{Drives, Fault}
+use Rattle.bus_due.specs.bus_trace.specs.declared.changes.Change.{Change}
+use Rattle.bus_due.specs.bus_trace.specs.declared.connection.Connection.{Connection}
+use Rattle.bus_due.specs.bus_trace.specs.Phases.{is_command, is_data}
+use Rattle.bus_due.specs.bus_trace.specs.Terms.{is_fault, receiver_in}
+use Rattle.bus_due.specs.msg_grammar.specs.declared.message.MsgIn.{MsgIn}
+use Rattle.bus_due.specs.msg_grammar.specs.declared.message.MsgIn.TheVariants as to_initiator
+use Rattle.bus_due.specs.msg_grammar.specs.declared.message.MsgOut.{MsgOut}
+use Rattle.bus_due.specs.scenario.specs.Value.{ScenarioValue}
+use Rattle.bus_due.specs.disk_array.specs.Processes.{same_id}
+use Rattle.bus_due.specs.bus_story.specs.BusState.{RowReading, row_reading}
+use Rattle.bus_due.specs.bus_story.specs.CarriedBytes.{CarriedBytes, area_with, carried_of, with_carried, with_restored_pointers, carried_after_message, carried_after_byte, is_status_phase}
+use Rattle.bus_due.specs.bus_story.specs.HistoryEvents.{carried_if, row_events_by}
+use Rattle.bus_due.specs.bus_story.specs.Items.{Item, process, abort}
+use Rattle.bus_due.specs.bus_story.specs.Links.{Link, last_out, last_in, link_after_name}
+use Rattle.bus_due.specs.bus_story.specs.Story.{Story, by_abort, by_reset, is_aborted, is_sense_stopped, marked_refused, marked_shown, story_after_event, story_after_events}
+use Rattle.bus_due.specs.bus_story.specs.TraceHistory.{story_with_restored, story_with_carried, is_parity_error, story_after_out, carried_after_message_if, story_after_message, story_after_in, carried_after_byte_if, story_after_byte, story_after_fault, story_in_connection, story_on_bus, story_by_change}
+use Rattle.bus_due.specs.bus_story.proofs.StorySteps.{message_id, ends_carried, check_carried}
+use Rattle.bus_due.specs.bus_story.proofs.CarriedLists.{carried_id, carried_with}
 use Rattle.bus_due.specs.RunState.{RunState, carried_here}
 use Rattle.bus_due.specs.RunSteps.{run_state_after}
 use Rattle.bus_books.specs.Rows.{IsRowIn, reading_in}
 use Rattle.bus_books.proofs.InConnection.{reading_is}
 use Rattle.bus_books.proofs.Lookups.{id_is, put_own}
 use Rattle.trace_laws.specs.Failures.{IsClear, UndoesClear}
-use Rattle.bus_base.proofs.Tests.{wrong}
+use Rattle.bus_due.specs.bus_base.proofs.Tests.{wrong}
 
 pub record SameFail (c d : CarriedBytes) : Type 0 where
   pub failure : d.failure ≡ c.failure
@@ -99,7 +99,7 @@ row_carries s k row n c now l r en link id =
 -- ---- no byte crosses, and no fault strikes
 
 driven : (s : ScenarioValue) (b : Story) (l : Link) (d : RowReading) (row : Row) → d.crosses ≡ false → is_fault row.kind ≡ false → story_in_connection s b (Some l) d row ≡ b
-driven s b l d row e f = ap (λ (q : Bool). if q then Rattle.bus_story.specs.TraceHistory.story_after_crossing s b l d else story_after_fault b l row.kind) e ∙ go row.kind f
+driven s b l d row e f = ap (λ (q : Bool). if q then Rattle.bus_due.specs.bus_story.specs.TraceHistory.story_after_crossing s b l d else story_after_fault b l row.kind) e ∙ go row.kind f
   where
     go : (kind : Kind) → is_fault kind ≡ false → story_after_fault b l kind ≡ b
     go (Drives lines) z = refl

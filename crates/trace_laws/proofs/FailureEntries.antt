@@ -1,31 +1,31 @@
 -- The code of the failure of the process that is served, as a phase is entered.
 use Rattle.std.proofs.Common.{inl, inr, ℕ, ◌≡◌, ◌⊎◌, ◌≤◌, Bool, true, false, ◌&&◌, ◌||◌, ◌==◌, ◌∙◌, List, [], ◌∷◌, length, Some, refl, sym, ap, subst}
 use Rattle.std.specs.Prelude.{if◌then◌else◌, ◌-◌}
-use Rattle.bus_base.specs.declared.Event.{Event}
-use Rattle.bus_base.specs.declared.ProcId.{ProcId}
-use Rattle.bus_trace.specs.LineSet.{LineSet}
-use Rattle.bus_trace.specs.declared.Row.{Row}
-use Rattle.bus_trace.specs.Phases.{is_message_in}
-use Rattle.cdb_codec.specs.declared.sense.TheConstants.{PARITY_ERROR, INITIATOR_DETECTED_ERROR}
-use Rattle.scenario.specs.Value.{ScenarioValue}
-use Rattle.bus_story.specs.BusState.{row_reading}
-use Rattle.bus_story.specs.CarriedBytes.{CarriedBytes, carried_of}
-use Rattle.bus_story.specs.HistoryEvents.{row_events_by}
-use Rattle.bus_story.specs.Links.{Link}
-use Rattle.bus_story.specs.Story.{Story, story_after_events}
-use Rattle.bus_story.specs.TraceHistory.{story_by_change}
-use Rattle.bus_dialogue.specs.declared.exchange.Cause.{Cause}
-use Rattle.bus_dialogue.specs.declared.exchange.Cause.TheVariants as causes
-use Rattle.bus_dialogue.specs.declared.exchange.Messages.{Messages}
-use Rattle.bus_dialogue.specs.declared.exchange.Next.{Next}
-use Rattle.bus_dialogue.specs.declared.exchange.Next.TheVariants as nexts
-use Rattle.bus_dialogue.specs.declared.exchange.Phase.{Phase}
-use Rattle.bus_dialogue.specs.declared.exchange.Phase.TheVariants as phases
-use Rattle.bus_dialogue.specs.declared.exchange.Plan.{Plan}
-use Rattle.bus_dialogue.specs.Events.{is_status_next}
-use Rattle.bus_dialogue.specs.Exchange.{bytes_of_messages, from_byte}
-use Rattle.bus_dialogue.specs.NextPhase.{Serving, phase_of, phase_leaving}
-use Rattle.bus_dialogue.specs.Planning.{cause_after}
+use Rattle.bus_due.specs.bus_base.specs.declared.Event.{Event}
+use Rattle.bus_due.specs.bus_base.specs.declared.ProcId.{ProcId}
+use Rattle.bus_due.specs.bus_trace.specs.LineSet.{LineSet}
+use Rattle.bus_due.specs.bus_trace.specs.declared.Row.{Row}
+use Rattle.bus_due.specs.bus_trace.specs.Phases.{is_message_in}
+use Rattle.bus_due.specs.cdb_codec.specs.declared.sense.TheConstants.{PARITY_ERROR, INITIATOR_DETECTED_ERROR}
+use Rattle.bus_due.specs.scenario.specs.Value.{ScenarioValue}
+use Rattle.bus_due.specs.bus_story.specs.BusState.{row_reading}
+use Rattle.bus_due.specs.bus_story.specs.CarriedBytes.{CarriedBytes, carried_of}
+use Rattle.bus_due.specs.bus_story.specs.HistoryEvents.{row_events_by}
+use Rattle.bus_due.specs.bus_story.specs.Links.{Link}
+use Rattle.bus_due.specs.bus_story.specs.Story.{Story, story_after_events}
+use Rattle.bus_due.specs.bus_story.specs.TraceHistory.{story_by_change}
+use Rattle.bus_due.specs.bus_dialogue.specs.declared.exchange.Cause.{Cause}
+use Rattle.bus_due.specs.bus_dialogue.specs.declared.exchange.Cause.TheVariants as causes
+use Rattle.bus_due.specs.bus_dialogue.specs.declared.exchange.Messages.{Messages}
+use Rattle.bus_due.specs.bus_dialogue.specs.declared.exchange.Next.{Next}
+use Rattle.bus_due.specs.bus_dialogue.specs.declared.exchange.Next.TheVariants as nexts
+use Rattle.bus_due.specs.bus_dialogue.specs.declared.exchange.Phase.{Phase}
+use Rattle.bus_due.specs.bus_dialogue.specs.declared.exchange.Phase.TheVariants as phases
+use Rattle.bus_due.specs.bus_dialogue.specs.declared.exchange.Plan.{Plan}
+use Rattle.bus_due.specs.bus_dialogue.specs.Events.{is_status_next}
+use Rattle.bus_due.specs.bus_dialogue.specs.Exchange.{bytes_of_messages, from_byte}
+use Rattle.bus_due.specs.bus_dialogue.specs.NextPhase.{Serving, phase_of, phase_leaving}
+use Rattle.bus_due.specs.bus_dialogue.specs.Planning.{cause_after}
 use Rattle.bus_due.specs.RunState.{RunState, carried_here}
 use Rattle.bus_due.specs.RunSteps.{run_state_after}
 use Rattle.trace_laws.specs.Failures.{IsClear, ClearIn, GivesFailure, RefusesFailure, SaysFailure, FailsBy}
@@ -37,7 +37,7 @@ use Rattle.trace_laws.proofs.FailureWords.{refuses_kept}
 use Rattle.trace_laws.proofs.ListedReplies.{replies_to}
 use Rattle.trace_laws.proofs.ShownReplies.{answered_on, change_keeps}
 use Rattle.trace_laws.proofs.TellTurns.{refused}
-use Rattle.bus_base.proofs.Tests.{wrong', or_true}
+use Rattle.bus_due.specs.bus_base.proofs.Tests.{wrong', or_true}
 use Rattle.trace_laws.specs.DataPointers.{is_marked}
 use Rattle.trace_laws.proofs.PointerLeavings.{is_attended}
 
@@ -92,7 +92,7 @@ sending_entered l d q words count phases.Status e h s = wrong' e
 pub not_to_status : (v : Serving) (attention : Bool) (phase : Phase) → ((phase ≡ phases.MessageOut) × (v.plan.cause ≡ causes.InMessage)) ⊎ ((phase ≡ phases.MessageIn) × (attention ≡ true)) → is_status_next (phase_leaving v attention phase).to ≡ false
 not_to_status v attention phase (inl e) =
     ap (λ (x : Phase). is_status_next (phase_leaving v attention x).to) e.0
-    ∙ ap (λ (x : Cause). is_status_next (Rattle.bus_dialogue.specs.NextPhase.message_out_leaving v x).to) e.1
+    ∙ ap (λ (x : Cause). is_status_next (Rattle.bus_due.specs.bus_dialogue.specs.NextPhase.message_out_leaving v x).to) e.1
     ∙ refused v
 not_to_status v attention phase (inr e) =
     ap (λ (x : Phase). is_status_next (phase_leaving v attention x).to) e.0

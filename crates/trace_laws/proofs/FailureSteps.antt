@@ -2,26 +2,26 @@
 use Rattle.std.proofs.Common.{inl, inr, ℕ, ◌≡◌, ◌⊎◌, Bool, true, false, ◌∙◌, List, Some, None, refl, sym, ap, subst}
 use Rattle.std.specs.Prelude.{if◌then◌else◌, is_some}
 use Rattle.std.proofs.lemmas.Option.{same_Some}
-use Rattle.bus_base.specs.declared.ProcId.{ProcId}
-use Rattle.bus_trace.specs.LineSet.{LineSet}
-use Rattle.bus_trace.specs.declared.Row.{Row}
-use Rattle.bus_trace.specs.declared.Kind.{Kind}
-use Rattle.bus_trace.specs.declared.Kind.TheVariants.{Drives, Fault}
-use Rattle.bus_trace.specs.declared.changes.Change.{Change}
-use Rattle.bus_trace.specs.declared.connection.Connection.{Connection}
-use Rattle.bus_trace.specs.Phases.{changes_phase}
-use Rattle.bus_trace.specs.Terms.{is_fault, receiver_in}
-use Rattle.scenario.specs.Value.{ScenarioValue}
-use Rattle.bus_story.specs.CarriedBytes.{CarriedBytes, carried_of}
-use Rattle.bus_story.specs.Items.{process}
-use Rattle.bus_story.specs.Links.{Link}
-use Rattle.bus_story.specs.TraceHistory.{story_after_fault, story_with_carried, carried_after_fault_if}
-use Rattle.bus_story.specs.HistoryEvents.{carried_if}
-use Rattle.bus_dialogue.specs.declared.exchange.Phase.{Phase}
-use Rattle.bus_dialogue.specs.declared.exchange.Phase.TheVariants as phases
-use Rattle.bus_dialogue.specs.declared.exchange.Plan.{Plan}
-use Rattle.bus_dialogue.specs.Exchange.{Exchange}
-use Rattle.bus_dialogue.specs.NextPhase.{phase_of}
+use Rattle.bus_due.specs.bus_base.specs.declared.ProcId.{ProcId}
+use Rattle.bus_due.specs.bus_trace.specs.LineSet.{LineSet}
+use Rattle.bus_due.specs.bus_trace.specs.declared.Row.{Row}
+use Rattle.bus_due.specs.bus_trace.specs.declared.Kind.{Kind}
+use Rattle.bus_due.specs.bus_trace.specs.declared.Kind.TheVariants.{Drives, Fault}
+use Rattle.bus_due.specs.bus_trace.specs.declared.changes.Change.{Change}
+use Rattle.bus_due.specs.bus_trace.specs.declared.connection.Connection.{Connection}
+use Rattle.bus_due.specs.bus_trace.specs.Phases.{changes_phase}
+use Rattle.bus_due.specs.bus_trace.specs.Terms.{is_fault, receiver_in}
+use Rattle.bus_due.specs.scenario.specs.Value.{ScenarioValue}
+use Rattle.bus_due.specs.bus_story.specs.CarriedBytes.{CarriedBytes, carried_of}
+use Rattle.bus_due.specs.bus_story.specs.Items.{process}
+use Rattle.bus_due.specs.bus_story.specs.Links.{Link}
+use Rattle.bus_due.specs.bus_story.specs.TraceHistory.{story_after_fault, story_with_carried, carried_after_fault_if}
+use Rattle.bus_due.specs.bus_story.specs.HistoryEvents.{carried_if}
+use Rattle.bus_due.specs.bus_dialogue.specs.declared.exchange.Phase.{Phase}
+use Rattle.bus_due.specs.bus_dialogue.specs.declared.exchange.Phase.TheVariants as phases
+use Rattle.bus_due.specs.bus_dialogue.specs.declared.exchange.Plan.{Plan}
+use Rattle.bus_due.specs.bus_dialogue.specs.Exchange.{Exchange}
+use Rattle.bus_due.specs.bus_dialogue.specs.NextPhase.{phase_of}
 use Rattle.bus_due.specs.RunState.{RunState, bus_of, carried_here}
 use Rattle.bus_due.specs.RunSteps.{run_state_after}
 use Rattle.bus_books.specs.Rows.{IsRowIn}
@@ -34,8 +34,8 @@ use Rattle.trace_laws.proofs.FailureRows.{fails_as, plan_struck, IsLine, fails_s
 use Rattle.trace_laws.proofs.RowItems.{link_still}
 use Rattle.trace_laws.proofs.UndoneAnswers.{same_phase_of}
 use Rattle.trace_laws.proofs.UndoneRows.{answers_stay}
-use Rattle.bus_base.proofs.Tests.{wrong, wrong'}
-use Rattle.scsi_device.specs.Heard.{is_message}
+use Rattle.bus_due.specs.bus_base.proofs.Tests.{wrong, wrong'}
+use Rattle.target_units.specs.scsi_device.specs.Heard.{is_message}
 use Rattle.trace_laws.specs.DataPointers.{is_marked}
 
 pub record FailRow (s : ScenarioValue) (k : RunState) (row : Row) (n : Connection) (c : Change) (l : Link) (id : ProcId) : Type 0 where

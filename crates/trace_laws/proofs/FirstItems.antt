@@ -3,15 +3,15 @@ use Rattle.std.proofs.Common.{inl, inr, ℕ, ◌≡◌, ◌⊎◌, Bool, true, f
 use Rattle.std.specs.Prelude.{if◌then◌else◌}
 use Rattle.std.specs.List.{list_any}
 use Rattle.std.proofs.lemmas.Option.{same_Some}
-use Rattle.bus_base.specs.declared.ProcId.{ProcId}
-use Rattle.bus_trace.specs.declared.Row.{Row}
-use Rattle.bus_trace.specs.declared.connection.Connection.{Connection}
-use Rattle.scenario.specs.Value.{ScenarioValue}
-use Rattle.disk_array.specs.Processes.{command_at}
-use Rattle.disk_array.specs.Units.{Array}
-use Rattle.bus_story.specs.Items.{Item, process, abort, same_item, has_item, is_done, sense_item, Sent}
-use Rattle.bus_story.specs.Links.{is_open_sense}
-use Rattle.bus_story.specs.TraceHistory.{aim_of}
+use Rattle.bus_due.specs.bus_base.specs.declared.ProcId.{ProcId}
+use Rattle.bus_due.specs.bus_trace.specs.declared.Row.{Row}
+use Rattle.bus_due.specs.bus_trace.specs.declared.connection.Connection.{Connection}
+use Rattle.bus_due.specs.scenario.specs.Value.{ScenarioValue}
+use Rattle.bus_due.specs.disk_array.specs.Processes.{command_at}
+use Rattle.bus_due.specs.disk_array.specs.Units.{Array}
+use Rattle.bus_due.specs.bus_story.specs.Items.{Item, process, abort, same_item, has_item, is_done, sense_item, Sent}
+use Rattle.bus_due.specs.bus_story.specs.Links.{is_open_sense}
+use Rattle.bus_due.specs.bus_story.specs.TraceHistory.{aim_of}
 use Rattle.bus_due.specs.RunState.{RunState, or_start, array_of, bus_of}
 use Rattle.bus_due.specs.RunSteps.{run_state_after, item_if}
 use Rattle.bus_due.specs.Wants.{ready_of}
@@ -26,7 +26,7 @@ use Rattle.trace_laws.proofs.ItemRows.{progress_on}
 use Rattle.trace_laws.specs.ItemFacts.{IsNext, is_abort, is_sense, is_command, NoClash, UnitsP, AreChecked, IsQueued, IsChecked, Items}
 use Rattle.trace_laws.specs.ItemTalks.{Talks}
 use Rattle.std.proofs.lemmas.Bool.{or_parts, or_cases}
-use Rattle.bus_base.proofs.Tests.{wrong', and_first, and_second}
+use Rattle.bus_due.specs.bus_base.proofs.Tests.{wrong', and_first, and_second}
 
 -- ---- what an initiator sends next
 

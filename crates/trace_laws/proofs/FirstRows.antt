@@ -3,49 +3,49 @@ use Rattle.std.proofs.Common.{inl, inr, ℕ, ◌≡◌, ◌+◌, Bool, true, fal
 use Rattle.std.specs.Prelude.{if◌then◌else◌}
 use Rattle.std.proofs.lemmas.Bool.{cases_eq}
 use Rattle.std.proofs.lemmas.Option.{same_Some}
-use Rattle.bus_trace.specs.LineSet.{LineSet, none, union, byte_set}
-use Rattle.bus_trace.proofs.Sets.{same_set-eq}
-use Rattle.bus_trace.proofs.Buses.{bus_on}
-use Rattle.bus_trace.proofs.OneRow.{bus-fault}
-use Rattle.bus_trace.specs.declared.Row.{Row}
-use Rattle.bus_trace.specs.declared.Kind.{Kind}
-use Rattle.bus_trace.specs.declared.Kind.TheVariants.{Drives, Fault}
-use Rattle.bus_trace.specs.declared.connection.Connection.{Connection}
-use Rattle.bus_trace.specs.declared.selection.Call.{Call}
-use Rattle.bus_trace.specs.declared.selection.Calling.{Calling}
-use Rattle.bus_trace.specs.Changes.{change_of, falls}
-use Rattle.bus_trace.specs.Terms.{is_fault, call, connected, connection, connection_of, connection_after}
-use Rattle.bus_trace.specs.Trace.{bus, drives}
-use Rattle.bus_lines.specs.Handshakes.{handshakes, handshakes_after, strikes_if}
-use Rattle.bus_lines.specs.Stage.{stage}
-use Rattle.bus_lines.specs.declared.stage.Stage.TheVariants.{InAnswer}
-use Rattle.bus_rules.specs.Reset.{only_rst}
-use Rattle.scenario.specs.Value.{ScenarioValue}
-use Rattle.bus_story.specs.Samples.{latency_of}
-use Rattle.bus_reactions.specs.declared.due.Due.{Due}
-use Rattle.bus_reactions.specs.Calling.{answered_due}
-use Rattle.bus_reactions.specs.Target.{byte_bits}
-use Rattle.bus_dialogue.specs.Hearing.{begun, begun_after}
+use Rattle.bus_due.specs.bus_trace.specs.LineSet.{LineSet, none, union, byte_set}
+use Rattle.bus_due.specs.bus_trace.proofs.Sets.{same_set-eq}
+use Rattle.bus_due.specs.bus_trace.proofs.Buses.{bus_on}
+use Rattle.bus_due.specs.bus_trace.proofs.OneRow.{bus-fault}
+use Rattle.bus_due.specs.bus_trace.specs.declared.Row.{Row}
+use Rattle.bus_due.specs.bus_trace.specs.declared.Kind.{Kind}
+use Rattle.bus_due.specs.bus_trace.specs.declared.Kind.TheVariants.{Drives, Fault}
+use Rattle.bus_due.specs.bus_trace.specs.declared.connection.Connection.{Connection}
+use Rattle.bus_due.specs.bus_trace.specs.declared.selection.Call.{Call}
+use Rattle.bus_due.specs.bus_trace.specs.declared.selection.Calling.{Calling}
+use Rattle.bus_due.specs.bus_trace.specs.Changes.{change_of, falls}
+use Rattle.bus_due.specs.bus_trace.specs.Terms.{is_fault, call, connected, connection, connection_of, connection_after}
+use Rattle.bus_due.specs.bus_trace.specs.Trace.{bus, drives}
+use Rattle.bus_due.specs.bus_lines.specs.Handshakes.{handshakes, handshakes_after, strikes_if}
+use Rattle.bus_due.specs.bus_lines.specs.Stage.{stage}
+use Rattle.bus_due.specs.bus_lines.specs.declared.stage.Stage.TheVariants.{InAnswer}
+use Rattle.bus_due.specs.bus_rules.specs.Reset.{only_rst}
+use Rattle.bus_due.specs.scenario.specs.Value.{ScenarioValue}
+use Rattle.bus_due.specs.bus_story.specs.Samples.{latency_of}
+use Rattle.bus_due.specs.bus_reactions.specs.declared.due.Due.{Due}
+use Rattle.bus_due.specs.bus_reactions.specs.Calling.{answered_due}
+use Rattle.bus_due.specs.bus_reactions.specs.Target.{byte_bits}
+use Rattle.bus_due.specs.bus_dialogue.specs.Hearing.{begun, begun_after}
 use Rattle.bus_due.specs.Least.{IsLeast}
 use Rattle.bus_due.specs.Next.{due}
 use Rattle.bus_due.specs.RunSteps.{run_state}
 use Rattle.bus_due.specs.Sights.{identify_byte}
 use Rattle.bus_due.specs.Wants.{ready_of}
-use Rattle.bus_laws.specs.Rows.{row_of_lines}
-use Rattle.bus_laws.specs.Reactions.{own_time, device_with, unreset_due}
-use Rattle.bus_laws.specs.Callings.{calling_lines, call_with, answer_lines, answered_calling, resumed_calling}
-use Rattle.bus_laws.specs.Ends.{BeginsConnection}
-use Rattle.bus_laws.specs.Stages.{BusStage, on_free_bus, in_arbitration, after_arbitration, with_both_ids, awaiting_answer, after_withdrawal, after_answer, after_takeover, in_reset, in_connection, CalmStanding, Standing, Calls, IsAnswered, UnderRst, NextRow}
-use Rattle.bus_laws.proofs.CallDues.{goes_on_due, want_at}
-use Rattle.bus_laws.proofs.Dues.{is_at, is_there}
-use Rattle.bus_laws.proofs.Rows.{stage_is, drives_own}
-use Rattle.bus_laws.proofs.Together.{by_reset, by_calm, reset_or_calm}
+use Rattle.link_laws.specs.bus_laws.specs.Rows.{row_of_lines}
+use Rattle.link_laws.specs.bus_laws.specs.Reactions.{own_time, device_with, unreset_due}
+use Rattle.link_laws.specs.bus_laws.specs.Callings.{calling_lines, call_with, answer_lines, answered_calling, resumed_calling}
+use Rattle.link_laws.specs.bus_laws.specs.Ends.{BeginsConnection}
+use Rattle.link_laws.specs.bus_laws.specs.Stages.{BusStage, on_free_bus, in_arbitration, after_arbitration, with_both_ids, awaiting_answer, after_withdrawal, after_answer, after_takeover, in_reset, in_connection, CalmStanding, Standing, Calls, IsAnswered, UnderRst, NextRow}
+use Rattle.link_laws.specs.bus_laws.proofs.CallDues.{goes_on_due, want_at}
+use Rattle.link_laws.specs.bus_laws.proofs.Dues.{is_at, is_there}
+use Rattle.link_laws.specs.bus_laws.proofs.Rows.{stage_is, drives_own}
+use Rattle.link_laws.specs.bus_laws.proofs.Together.{by_reset, by_calm, reset_or_calm}
 use Rattle.link_laws.proofs.Enters.{no_fall}
 use Rattle.trace_laws.proofs.Impossible.{none_some}
 use Rattle.trace_laws.proofs.Tests.{falls_true}
 use Rattle.trace_laws.proofs.UnderRst.{bsy_stands, quiet_at_end}
-use Rattle.bus_base.proofs.Tests.{wrong, wrong'}
-use Rattle.bus_laws.proofs.FromAnswer.{only_caller_acts}
+use Rattle.bus_due.specs.bus_base.proofs.Tests.{wrong, wrong'}
+use Rattle.link_laws.specs.bus_laws.proofs.FromAnswer.{only_caller_acts}
 
 -- ---- what a connection that begins is made of
 

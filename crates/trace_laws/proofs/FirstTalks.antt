@@ -2,30 +2,30 @@
 use Rattle.std.proofs.Common.{inr, ◌≡◌, Bool, true, false, not, ◌&&◌, ◌∙◌, List, [], ◌∷◌, Option, Some, None, refl, sym, ap, subst}
 use Rattle.std.specs.Prelude.{if◌then◌else◌}
 use Rattle.std.proofs.lemmas.Option.{same_Some}
-use Rattle.bus_base.specs.declared.Event.{Event}
-use Rattle.bus_base.specs.declared.Event.TheVariants as events
-use Rattle.bus_trace.specs.declared.Row.{Row}
-use Rattle.bus_trace.specs.declared.connection.Connection.{Connection}
-use Rattle.bus_trace.specs.Changes.{rises}
-use Rattle.msg_grammar.specs.declared.message.MsgIn.TheVariants as to_initiator
-use Rattle.scenario.specs.declared.value.Tag.{Tag}
-use Rattle.scenario.specs.declared.value.Tag.TheVariants as tags
-use Rattle.scenario.specs.Value.{ScenarioValue}
-use Rattle.disk_array.specs.Processes.{Process}
-use Rattle.disk_array.specs.Order.{tag_number}
-use Rattle.bus_story.specs.BusState.{row_reading}
-use Rattle.bus_story.specs.HistoryEvents.{link_events, row_events_by}
-use Rattle.bus_story.specs.Items.{Item, process, abort, has_item, Sent}
-use Rattle.bus_story.specs.Links.{Link, link_of}
-use Rattle.bus_story.specs.Story.{Story, story_after_events}
-use Rattle.bus_story.specs.TraceHistory.{aim_of, story_with_restored, story_with_sent, story_after_connection, story_on_bus, story_by_change}
-use Rattle.bus_dialogue.specs.declared.exchange.Messages.{Messages}
-use Rattle.bus_dialogue.specs.declared.exchange.Next.{Next}
-use Rattle.bus_dialogue.specs.declared.exchange.Next.TheVariants as nexts
-use Rattle.bus_dialogue.specs.Exchange.{Exchange, no_messages}
-use Rattle.bus_dialogue.specs.Planning.{first_plan}
-use Rattle.bus_dialogue.specs.Wants.{Ready}
-use Rattle.bus_dialogue.specs.Words.{tag_named, naming_messages}
+use Rattle.bus_due.specs.bus_base.specs.declared.Event.{Event}
+use Rattle.bus_due.specs.bus_base.specs.declared.Event.TheVariants as events
+use Rattle.bus_due.specs.bus_trace.specs.declared.Row.{Row}
+use Rattle.bus_due.specs.bus_trace.specs.declared.connection.Connection.{Connection}
+use Rattle.bus_due.specs.bus_trace.specs.Changes.{rises}
+use Rattle.bus_due.specs.msg_grammar.specs.declared.message.MsgIn.TheVariants as to_initiator
+use Rattle.bus_due.specs.scenario.specs.declared.value.Tag.{Tag}
+use Rattle.bus_due.specs.scenario.specs.declared.value.Tag.TheVariants as tags
+use Rattle.bus_due.specs.scenario.specs.Value.{ScenarioValue}
+use Rattle.bus_due.specs.disk_array.specs.Processes.{Process}
+use Rattle.bus_due.specs.disk_array.specs.Order.{tag_number}
+use Rattle.bus_due.specs.bus_story.specs.BusState.{row_reading}
+use Rattle.bus_due.specs.bus_story.specs.HistoryEvents.{link_events, row_events_by}
+use Rattle.bus_due.specs.bus_story.specs.Items.{Item, process, abort, has_item, Sent}
+use Rattle.bus_due.specs.bus_story.specs.Links.{Link, link_of}
+use Rattle.bus_due.specs.bus_story.specs.Story.{Story, story_after_events}
+use Rattle.bus_due.specs.bus_story.specs.TraceHistory.{aim_of, story_with_restored, story_with_sent, story_after_connection, story_on_bus, story_by_change}
+use Rattle.bus_due.specs.bus_dialogue.specs.declared.exchange.Messages.{Messages}
+use Rattle.bus_due.specs.bus_dialogue.specs.declared.exchange.Next.{Next}
+use Rattle.bus_due.specs.bus_dialogue.specs.declared.exchange.Next.TheVariants as nexts
+use Rattle.bus_due.specs.bus_dialogue.specs.Exchange.{Exchange, no_messages}
+use Rattle.bus_due.specs.bus_dialogue.specs.Planning.{first_plan}
+use Rattle.bus_due.specs.bus_dialogue.specs.Wants.{Ready}
+use Rattle.bus_due.specs.bus_dialogue.specs.Words.{tag_named, naming_messages}
 use Rattle.bus_due.specs.RunState.{RunState}
 use Rattle.bus_due.specs.RunSteps.{run_state_after, array_after_events, messages_if, item_if, first_exchange, may_negotiate, exchange_after, served_after, leaving_of}
 use Rattle.bus_due.specs.Wants.{ready_of}
@@ -35,8 +35,8 @@ use Rattle.bus_books.specs.Traces.{Begins}
 use Rattle.bus_books.proofs.Given.{first_requests}
 use Rattle.trace_laws.specs.ItemTalks.{plans_well, is_sense_item, talk_of, IsNameOf, last_well, TalksBy, Talks}
 use Rattle.trace_laws.specs.ItemFacts.{IsQueued}
-use Rattle.bus_base.proofs.Tests.{wrong, wrong'}
-use Rattle.bus_story.proofs.StorySteps.{events_link}
+use Rattle.bus_due.specs.bus_base.proofs.Tests.{wrong, wrong'}
+use Rattle.bus_due.specs.bus_story.proofs.StorySteps.{events_link}
 
 -- ---- what the row makes of what is sent, of the array and of the link
 

@@ -1,18 +1,18 @@
 -- What of the items other laws ask for.
 use Rattle.std.proofs.Common.{ℕ, ◌≡◌, Bool, true, false, not, ◌&&◌, ◌∙◌, List, ◌∷◌, Option, Some, None, refl, sym, ap}
 use Rattle.std.specs.Prelude.{if◌then◌else◌}
-use Rattle.bus_trace.specs.LineSet.{LineSet}
-use Rattle.bus_trace.specs.declared.Row.{Row}
-use Rattle.bus_trace.specs.declared.connection.Connection.{Connection}
-use Rattle.bus_trace.specs.Changes.{change_of, falls}
-use Rattle.bus_trace.specs.Terms.{call, connection, connection_of, connection_after}
-use Rattle.bus_trace.specs.Trace.{bus}
-use Rattle.scenario.specs.Value.{ScenarioValue}
-use Rattle.scenario.specs.Writing.{Obeys}
-use Rattle.bus_story.specs.Items.{Item, has_item}
-use Rattle.bus_story.specs.Links.{Link}
-use Rattle.bus_dialogue.specs.Wants.{Ready}
-use Rattle.bus_dialogue.specs.NextPhase.{phase_of}
+use Rattle.bus_due.specs.bus_trace.specs.LineSet.{LineSet}
+use Rattle.bus_due.specs.bus_trace.specs.declared.Row.{Row}
+use Rattle.bus_due.specs.bus_trace.specs.declared.connection.Connection.{Connection}
+use Rattle.bus_due.specs.bus_trace.specs.Changes.{change_of, falls}
+use Rattle.bus_due.specs.bus_trace.specs.Terms.{call, connection, connection_of, connection_after}
+use Rattle.bus_due.specs.bus_trace.specs.Trace.{bus}
+use Rattle.bus_due.specs.scenario.specs.Value.{ScenarioValue}
+use Rattle.bus_due.specs.scenario.specs.Writing.{Obeys}
+use Rattle.bus_due.specs.bus_story.specs.Items.{Item, has_item}
+use Rattle.bus_due.specs.bus_story.specs.Links.{Link}
+use Rattle.bus_due.specs.bus_dialogue.specs.Wants.{Ready}
+use Rattle.bus_due.specs.bus_dialogue.specs.NextPhase.{phase_of}
 use Rattle.bus_due.specs.Least.{IsLeast}
 use Rattle.bus_due.specs.Next.{due, IsPrompt}
 use Rattle.bus_due.specs.Plain.{IsPlain}
@@ -20,12 +20,12 @@ use Rattle.bus_due.specs.RunState.{RunState, bus_of, item_of}
 use Rattle.bus_due.specs.RunSteps.{run_state}
 use Rattle.bus_due.specs.Wants.{ready_of}
 use Rattle.bus_due.proofs.Plains.{run_state_plain}
-use Rattle.scsi_device.proofs.FitLines.{obeys_fits, seats_are, units_are}
+use Rattle.target_units.specs.scsi_device.proofs.FitLines.{obeys_fits, seats_are, units_are}
 use Rattle.bus_books.specs.Hearing.{is_in_phase}
 use Rattle.bus_books.specs.Knowing.{Knows}
-use Rattle.bus_laws.proofs.Limits.{obeys_latencies}
-use Rattle.bus_laws.proofs.Prompt.{least_is}
-use Rattle.bus_laws.proofs.Together.{from_stage}
+use Rattle.link_laws.specs.bus_laws.proofs.Limits.{obeys_latencies}
+use Rattle.link_laws.specs.bus_laws.proofs.Prompt.{least_is}
+use Rattle.link_laws.specs.bus_laws.proofs.Together.{from_stage}
 use Rattle.link_laws.specs.LinkStages.{AnyStage, apart, linked}
 use Rattle.trace_laws.proofs.Called.{made_for}
 use Rattle.trace_laws.proofs.FirstRows.{made_is}
@@ -39,7 +39,7 @@ use Rattle.trace_laws.proofs.ItemFacts.{aimed_next, falls_quiet}
 use Rattle.trace_laws.specs.ItemFacts.{IsQueued, ItemFacts}
 use Rattle.trace_laws.specs.ItemTalks.{TalksBy, talk_of}
 use Rattle.trace_laws.proofs.PhaseLines.{in_phase}
-use Rattle.bus_base.proofs.Tests.{wrong'}
+use Rattle.bus_due.specs.bus_base.proofs.Tests.{wrong'}
 
 -- ---- as a connection begins
 

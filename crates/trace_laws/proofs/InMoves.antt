@@ -3,30 +3,30 @@
 use Rattle.std.proofs.Common.{inl, inr, ℕ, ◌≡◌, ◌⊎◌, Bool, true, false, not, ◌&&◌, ◌||◌, ◌∙◌, List, ◌∷◌, Option, Some, None, refl, sym, ap, subst}
 use Rattle.std.specs.Prelude.{if◌then◌else◌, ◌==◌, is_some, nat_le, ◌+◌}
 use Rattle.std.proofs.lemmas.Bool.{and_parts}
-use Rattle.bus_trace.specs.LineSet.{LineSet, byte_set}
+use Rattle.bus_due.specs.bus_trace.specs.LineSet.{LineSet, byte_set}
 use Rattle.std.proofs.lemmas.Bool.{cases_eq}
-use Rattle.bus_trace.proofs.Buses.{bus_on, bus_off}
-use Rattle.bus_trace.proofs.OneRow.{bus-fault, drives-own, drives-other}
-use Rattle.bus_trace.specs.declared.Row.{Row}
-use Rattle.bus_trace.specs.declared.changes.Change.{Change}
-use Rattle.bus_trace.specs.declared.connection.Connection.{Connection}
-use Rattle.bus_trace.specs.Changes.{change_of, rises, falls, implies}
-use Rattle.bus_trace.specs.Phases.{is_data, is_message_in}
-use Rattle.bus_trace.specs.Terms.{arbitration, connection, raised}
-use Rattle.bus_trace.specs.Trace.{bus, drives, driven_after, last_time}
-use Rattle.bus_rules.specs.declared.seen.Seen.{Seen}
-use Rattle.bus_rules.specs.Seen.{seen, seen_with}
-use Rattle.bus_rules.specs.Rules.{keeps, judged_rules, broken_rule}
-use Rattle.scenario.specs.Value.{ScenarioValue}
-use Rattle.bus_laws.specs.Ends.{EndLines, connected_bus, Linked, ends_selected}
-use Rattle.bus_dialogue.specs.declared.exchange.Leaving.{Leaving}
-use Rattle.bus_dialogue.specs.declared.exchange.Phase.{Phase}
-use Rattle.bus_dialogue.specs.declared.exchange.Phase.TheVariants as phases
-use Rattle.bus_dialogue.specs.NextPhase.{Serving, phase_of, phase_lines, leaving_by}
-use Rattle.bus_dialogue.specs.PhaseBytes.{lines_by, phase_byte, one_if}
+use Rattle.bus_due.specs.bus_trace.proofs.Buses.{bus_on, bus_off}
+use Rattle.bus_due.specs.bus_trace.proofs.OneRow.{bus-fault, drives-own, drives-other}
+use Rattle.bus_due.specs.bus_trace.specs.declared.Row.{Row}
+use Rattle.bus_due.specs.bus_trace.specs.declared.changes.Change.{Change}
+use Rattle.bus_due.specs.bus_trace.specs.declared.connection.Connection.{Connection}
+use Rattle.bus_due.specs.bus_trace.specs.Changes.{change_of, rises, falls, implies}
+use Rattle.bus_due.specs.bus_trace.specs.Phases.{is_data, is_message_in}
+use Rattle.bus_due.specs.bus_trace.specs.Terms.{arbitration, connection, raised}
+use Rattle.bus_due.specs.bus_trace.specs.Trace.{bus, drives, driven_after, last_time}
+use Rattle.bus_due.specs.bus_rules.specs.declared.seen.Seen.{Seen}
+use Rattle.bus_due.specs.bus_rules.specs.Seen.{seen, seen_with}
+use Rattle.bus_due.specs.bus_rules.specs.Rules.{keeps, judged_rules, broken_rule}
+use Rattle.bus_due.specs.scenario.specs.Value.{ScenarioValue}
+use Rattle.link_laws.specs.bus_laws.specs.Ends.{EndLines, connected_bus, Linked, ends_selected}
+use Rattle.bus_due.specs.bus_dialogue.specs.declared.exchange.Leaving.{Leaving}
+use Rattle.bus_due.specs.bus_dialogue.specs.declared.exchange.Phase.{Phase}
+use Rattle.bus_due.specs.bus_dialogue.specs.declared.exchange.Phase.TheVariants as phases
+use Rattle.bus_due.specs.bus_dialogue.specs.NextPhase.{Serving, phase_of, phase_lines, leaving_by}
+use Rattle.bus_due.specs.bus_dialogue.specs.PhaseBytes.{lines_by, phase_byte, one_if}
 use Rattle.bus_due.specs.RunSteps.{run_state}
 use Rattle.bus_due.specs.Sights.{serving_at}
-use Rattle.bus_laws.specs.Rows.{row_of_lines, row_of_fault}
+use Rattle.link_laws.specs.bus_laws.specs.Rows.{row_of_lines, row_of_fault}
 use Rattle.link_laws.specs.Phases.{ends}
 use Rattle.link_laws.proofs.EndDues.{offering_with}
 use Rattle.link_laws.proofs.Moves.{initiator_moves, target_moves}
@@ -35,8 +35,8 @@ use Rattle.trace_laws.proofs.UnderRst.{line_off}
 use Rattle.trace_laws.proofs.AimsFit.{RisesWell}
 use Rattle.trace_laws.proofs.TalkSteps.{Alternates}
 use Rattle.trace_laws.specs.ItemTalks.{awaits}
-use Rattle.bus_base.proofs.Tests.{wrong, wrong', implied}
-use Rattle.bus_rules.proofs.First.{all_kept}
+use Rattle.bus_due.specs.bus_base.proofs.Tests.{wrong, wrong', implied}
+use Rattle.bus_due.specs.bus_rules.proofs.First.{all_kept}
 
 -- ---- the lines
 

@@ -2,27 +2,27 @@
 use Rattle.std.proofs.Common.{ℕ, ◌≡◌, ◌<◌, Bool, true, false, not, ◌&&◌, ◌||◌, ◌==◌, ◌%◌, ◌∙◌, List, ◌∷◌, length, refl, sym, ap, Some}
 use Rattle.std.specs.Prelude.{if◌then◌else◌, nat_lt}
 use Rattle.std.specs.Int.RustNames.{count_ones}
-use Rattle.bus_trace.specs.declared.Row.{Row}
-use Rattle.bus_trace.specs.declared.agreements.Agreement.{Agreement}
-use Rattle.bus_trace.specs.declared.connection.Connection.{Connection}
-use Rattle.bus_trace.specs.Changes.{rises}
-use Rattle.bus_trace.specs.Phases.{is_message_in}
-use Rattle.bus_phases.specs.declared.dialogue.Dialogue.{Dialogue}
-use Rattle.bus_phases.specs.Dialogue.{dialogue, byte_out, byte_in, byte_else}
-use Rattle.bus_lines.specs.Handshakes.{Handshakes, handshakes}
-use Rattle.scenario.specs.Value.{ScenarioValue}
-use Rattle.bus_reactions.specs.Target.{byte_bits, bits_if}
-use Rattle.bus_reactions.specs.Initiator.{attends_by}
-use Rattle.bus_dialogue.specs.declared.exchange.Phase.{Phase}
-use Rattle.bus_dialogue.specs.Exchange.{Exchange, attends_with, bytes_of_messages}
-use Rattle.bus_dialogue.specs.NextPhase.{phase_of, phase_leaving}
-use Rattle.bus_dialogue.specs.PhaseBytes.{phase_byte, one_if}
-use Rattle.bus_dialogue.specs.Sending.{byte_to_send}
-use Rattle.bus_dialogue.specs.Hearing.{begun}
+use Rattle.bus_due.specs.bus_trace.specs.declared.Row.{Row}
+use Rattle.bus_due.specs.bus_trace.specs.declared.agreements.Agreement.{Agreement}
+use Rattle.bus_due.specs.bus_trace.specs.declared.connection.Connection.{Connection}
+use Rattle.bus_due.specs.bus_trace.specs.Changes.{rises}
+use Rattle.bus_due.specs.bus_trace.specs.Phases.{is_message_in}
+use Rattle.bus_due.specs.bus_phases.specs.declared.dialogue.Dialogue.{Dialogue}
+use Rattle.bus_due.specs.bus_phases.specs.Dialogue.{dialogue, byte_out, byte_in, byte_else}
+use Rattle.bus_due.specs.bus_lines.specs.Handshakes.{Handshakes, handshakes}
+use Rattle.bus_due.specs.scenario.specs.Value.{ScenarioValue}
+use Rattle.bus_due.specs.bus_reactions.specs.Target.{byte_bits, bits_if}
+use Rattle.bus_due.specs.bus_reactions.specs.Initiator.{attends_by}
+use Rattle.bus_due.specs.bus_dialogue.specs.declared.exchange.Phase.{Phase}
+use Rattle.bus_due.specs.bus_dialogue.specs.Exchange.{Exchange, attends_with, bytes_of_messages}
+use Rattle.bus_due.specs.bus_dialogue.specs.NextPhase.{phase_of, phase_leaving}
+use Rattle.bus_due.specs.bus_dialogue.specs.PhaseBytes.{phase_byte, one_if}
+use Rattle.bus_due.specs.bus_dialogue.specs.Sending.{byte_to_send}
+use Rattle.bus_due.specs.bus_dialogue.specs.Hearing.{begun}
 use Rattle.bus_due.specs.Plain.{AreOfDevices}
 use Rattle.bus_due.specs.RunSteps.{run_state}
 use Rattle.bus_due.specs.Sights.{serving_at}
-use Rattle.bus_laws.specs.Ends.{EndLines, initiator_side, target_side, connected_bus, Linked}
+use Rattle.link_laws.specs.bus_laws.specs.Ends.{EndLines, initiator_side, target_side, connected_bus, Linked}
 use Rattle.link_laws.specs.Phases.{ends}
 use Rattle.link_laws.specs.Pulses.{run_count}
 use Rattle.link_laws.proofs.DataRows.{count_stays, sending_stays}
@@ -34,7 +34,7 @@ use Rattle.trace_laws.proofs.Driven.{message_at, message_follows, IsOdd, Driven,
 use Rattle.trace_laws.proofs.Kept.{turn, dialogue_stays, Quiet, requests_stay, message_stays, follows_stay, unasked_stays, first_stays, initiator_end, target_end, initiator_quiet, target_quiet, data_row, still_row}
 use Rattle.trace_laws.proofs.LinkRows.{is_pulsed, is_unasked}
 use Rattle.trace_laws.proofs.Tests.{not_not}
-use Rattle.bus_base.proofs.Tests.{wrong, wrong', or_true}
+use Rattle.bus_due.specs.bus_base.proofs.Tests.{wrong, wrong', or_true}
 
 -- The bytes that the two ends are due to drive are bytes.
 pub record Values (s : ScenarioValue) (p : List Row) (n : Connection) (e : EndLines) : Type 0 where

@@ -2,19 +2,19 @@
 use Rattle.std.proofs.Common.{ℕ, ◌≡◌, ◌<◌, Bool, true, false, ◌∙◌, List, [], ◌∷◌, Option, Some, None, sym, ap, subst}
 use Rattle.std.specs.Prelude.{if◌then◌else◌, is_some}
 use Rattle.std.proofs.lemmas.Option.{same_Some}
-use Rattle.bus_base.specs.declared.ProcId.{ProcId}
-use Rattle.bus_trace.specs.LineSet.{LineSet}
-use Rattle.bus_trace.specs.declared.Row.{Row}
-use Rattle.bus_trace.specs.declared.changes.Change.{Change}
-use Rattle.bus_trace.specs.declared.connection.Connection.{Connection}
-use Rattle.bus_trace.specs.Phases.{changes_phase}
-use Rattle.bus_trace.specs.Terms.{connection, connection_after}
-use Rattle.bus_trace.specs.Trace.{bus}
-use Rattle.cdb_codec.specs.Cdb.{has_group_len}
-use Rattle.scenario.specs.Value.{ScenarioValue}
-use Rattle.scenario.specs.Writing.{Obeys}
-use Rattle.bus_story.specs.BusState.{row_reading}
-use Rattle.bus_story.proofs.SameBytes.{bytes_are}
+use Rattle.bus_due.specs.bus_base.specs.declared.ProcId.{ProcId}
+use Rattle.bus_due.specs.bus_trace.specs.LineSet.{LineSet}
+use Rattle.bus_due.specs.bus_trace.specs.declared.Row.{Row}
+use Rattle.bus_due.specs.bus_trace.specs.declared.changes.Change.{Change}
+use Rattle.bus_due.specs.bus_trace.specs.declared.connection.Connection.{Connection}
+use Rattle.bus_due.specs.bus_trace.specs.Phases.{changes_phase}
+use Rattle.bus_due.specs.bus_trace.specs.Terms.{connection, connection_after}
+use Rattle.bus_due.specs.bus_trace.specs.Trace.{bus}
+use Rattle.bus_due.specs.cdb_codec.specs.Cdb.{has_group_len}
+use Rattle.bus_due.specs.scenario.specs.Value.{ScenarioValue}
+use Rattle.bus_due.specs.scenario.specs.Writing.{Obeys}
+use Rattle.bus_due.specs.bus_story.specs.BusState.{row_reading}
+use Rattle.bus_due.specs.bus_story.proofs.SameBytes.{bytes_are}
 use Rattle.bus_due.specs.Faithful.{is_item_named, is_opening_named}
 use Rattle.bus_due.specs.Least.{IsLeast}
 use Rattle.bus_due.specs.Next.{due, IsPrompt}
@@ -22,15 +22,15 @@ use Rattle.bus_due.specs.Plain.{IsPlain}
 use Rattle.bus_due.specs.RunState.{RunState, bus_of, carried_here}
 use Rattle.bus_due.specs.RunSteps.{run_state}
 use Rattle.bus_due.proofs.Plains.{run_state_plain}
-use Rattle.scsi_device.specs.Heard.{instructions}
-use Rattle.scsi_device.proofs.FitLines.{obeys_fits, units_are}
-use Rattle.scsi_device.specs.Lines.{AreUnits}
+use Rattle.target_units.specs.scsi_device.specs.Heard.{instructions}
+use Rattle.target_units.specs.scsi_device.proofs.FitLines.{obeys_fits, units_are}
+use Rattle.target_units.specs.scsi_device.specs.Lines.{AreUnits}
 use Rattle.bus_books.specs.Hearing.{LeavesWhole}
 use Rattle.bus_books.specs.Rows.{RowKind, still, strikes, crosses, turns}
 use Rattle.bus_books.specs.Traces.{GoesOn, RowOf, apart, begins, goes_on, ends, under_reset}
 use Rattle.bus_books.proofs.CarriedBlocks.{block_own}
 use Rattle.bus_books.proofs.Opened.{opening_named}
-use Rattle.bus_laws.proofs.Prompt.{least_is}
+use Rattle.link_laws.specs.bus_laws.proofs.Prompt.{least_is}
 use Rattle.trace_laws.specs.Commands.{CommandBooks, CommandFacts}
 use Rattle.trace_laws.specs.Instructed.{Instructed, InstructedFacts}
 use Rattle.trace_laws.specs.Offers.{OfferFacts}
@@ -45,7 +45,7 @@ use Rattle.trace_laws.proofs.InstructedLeavings.{LeavesTold, leaves_told}
 use Rattle.trace_laws.proofs.InstructedRows.{begins_told, cross_told, stay_told}
 use Rattle.trace_laws.proofs.Joint.{Stood, NextStood}
 use Rattle.trace_laws.proofs.PhaseLines.{out_lines}
-use Rattle.bus_base.proofs.Tests.{wrong, or_other}
+use Rattle.bus_due.specs.bus_base.proofs.Tests.{wrong, or_other}
 
 -- ---- the row leaves a phase
 

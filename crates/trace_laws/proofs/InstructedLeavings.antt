@@ -1,34 +1,34 @@
 -- A phase is left: what the target of the connection has been told then fits the phase that begins.
 use Rattle.std.proofs.Common.{◌≡◌, Bool, true, false, not, ◌&&◌, ◌||◌, ◌∙◌, List, [], ◌∷◌, Option, Some, None, refl, sym, ap, subst}
 use Rattle.std.specs.Prelude.{if◌then◌else◌, is_some}
-use Rattle.bus_trace.specs.LineSet.{same}
-use Rattle.bus_trace.specs.declared.Row.{Row}
-use Rattle.bus_trace.specs.declared.changes.Change.{Change}
-use Rattle.bus_trace.specs.declared.connection.Connection.{Connection}
-use Rattle.bus_trace.specs.Phases.{changes_phase, is_command, is_message_out}
-use Rattle.bus_trace.specs.Terms.{is_fault, receiver_in}
-use Rattle.cdb_codec.specs.Cdb.{has_group_len}
-use Rattle.scenario.specs.Value.{ScenarioValue}
-use Rattle.bus_dialogue.specs.declared.exchange.Cause.{Cause}
-use Rattle.bus_dialogue.specs.declared.exchange.Cause.TheVariants as causes
-use Rattle.bus_dialogue.specs.declared.exchange.Hearing.{Hearing}
-use Rattle.bus_dialogue.specs.declared.exchange.Leaving.{Leaving}
-use Rattle.bus_dialogue.specs.declared.exchange.Next.{Next}
-use Rattle.bus_dialogue.specs.declared.exchange.Next.TheVariants as nexts
-use Rattle.bus_dialogue.specs.declared.exchange.Phase.{Phase}
-use Rattle.bus_dialogue.specs.declared.exchange.Phase.TheVariants as phases
-use Rattle.bus_dialogue.specs.declared.exchange.Plan.{Plan}
-use Rattle.bus_dialogue.specs.declared.exchange.Said.{Said}
-use Rattle.bus_dialogue.specs.Exchange.{Exchange, plan_anew}
-use Rattle.bus_dialogue.specs.NextPhase.{Serving, bus_free, after_offer, leaving_by, message_out_leaving, phase_leaving, phase_of}
-use Rattle.bus_dialogue.specs.Planning.{cause_after, plan_in_message_out}
-use Rattle.bus_dialogue.specs.Words.{parity_error}
+use Rattle.bus_due.specs.bus_trace.specs.LineSet.{same}
+use Rattle.bus_due.specs.bus_trace.specs.declared.Row.{Row}
+use Rattle.bus_due.specs.bus_trace.specs.declared.changes.Change.{Change}
+use Rattle.bus_due.specs.bus_trace.specs.declared.connection.Connection.{Connection}
+use Rattle.bus_due.specs.bus_trace.specs.Phases.{changes_phase, is_command, is_message_out}
+use Rattle.bus_due.specs.bus_trace.specs.Terms.{is_fault, receiver_in}
+use Rattle.bus_due.specs.cdb_codec.specs.Cdb.{has_group_len}
+use Rattle.bus_due.specs.scenario.specs.Value.{ScenarioValue}
+use Rattle.bus_due.specs.bus_dialogue.specs.declared.exchange.Cause.{Cause}
+use Rattle.bus_due.specs.bus_dialogue.specs.declared.exchange.Cause.TheVariants as causes
+use Rattle.bus_due.specs.bus_dialogue.specs.declared.exchange.Hearing.{Hearing}
+use Rattle.bus_due.specs.bus_dialogue.specs.declared.exchange.Leaving.{Leaving}
+use Rattle.bus_due.specs.bus_dialogue.specs.declared.exchange.Next.{Next}
+use Rattle.bus_due.specs.bus_dialogue.specs.declared.exchange.Next.TheVariants as nexts
+use Rattle.bus_due.specs.bus_dialogue.specs.declared.exchange.Phase.{Phase}
+use Rattle.bus_due.specs.bus_dialogue.specs.declared.exchange.Phase.TheVariants as phases
+use Rattle.bus_due.specs.bus_dialogue.specs.declared.exchange.Plan.{Plan}
+use Rattle.bus_due.specs.bus_dialogue.specs.declared.exchange.Said.{Said}
+use Rattle.bus_due.specs.bus_dialogue.specs.Exchange.{Exchange, plan_anew}
+use Rattle.bus_due.specs.bus_dialogue.specs.NextPhase.{Serving, bus_free, after_offer, leaving_by, message_out_leaving, phase_leaving, phase_of}
+use Rattle.bus_due.specs.bus_dialogue.specs.Planning.{cause_after, plan_in_message_out}
+use Rattle.bus_due.specs.bus_dialogue.specs.Words.{parity_error}
 use Rattle.bus_due.specs.Faithful.{is_item_named, is_process_named}
 use Rattle.bus_due.specs.RunState.{RunState, bus_of, carried_here}
 use Rattle.bus_due.specs.RunSteps.{run_state}
 use Rattle.bus_due.specs.Sights.{hearing_of, leaving, serving_of}
-use Rattle.scsi_device.specs.Heard.{Instructions, instructions, instructions_on, instructions_with, is_command_phase, is_name, is_opening, is_opening_in}
-use Rattle.scsi_device.proofs.PhaseLines.{command_is}
+use Rattle.target_units.specs.scsi_device.specs.Heard.{Instructions, instructions, instructions_on, instructions_with, is_command_phase, is_name, is_opening, is_opening_in}
+use Rattle.target_units.specs.scsi_device.proofs.PhaseLines.{command_is}
 use Rattle.bus_books.specs.Hearing.{HasPhase, is_out_phase}
 use Rattle.bus_books.specs.Rows.{IsRowIn, reading_in}
 use Rattle.bus_books.proofs.InConnection.{InConnection, in_connection}
@@ -41,7 +41,7 @@ use Rattle.trace_laws.proofs.InstructedTurns.{block_turned, enters_known, known_
 use Rattle.trace_laws.proofs.KnownLeavings.{Fits, FitsPhase, fits, known_after}
 use Rattle.trace_laws.proofs.OpeningRows.{opens_at}
 use Rattle.trace_laws.proofs.PhaseLines.{out_phase}
-use Rattle.bus_base.proofs.Tests.{wrong, wrong'}
+use Rattle.bus_due.specs.bus_base.proofs.Tests.{wrong, wrong'}
 
 -- ---- lines
 

@@ -3,35 +3,35 @@ use Rattle.std.proofs.Common.{inl, inr, ℕ, ◌≡◌, ◌<◌, Bool, true, fal
 use Rattle.std.specs.Prelude.{if◌then◌else◌}
 use Rattle.std.proofs.lemmas.Bool.{cases_eq}
 use Rattle.std.proofs.lemmas.Option.{same_Some}
-use Rattle.bus_trace.specs.LineSet.{LineSet, union, none}
-use Rattle.bus_trace.proofs.Sets.{same_set-eq}
-use Rattle.bus_trace.proofs.Buses.{bus_off}
-use Rattle.bus_trace.proofs.OneRow.{drives-other}
-use Rattle.bus_trace.specs.declared.Row.{Row}
-use Rattle.bus_trace.specs.declared.connection.Connection.{Connection}
-use Rattle.bus_trace.specs.declared.selection.Call.{Call}
-use Rattle.bus_trace.specs.declared.selection.Calling.{Calling}
-use Rattle.bus_trace.specs.Changes.{change_of, rises, is_within, implies}
-use Rattle.bus_trace.specs.Phases.{is_message_in}
-use Rattle.bus_trace.specs.Terms.{arbitration, call, connection, connection_of, connected, connected_of, connected_by, connection_after}
-use Rattle.bus_trace.specs.Trace.{bus, drives, driven_after}
-use Rattle.bus_rules.specs.Reset.{only_rst}
-use Rattle.bus_rules.specs.Rules.{broken_rule}
-use Rattle.scenario.specs.Value.{ScenarioValue}
-use Rattle.disk_array.specs.Units.{starting_units}
-use Rattle.bus_dialogue.specs.declared.exchange.Phase.TheVariants as phases
-use Rattle.bus_story.specs.BusState.{row_reading}
-use Rattle.bus_story.specs.Items.{Item, sense_item}
-use Rattle.bus_story.specs.Links.{Link, LastMessage, plain, complete, disconnect, abortive, is_open_sense}
-use Rattle.bus_story.specs.HistoryEvents.{is_complete}
+use Rattle.bus_due.specs.bus_trace.specs.LineSet.{LineSet, union, none}
+use Rattle.bus_due.specs.bus_trace.proofs.Sets.{same_set-eq}
+use Rattle.bus_due.specs.bus_trace.proofs.Buses.{bus_off}
+use Rattle.bus_due.specs.bus_trace.proofs.OneRow.{drives-other}
+use Rattle.bus_due.specs.bus_trace.specs.declared.Row.{Row}
+use Rattle.bus_due.specs.bus_trace.specs.declared.connection.Connection.{Connection}
+use Rattle.bus_due.specs.bus_trace.specs.declared.selection.Call.{Call}
+use Rattle.bus_due.specs.bus_trace.specs.declared.selection.Calling.{Calling}
+use Rattle.bus_due.specs.bus_trace.specs.Changes.{change_of, rises, is_within, implies}
+use Rattle.bus_due.specs.bus_trace.specs.Phases.{is_message_in}
+use Rattle.bus_due.specs.bus_trace.specs.Terms.{arbitration, call, connection, connection_of, connected, connected_of, connected_by, connection_after}
+use Rattle.bus_due.specs.bus_trace.specs.Trace.{bus, drives, driven_after}
+use Rattle.bus_due.specs.bus_rules.specs.Reset.{only_rst}
+use Rattle.bus_due.specs.bus_rules.specs.Rules.{broken_rule}
+use Rattle.bus_due.specs.scenario.specs.Value.{ScenarioValue}
+use Rattle.bus_due.specs.disk_array.specs.Units.{starting_units}
+use Rattle.bus_due.specs.bus_dialogue.specs.declared.exchange.Phase.TheVariants as phases
+use Rattle.bus_due.specs.bus_story.specs.BusState.{row_reading}
+use Rattle.bus_due.specs.bus_story.specs.Items.{Item, sense_item}
+use Rattle.bus_due.specs.bus_story.specs.Links.{Link, LastMessage, plain, complete, disconnect, abortive, is_open_sense}
+use Rattle.bus_due.specs.bus_story.specs.HistoryEvents.{is_complete}
 use Rattle.bus_due.specs.Plain.{AreOfDevices, IsPlain}
 use Rattle.bus_due.specs.RunState.{RunState, array_of}
 use Rattle.bus_due.specs.RunSteps.{run_state}
 use Rattle.bus_due.proofs.Plains.{run_state_plain}
 use Rattle.bus_books.specs.Traces.{Begins, RowOf, apart as row_apart, begins, goes_on, ends, under_reset}
 use Rattle.bus_books.proofs.Reactions.{out_over}
-use Rattle.bus_laws.specs.Stages.{BusStage}
-use Rattle.bus_laws.proofs.Apart.{change_plain}
+use Rattle.link_laws.specs.bus_laws.specs.Stages.{BusStage}
+use Rattle.link_laws.specs.bus_laws.proofs.Apart.{change_plain}
 use Rattle.link_laws.specs.LinkStages.{LinkStage, when_selected, when_settling, when_turning, when_offering, when_shaking, when_pulsing}
 use Rattle.trace_laws.proofs.Called.{IsCalled}
 use Rattle.trace_laws.proofs.ConnectionRows.{ConnectionRow}
@@ -49,7 +49,7 @@ use Rattle.trace_laws.proofs.ItemSteps.{start_queued}
 use Rattle.trace_laws.proofs.ItemRows.{open_over}
 use Rattle.trace_laws.specs.ItemFacts.{IsAimed, AimsFit, UnitsP, IsQueued, ItemFacts}
 use Rattle.trace_laws.specs.ItemTalks.{is_sense_item, awaits, is_plain, talk_of, TalksBy, last_well}
-use Rattle.bus_base.proofs.Tests.{wrong, wrong', or_true}
+use Rattle.bus_due.specs.bus_base.proofs.Tests.{wrong, wrong', or_true}
 
 -- ---- the start
 

@@ -3,45 +3,45 @@
 use Rattle.std.proofs.Common.{inl, inr, ℕ, ◌≡◌, ◌⊎◌, ◌<◌, Bool, true, false, not, ◌&&◌, ◌==◌, ◌%◌, ◌∙◌, List, [], ◌∷◌, ◌++◌, length, Option, Some, None, refl, sym, ap, subst, arith}
 use Rattle.std.specs.Prelude.{if◌then◌else◌, is_some, nat_lt, slice_index_or}
 use Rattle.std.proofs.lemmas.Option.{same_Some}
-use Rattle.bus_trace.specs.LineSet.{LineSet}
-use Rattle.bus_trace.specs.declared.Row.{Row}
-use Rattle.bus_trace.specs.declared.changes.Change.{Change}
-use Rattle.bus_trace.specs.declared.connection.Connection.{Connection}
-use Rattle.bus_trace.specs.Changes.{change_of, rises, falls}
-use Rattle.bus_trace.specs.Phases.{changes_phase, is_command, is_message_in}
-use Rattle.bus_trace.specs.Terms.{call, connection, connection_of, connection_after, receiver_in, receiver_of}
-use Rattle.bus_trace.specs.Trace.{bus}
-use Rattle.bus_lines.specs.Handshakes.{Handshakes, handshakes}
-use Rattle.msg_grammar.specs.declared.message.MsgIn.{MsgIn}
-use Rattle.msg_grammar.specs.declared.message.MsgIn.TheVariants as to_initiator
-use Rattle.msg_grammar.specs.Messages.{got_in}
-use Rattle.scenario.specs.declared.value.CmdDef.{CmdDef}
-use Rattle.scenario.specs.Value.{ScenarioValue}
-use Rattle.scenario.specs.Writing.{Obeys}
-use Rattle.disk_array.specs.Processes.{Process, process_of, process_if, process_by, command_at}
-use Rattle.disk_array.specs.Order.{same_number, tag_number}
-use Rattle.bus_story.specs.BusState.{RowReading, row_reading, message_in, whole_in}
-use Rattle.bus_story.specs.Items.{Item, process, has_item, command_item, Sent, is_open, is_tag_clash}
-use Rattle.bus_story.specs.Links.{Link, is_open_sense, link_after_name}
-use Rattle.bus_story.specs.TraceHistory.{aim_of, story_on_free_bus}
-use Rattle.bus_dialogue.specs.Exchange.{bytes_of_messages}
-use Rattle.bus_dialogue.specs.NextPhase.{phase_of}
-use Rattle.bus_dialogue.specs.Words.{is_name}
+use Rattle.bus_due.specs.bus_trace.specs.LineSet.{LineSet}
+use Rattle.bus_due.specs.bus_trace.specs.declared.Row.{Row}
+use Rattle.bus_due.specs.bus_trace.specs.declared.changes.Change.{Change}
+use Rattle.bus_due.specs.bus_trace.specs.declared.connection.Connection.{Connection}
+use Rattle.bus_due.specs.bus_trace.specs.Changes.{change_of, rises, falls}
+use Rattle.bus_due.specs.bus_trace.specs.Phases.{changes_phase, is_command, is_message_in}
+use Rattle.bus_due.specs.bus_trace.specs.Terms.{call, connection, connection_of, connection_after, receiver_in, receiver_of}
+use Rattle.bus_due.specs.bus_trace.specs.Trace.{bus}
+use Rattle.bus_due.specs.bus_lines.specs.Handshakes.{Handshakes, handshakes}
+use Rattle.bus_due.specs.msg_grammar.specs.declared.message.MsgIn.{MsgIn}
+use Rattle.bus_due.specs.msg_grammar.specs.declared.message.MsgIn.TheVariants as to_initiator
+use Rattle.bus_due.specs.msg_grammar.specs.Messages.{got_in}
+use Rattle.bus_due.specs.scenario.specs.declared.value.CmdDef.{CmdDef}
+use Rattle.bus_due.specs.scenario.specs.Value.{ScenarioValue}
+use Rattle.bus_due.specs.scenario.specs.Writing.{Obeys}
+use Rattle.bus_due.specs.disk_array.specs.Processes.{Process, process_of, process_if, process_by, command_at}
+use Rattle.bus_due.specs.disk_array.specs.Order.{same_number, tag_number}
+use Rattle.bus_due.specs.bus_story.specs.BusState.{RowReading, row_reading, message_in, whole_in}
+use Rattle.bus_due.specs.bus_story.specs.Items.{Item, process, has_item, command_item, Sent, is_open, is_tag_clash}
+use Rattle.bus_due.specs.bus_story.specs.Links.{Link, is_open_sense, link_after_name}
+use Rattle.bus_due.specs.bus_story.specs.TraceHistory.{aim_of, story_on_free_bus}
+use Rattle.bus_due.specs.bus_dialogue.specs.Exchange.{bytes_of_messages}
+use Rattle.bus_due.specs.bus_dialogue.specs.NextPhase.{phase_of}
+use Rattle.bus_due.specs.bus_dialogue.specs.Words.{is_name}
 use Rattle.bus_due.specs.Next.{IsPrompt}
 use Rattle.bus_due.specs.Plain.{AreOfDevices, IsPlain}
 use Rattle.bus_due.specs.RunState.{RunState, bus_of}
 use Rattle.bus_due.specs.RunSteps.{run_state}
 use Rattle.bus_due.proofs.Plains.{run_state_plain}
-use Rattle.scsi_device.specs.Lines.{AreUnits}
-use Rattle.scsi_device.proofs.FitLines.{obeys_fits, units_are}
+use Rattle.target_units.specs.scsi_device.specs.Lines.{AreUnits}
+use Rattle.target_units.specs.scsi_device.proofs.FitLines.{obeys_fits, units_are}
 use Rattle.bus_books.specs.Giving.{AreGiven, Gives, GivesNext}
 use Rattle.bus_books.proofs.Hearable.{heard_next}
-use Rattle.bus_phases.specs.declared.dialogue.Dialogue.{Dialogue}
+use Rattle.bus_due.specs.bus_phases.specs.declared.dialogue.Dialogue.{Dialogue}
 use Rattle.bus_books.specs.Knowing.{Knows, NamesServed}
 use Rattle.bus_books.proofs.Reactions.{messages_some}
-use Rattle.bus_laws.specs.Stages.{BusStage}
-use Rattle.bus_laws.proofs.Apart.{change_plain}
-use Rattle.bus_laws.proofs.Prompt.{least_is}
+use Rattle.link_laws.specs.bus_laws.specs.Stages.{BusStage}
+use Rattle.link_laws.specs.bus_laws.proofs.Apart.{change_plain}
+use Rattle.link_laws.specs.bus_laws.proofs.Prompt.{least_is}
 use Rattle.link_laws.specs.LinkStages.{LinkStage, AnyStage, apart, linked}
 use Rattle.trace_laws.proofs.ConnectionRows.{ConnectionRow, connection_row, GoingRow, going_row, RowKindOf, begins_now, goes_now, row_kind, stage_of_connection}
 use Rattle.trace_laws.proofs.Crossings.{RowFacts, stays, ends_here, Goes}
@@ -65,7 +65,7 @@ use Rattle.trace_laws.proofs.ItemFacts.{aimed_next, beginning, link_stands, rst_
 use Rattle.trace_laws.specs.ItemFacts.{IsNext, AimsFit, Items, ItemFacts}
 use Rattle.trace_laws.specs.ItemTalks.{is_sense_item, talk_of, awaits, IsNameOf, HasNames, TalksBy}
 use Rattle.std.proofs.lemmas.Bool.{ltb-true}
-use Rattle.bus_base.proofs.Tests.{wrong, wrong', eq_self, zero_of}
+use Rattle.bus_due.specs.bus_base.proofs.Tests.{wrong, wrong', eq_self, zero_of}
 use Rattle.link_laws.proofs.Traces.{link_calm}
 
 -- ---- a row of a connection

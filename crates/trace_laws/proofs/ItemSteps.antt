@@ -3,31 +3,31 @@ use Rattle.std.proofs.Common.{ℕ, ◌≡◌, ◌+◌, Bool, true, false, not, �
 use Rattle.std.specs.Prelude.{if◌then◌else◌, is_none, ⊤}
 use Rattle.std.specs.List.{list_any}
 use Rattle.std.proofs.lemmas.Option.{same_Some}
-use Rattle.bus_base.specs.declared.ProcId.{ProcId}
-use Rattle.bus_base.specs.declared.Event.{Event}
-use Rattle.bus_base.specs.declared.Event.TheVariants as events
-use Rattle.bus_trace.specs.declared.Row.{Row}
-use Rattle.bus_trace.specs.declared.selection.Call.{Call}
-use Rattle.bus_trace.specs.declared.selection.Calling.{Calling}
-use Rattle.bus_trace.specs.declared.connection.Connection.{Connection}
-use Rattle.bus_trace.specs.Changes.{falls}
-use Rattle.bus_trace.specs.Phases.{changes_phase}
-use Rattle.cdb_codec.specs.Cdb.{command_of}
-use Rattle.scenario.specs.declared.value.UnitDef.{UnitDef}
-use Rattle.scenario.specs.declared.value.CmdDef.{CmdDef}
-use Rattle.scenario.specs.Value.{ScenarioValue}
-use Rattle.disk_array.specs.Processes.{Process, process_of, process_if, process_by, command_at, same_id}
-use Rattle.disk_array.specs.Execution.{is_request_sense}
-use Rattle.disk_array.specs.Units.{RunningProcess, UnitState, Array, unit_state_at, is_held, starting_units}
-use Rattle.disk_array.specs.Steps as Steps
-use Rattle.disk_array.specs.ArrayHistory as Play
-use Rattle.disk_array.specs.Seats.{current_of}
-use Rattle.bus_story.specs.BusState.{RowReading}
-use Rattle.bus_story.specs.Items.{Item, process, abort, same_item, has_item, Sent}
-use Rattle.bus_story.specs.Story.{Story, story_after_event, story_after_events}
-use Rattle.bus_story.specs.TraceHistory.{aim_of, is_arbitration_entry, story_with_aim, story_without_answer, story_with_try, story_after_calling_by, story_after_calling, story_on_free_bus}
-use Rattle.bus_dialogue.specs.declared.exchange.Leaving.{Leaving}
-use Rattle.bus_dialogue.specs.Wants.{Ready, ready_in, is_ready_before, first_ready}
+use Rattle.bus_due.specs.bus_base.specs.declared.ProcId.{ProcId}
+use Rattle.bus_due.specs.bus_base.specs.declared.Event.{Event}
+use Rattle.bus_due.specs.bus_base.specs.declared.Event.TheVariants as events
+use Rattle.bus_due.specs.bus_trace.specs.declared.Row.{Row}
+use Rattle.bus_due.specs.bus_trace.specs.declared.selection.Call.{Call}
+use Rattle.bus_due.specs.bus_trace.specs.declared.selection.Calling.{Calling}
+use Rattle.bus_due.specs.bus_trace.specs.declared.connection.Connection.{Connection}
+use Rattle.bus_due.specs.bus_trace.specs.Changes.{falls}
+use Rattle.bus_due.specs.bus_trace.specs.Phases.{changes_phase}
+use Rattle.bus_due.specs.cdb_codec.specs.Cdb.{command_of}
+use Rattle.bus_due.specs.scenario.specs.declared.value.UnitDef.{UnitDef}
+use Rattle.bus_due.specs.scenario.specs.declared.value.CmdDef.{CmdDef}
+use Rattle.bus_due.specs.scenario.specs.Value.{ScenarioValue}
+use Rattle.bus_due.specs.disk_array.specs.Processes.{Process, process_of, process_if, process_by, command_at, same_id}
+use Rattle.bus_due.specs.disk_array.specs.Execution.{is_request_sense}
+use Rattle.bus_due.specs.disk_array.specs.Units.{RunningProcess, UnitState, Array, unit_state_at, is_held, starting_units}
+use Rattle.bus_due.specs.disk_array.specs.Steps as Steps
+use Rattle.bus_due.specs.disk_array.specs.ArrayHistory as Play
+use Rattle.bus_due.specs.disk_array.specs.Seats.{current_of}
+use Rattle.bus_due.specs.bus_story.specs.BusState.{RowReading}
+use Rattle.bus_due.specs.bus_story.specs.Items.{Item, process, abort, same_item, has_item, Sent}
+use Rattle.bus_due.specs.bus_story.specs.Story.{Story, story_after_event, story_after_events}
+use Rattle.bus_due.specs.bus_story.specs.TraceHistory.{aim_of, is_arbitration_entry, story_with_aim, story_without_answer, story_with_try, story_after_calling_by, story_after_calling, story_on_free_bus}
+use Rattle.bus_due.specs.bus_dialogue.specs.declared.exchange.Leaving.{Leaving}
+use Rattle.bus_due.specs.bus_dialogue.specs.Wants.{Ready, ready_in, is_ready_before, first_ready}
 use Rattle.bus_due.specs.LastingState.{progress_in}
 use Rattle.bus_due.specs.RunState.{RunState, or_start, array_of, process_served}
 use Rattle.bus_due.specs.RunSteps.{array_after_events, progress_by_leaving, progress_after}
@@ -40,7 +40,7 @@ use Rattle.trace_laws.proofs.OverItems.{Grows, grows_same, still_queued}
 use Rattle.trace_laws.proofs.OpenCommands.{item_is}
 use Rattle.trace_laws.proofs.SentItems.{more_has}
 use Rattle.trace_laws.specs.ItemFacts.{RunsP, UnitsP, AreChecked, IsQueued}
-use Rattle.bus_base.proofs.Tests.{wrong}
+use Rattle.bus_due.specs.bus_base.proofs.Tests.{wrong}
 
 -- ---- the process that a target has ready is in a queue
 

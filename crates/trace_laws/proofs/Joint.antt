@@ -2,46 +2,46 @@
 use Rattle.std.proofs.Common.{inl, inr, ℕ, ◌≡◌, ◌⊎◌, ◌<◌, Bool, true, false, not, ◌&&◌, ◌==◌, ◌%◌, ◌∙◌, List, ◌∷◌, length, Option, Some, None, refl, sym, ap, subst, arith}
 use Rattle.std.specs.Prelude.{if◌then◌else◌, is_some, nat_lt, slice_index_or}
 use Rattle.std.proofs.lemmas.Option.{same_Some}
-use Rattle.bus_trace.specs.LineSet.{LineSet, union, has_odd_parity}
-use Rattle.bus_trace.proofs.Sets.{same_set-eq}
-use Rattle.bus_trace.proofs.Buses.{bus_on}
-use Rattle.bus_trace.specs.declared.Row.{Row}
-use Rattle.bus_trace.specs.declared.changes.Change.{Change}
-use Rattle.bus_trace.specs.declared.connection.Connection.{Connection}
-use Rattle.bus_trace.specs.Changes.{change_of, rises, falls, implies}
-use Rattle.bus_trace.specs.Phases.{changes_phase, is_command, is_data, is_message_out, is_message_in}
-use Rattle.bus_trace.specs.Terms.{connection, connection_after, receiver_in, receiver_of}
-use Rattle.bus_trace.specs.Trace.{bus, drives}
-use Rattle.bus_rules.specs.Reset.{only_rst}
-use Rattle.bus_rules.specs.Rules.{broken_rule}
-use Rattle.bus_rules.specs.Seen.{seen_with}
-use Rattle.bus_lines.specs.Handshakes.{Handshakes, handshakes, no_handshakes}
-use Rattle.scenario.specs.Value.{ScenarioValue}
-use Rattle.disk_array.specs.SoundArray.{HasSeats}
-use Rattle.bus_story.specs.BusState.{row_reading}
-use Rattle.bus_reactions.specs.Target.{byte_bits}
-use Rattle.bus_dialogue.specs.declared.exchange.Leaving.{Leaving}
-use Rattle.bus_dialogue.specs.declared.exchange.Messages.{Messages}
-use Rattle.bus_dialogue.specs.declared.exchange.Phase.TheVariants as phases
-use Rattle.bus_dialogue.specs.Exchange.{bytes_of_messages, no_messages}
-use Rattle.bus_dialogue.specs.Hearing.{begun}
-use Rattle.bus_dialogue.specs.NextPhase.{phase_of, leaving_by}
-use Rattle.bus_dialogue.specs.PhaseBytes.{phase_byte, one_if}
-use Rattle.bus_dialogue.specs.Wants.{Ready}
+use Rattle.bus_due.specs.bus_trace.specs.LineSet.{LineSet, union, has_odd_parity}
+use Rattle.bus_due.specs.bus_trace.proofs.Sets.{same_set-eq}
+use Rattle.bus_due.specs.bus_trace.proofs.Buses.{bus_on}
+use Rattle.bus_due.specs.bus_trace.specs.declared.Row.{Row}
+use Rattle.bus_due.specs.bus_trace.specs.declared.changes.Change.{Change}
+use Rattle.bus_due.specs.bus_trace.specs.declared.connection.Connection.{Connection}
+use Rattle.bus_due.specs.bus_trace.specs.Changes.{change_of, rises, falls, implies}
+use Rattle.bus_due.specs.bus_trace.specs.Phases.{changes_phase, is_command, is_data, is_message_out, is_message_in}
+use Rattle.bus_due.specs.bus_trace.specs.Terms.{connection, connection_after, receiver_in, receiver_of}
+use Rattle.bus_due.specs.bus_trace.specs.Trace.{bus, drives}
+use Rattle.bus_due.specs.bus_rules.specs.Reset.{only_rst}
+use Rattle.bus_due.specs.bus_rules.specs.Rules.{broken_rule}
+use Rattle.bus_due.specs.bus_rules.specs.Seen.{seen_with}
+use Rattle.bus_due.specs.bus_lines.specs.Handshakes.{Handshakes, handshakes, no_handshakes}
+use Rattle.bus_due.specs.scenario.specs.Value.{ScenarioValue}
+use Rattle.bus_due.specs.disk_array.specs.SoundArray.{HasSeats}
+use Rattle.bus_due.specs.bus_story.specs.BusState.{row_reading}
+use Rattle.bus_due.specs.bus_reactions.specs.Target.{byte_bits}
+use Rattle.bus_due.specs.bus_dialogue.specs.declared.exchange.Leaving.{Leaving}
+use Rattle.bus_due.specs.bus_dialogue.specs.declared.exchange.Messages.{Messages}
+use Rattle.bus_due.specs.bus_dialogue.specs.declared.exchange.Phase.TheVariants as phases
+use Rattle.bus_due.specs.bus_dialogue.specs.Exchange.{bytes_of_messages, no_messages}
+use Rattle.bus_due.specs.bus_dialogue.specs.Hearing.{begun}
+use Rattle.bus_due.specs.bus_dialogue.specs.NextPhase.{phase_of, leaving_by}
+use Rattle.bus_due.specs.bus_dialogue.specs.PhaseBytes.{phase_byte, one_if}
+use Rattle.bus_due.specs.bus_dialogue.specs.Wants.{Ready}
 use Rattle.bus_due.specs.Least.{IsLeast}
 use Rattle.bus_due.specs.Next.{due}
 use Rattle.bus_due.specs.Plain.{IsPlain, AreOfDevices}
-use Rattle.disk_array.specs.Processes.{Process}
+use Rattle.bus_due.specs.disk_array.specs.Processes.{Process}
 use Rattle.bus_due.specs.RunState.{RunState, bus_of, item_of, process_item, process_here, process_served}
 use Rattle.bus_due.specs.RunSteps.{run_state, exchange_after, leaving_of, may_negotiate, messages_if}
-use Rattle.bus_dialogue.specs.Planning.{first_plan}
-use Rattle.bus_story.specs.TraceHistory.{aim_of}
+use Rattle.bus_due.specs.bus_dialogue.specs.Planning.{first_plan}
+use Rattle.bus_due.specs.bus_story.specs.TraceHistory.{aim_of}
 use Rattle.bus_due.specs.Sights.{serving_at, identify_byte}
 use Rattle.bus_due.specs.Wants.{ready_of}
 use Rattle.bus_due.proofs.Plains.{run_state_plain}
-use Rattle.scsi_device.specs.Lines.{AreUnits}
-use Rattle.scsi_device.specs.Heard.{is_command_phase}
-use Rattle.bus_story.specs.Links.{Link}
+use Rattle.target_units.specs.scsi_device.specs.Lines.{AreUnits}
+use Rattle.target_units.specs.scsi_device.specs.Heard.{is_command_phase}
+use Rattle.bus_due.specs.bus_story.specs.Links.{Link}
 use Rattle.bus_books.specs.Knowing.{Knows}
 use Rattle.bus_books.specs.Carrying.{SendsOwn}
 use Rattle.bus_books.specs.Hearing.{is_in_phase, is_out_phase, HasPhase, LeavesWhole}
@@ -51,14 +51,14 @@ use Rattle.bus_books.proofs.Aims.{aims_are}
 use Rattle.bus_books.proofs.MessageRules.{row_keeps, end_keeps}
 use Rattle.bus_books.proofs.Reactions.{answers_next, answers_own, leaves_by, messages_some}
 use Rattle.bus_books.proofs.Traces.{books_on}
-use Rattle.bus_laws.specs.Ends.{connected_bus, BeginsConnection, by_selection, by_reselection, ends_selected, ends_reselected}
-use Rattle.bus_laws.specs.Reactions.{unreset_due}
-use Rattle.bus_laws.specs.Rows.{row_of_lines}
+use Rattle.link_laws.specs.bus_laws.specs.Ends.{connected_bus, BeginsConnection, by_selection, by_reselection, ends_selected, ends_reselected}
+use Rattle.link_laws.specs.bus_laws.specs.Reactions.{unreset_due}
+use Rattle.link_laws.specs.bus_laws.specs.Rows.{row_of_lines}
 use Rattle.std.specs.Int.RustNames.{count_ones}
-use Rattle.bus_laws.specs.Stages.{HasShortLatencies, BusStage, CalmStanding, Standing, NextRow, is_connected}
-use Rattle.bus_laws.proofs.Apart.{change_plain}
-use Rattle.bus_laws.proofs.Rows.{drives_own}
-use Rattle.bus_laws.proofs.Together.{from_stage, by_reset, by_calm, reset_or_calm}
+use Rattle.link_laws.specs.bus_laws.specs.Stages.{HasShortLatencies, BusStage, CalmStanding, Standing, NextRow, is_connected}
+use Rattle.link_laws.specs.bus_laws.proofs.Apart.{change_plain}
+use Rattle.link_laws.specs.bus_laws.proofs.Rows.{drives_own}
+use Rattle.link_laws.specs.bus_laws.proofs.Together.{from_stage, by_reset, by_calm, reset_or_calm}
 use Rattle.link_laws.specs.Books.{has_odd_byte, KeepsBooksIn}
 use Rattle.link_laws.specs.LinkStages.{LinkStage, when_selected, when_settling, when_turning, when_offering, when_shaking, when_pulsing, AnyStage, apart, linked, NextAny}
 use Rattle.link_laws.proofs.RunLengths.{HasShortRuns}
@@ -79,7 +79,7 @@ use Rattle.trace_laws.proofs.Steps.{IsDriven, HasValues, driven_by, after_row}
 use Rattle.trace_laws.proofs.Tests.{falls_true}
 use Rattle.trace_laws.proofs.UnderRst.{carries_none, ends_apart, quiet_at_end}
 use Rattle.std.proofs.lemmas.Bool.{ltb-true}
-use Rattle.bus_base.proofs.Tests.{wrong, wrong', and_false, zero_of, implication}
+use Rattle.bus_due.specs.bus_base.proofs.Tests.{wrong, wrong', and_false, zero_of, implication}
 
 pub record Stood (s : ScenarioValue) (p : List Row) : Type 0 where
   pub standing : Standing s p

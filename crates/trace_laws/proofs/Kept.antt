@@ -1,33 +1,33 @@
 -- What a row of an end of a connection keeps of what is said, given and served.
 use Rattle.std.proofs.Common.{ℕ, ◌≡◌, ◌<◌, Bool, true, false, not, ◌&&◌, ◌||◌, ◌==◌, ◌∙◌, List, [], ◌∷◌, length, Option, Some, None, refl, sym, ap}
 use Rattle.std.specs.Prelude.{if◌then◌else◌, is_some, nat_lt, slice_index_or}
-use Rattle.bus_base.specs.declared.Event.TheVariants as events
-use Rattle.bus_trace.specs.LineSet.{LineSet}
-use Rattle.bus_trace.specs.declared.Row.{Row}
-use Rattle.bus_trace.specs.declared.changes.Change.{Change}
-use Rattle.bus_trace.specs.declared.connection.Connection.{Connection}
-use Rattle.bus_trace.specs.Changes.{rises, falls}
-use Rattle.bus_trace.specs.Phases.{changes_phase, is_message_in}
-use Rattle.bus_trace.specs.Terms.{connection_after, receiver_in, receiver_of}
-use Rattle.bus_trace.specs.Trace.{line_times, phase_time}
-use Rattle.bus_phases.specs.Dialogue.{dialogue, byte_crosses, phase_begins}
-use Rattle.bus_lines.specs.Handshakes.{Handshakes, handshakes, answered_if, asked_if}
-use Rattle.scenario.specs.Value.{ScenarioValue}
-use Rattle.bus_story.specs.BusState.{RowReading, row_reading}
-use Rattle.bus_story.specs.Links.{Link}
-use Rattle.bus_story.specs.Story.{Story}
-use Rattle.bus_story.specs.HistoryEvents.{link_events, connection_events, bus_free_events, phase_events, is_completion, is_complete, end_events, carried_if}
-use Rattle.bus_dialogue.specs.Exchange.{bytes_of_messages}
-use Rattle.bus_dialogue.specs.Hearing.{begun}
+use Rattle.bus_due.specs.bus_base.specs.declared.Event.TheVariants as events
+use Rattle.bus_due.specs.bus_trace.specs.LineSet.{LineSet}
+use Rattle.bus_due.specs.bus_trace.specs.declared.Row.{Row}
+use Rattle.bus_due.specs.bus_trace.specs.declared.changes.Change.{Change}
+use Rattle.bus_due.specs.bus_trace.specs.declared.connection.Connection.{Connection}
+use Rattle.bus_due.specs.bus_trace.specs.Changes.{rises, falls}
+use Rattle.bus_due.specs.bus_trace.specs.Phases.{changes_phase, is_message_in}
+use Rattle.bus_due.specs.bus_trace.specs.Terms.{connection_after, receiver_in, receiver_of}
+use Rattle.bus_due.specs.bus_trace.specs.Trace.{line_times, phase_time}
+use Rattle.bus_due.specs.bus_phases.specs.Dialogue.{dialogue, byte_crosses, phase_begins}
+use Rattle.bus_due.specs.bus_lines.specs.Handshakes.{Handshakes, handshakes, answered_if, asked_if}
+use Rattle.bus_due.specs.scenario.specs.Value.{ScenarioValue}
+use Rattle.bus_due.specs.bus_story.specs.BusState.{RowReading, row_reading}
+use Rattle.bus_due.specs.bus_story.specs.Links.{Link}
+use Rattle.bus_due.specs.bus_story.specs.Story.{Story}
+use Rattle.bus_due.specs.bus_story.specs.HistoryEvents.{link_events, connection_events, bus_free_events, phase_events, is_completion, is_complete, end_events, carried_if}
+use Rattle.bus_due.specs.bus_dialogue.specs.Exchange.{bytes_of_messages}
+use Rattle.bus_due.specs.bus_dialogue.specs.Hearing.{begun}
 use Rattle.bus_due.specs.Plain.{AreOfDevices}
 use Rattle.bus_due.specs.RunSteps.{run_state}
 use Rattle.bus_due.specs.Wishes.{IsStill}
 use Rattle.bus_due.proofs.Plains.{run_state_plain}
 use Rattle.bus_books.specs.Rows.{RowKind, still, IsRowIn}
 use Rattle.bus_books.proofs.InConnection.{in_connection}
-use Rattle.bus_laws.specs.Rows.{row_of_lines, change_to}
-use Rattle.bus_laws.specs.Ends.{EndLines, initiator_side, target_side, connected_bus, Linked}
-use Rattle.bus_laws.proofs.Apart.{change_plain}
+use Rattle.link_laws.specs.bus_laws.specs.Rows.{row_of_lines, change_to}
+use Rattle.link_laws.specs.bus_laws.specs.Ends.{EndLines, initiator_side, target_side, connected_bus, Linked}
+use Rattle.link_laws.specs.bus_laws.proofs.Apart.{change_plain}
 use Rattle.link_laws.specs.Phases.{ends}
 use Rattle.link_laws.proofs.DataRows.{DataRow}
 use Rattle.link_laws.proofs.Moves.{Moves, terms_of, initiator_moves, target_moves, initiator_in_phase, target_in_phase, phase_same}

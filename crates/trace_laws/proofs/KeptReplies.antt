@@ -1,20 +1,20 @@
 -- The plain disk array keeps the reply of a process with each event that shows no other of it.
 use Rattle.std.proofs.Common.{◌≡◌, Bool, false, ◌∙◌, List, [], ◌∷◌, Option, Some, None, refl, ap}
 use Rattle.std.specs.Prelude.{if◌then◌else◌, is_some, ⊤}
-use Rattle.bus_base.specs.declared.Event.{Event}
-use Rattle.bus_base.specs.declared.Event.TheVariants as events
-use Rattle.bus_base.specs.declared.ProcId.{ProcId}
-use Rattle.cdb_codec.specs.declared.sense.TheConstants.{ABORTED_COMMAND}
-use Rattle.scenario.specs.Value.{ScenarioValue}
-use Rattle.disk_array.specs.ArrayHistory.{array_step, reply_in}
-use Rattle.disk_array.specs.Execution.{Reply, queue_full, check_condition, sense_of}
-use Rattle.disk_array.specs.Processes.{process_of, same_id}
-use Rattle.disk_array.specs.Steps
-use Rattle.disk_array.specs.Steps.{step, running_process}
-use Rattle.disk_array.specs.Units.{Array, guest_at}
+use Rattle.bus_due.specs.bus_base.specs.declared.Event.{Event}
+use Rattle.bus_due.specs.bus_base.specs.declared.Event.TheVariants as events
+use Rattle.bus_due.specs.bus_base.specs.declared.ProcId.{ProcId}
+use Rattle.bus_due.specs.cdb_codec.specs.declared.sense.TheConstants.{ABORTED_COMMAND}
+use Rattle.bus_due.specs.scenario.specs.Value.{ScenarioValue}
+use Rattle.bus_due.specs.disk_array.specs.ArrayHistory.{array_step, reply_in}
+use Rattle.bus_due.specs.disk_array.specs.Execution.{Reply, queue_full, check_condition, sense_of}
+use Rattle.bus_due.specs.disk_array.specs.Processes.{process_of, same_id}
+use Rattle.bus_due.specs.disk_array.specs.Steps
+use Rattle.bus_due.specs.disk_array.specs.Steps.{step, running_process}
+use Rattle.bus_due.specs.disk_array.specs.Units.{Array, guest_at}
 use Rattle.bus_due.specs.RunSteps.{array_after_events}
 use Rattle.trace_laws.proofs.ListedReplies.{settles, accepted, refused, ran, replies_to}
-use Rattle.disk_array.proofs.ArrayReplies.{fail_lists, loss_lists, abort_lists, took, reset_lists, end_lists}
+use Rattle.bus_due.specs.disk_array.proofs.ArrayReplies.{fail_lists, loss_lists, abort_lists, took, reset_lists, end_lists}
 
 -- ---- an event
 

@@ -1,31 +1,31 @@
 -- The last message of the opening of an abort is an abort message (6.6.1 to 6.6.4).
 use Rattle.std.proofs.Common.{ℕ, zero, suc, ◌≡◌, ◌<◌, Bool, true, false, not, ◌∙◌, List, [], ◌∷◌, ◌++◌, Option, Some, None, refl, sym, ap, subst, arith}
-use Rattle.bus_base.specs.declared.AbortKind.{AbortKind}
-use Rattle.bus_base.specs.declared.AbortKind.TheVariants as aborts
-use Rattle.bus_trace.specs.declared.connection.Connection.{Connection}
-use Rattle.bus_phases.specs.declared.dialogue.Dialogue.{Dialogue}
-use Rattle.bus_phases.specs.Dialogue.{fresh_bytes}
-use Rattle.bus_phases.specs.Half.{is_nil}
-use Rattle.msg_grammar.specs.declared.message.MsgOut.{MsgOut}
-use Rattle.msg_grammar.specs.declared.message.MsgOut.TheVariants as to_target
-use Rattle.msg_grammar.specs.Messages.{form_out, got_out, out_bytes}
-use Rattle.msg_grammar.specs.Grammar.{is_abort}
-use Rattle.scenario.specs.declared.value.AbortDef.{AbortDef}
-use Rattle.scenario.specs.Value.{ScenarioValue}
-use Rattle.bus_story.specs.BusState.{whole_out}
-use Rattle.bus_story.specs.HistoryEvents.{abort_line_at}
-use Rattle.bus_story.specs.Items.{abort}
-use Rattle.bus_story.specs.Links.{Link, abortive, last_out}
-use Rattle.bus_dialogue.specs.declared.exchange.Cause.{Cause}
-use Rattle.bus_dialogue.specs.declared.exchange.Cause.TheVariants as causes
-use Rattle.bus_dialogue.specs.Exchange.{Exchange, next_word, attends_with}
-use Rattle.bus_dialogue.specs.Words.{abort_bytes, abort_opening}
-use Rattle.scsi_device.specs.Lines.{AreUnits}
+use Rattle.bus_due.specs.bus_base.specs.declared.AbortKind.{AbortKind}
+use Rattle.bus_due.specs.bus_base.specs.declared.AbortKind.TheVariants as aborts
+use Rattle.bus_due.specs.bus_trace.specs.declared.connection.Connection.{Connection}
+use Rattle.bus_due.specs.bus_phases.specs.declared.dialogue.Dialogue.{Dialogue}
+use Rattle.bus_due.specs.bus_phases.specs.Dialogue.{fresh_bytes}
+use Rattle.bus_due.specs.bus_phases.specs.Half.{is_nil}
+use Rattle.bus_due.specs.msg_grammar.specs.declared.message.MsgOut.{MsgOut}
+use Rattle.bus_due.specs.msg_grammar.specs.declared.message.MsgOut.TheVariants as to_target
+use Rattle.bus_due.specs.msg_grammar.specs.Messages.{form_out, got_out, out_bytes}
+use Rattle.bus_due.specs.msg_grammar.specs.Grammar.{is_abort}
+use Rattle.bus_due.specs.scenario.specs.declared.value.AbortDef.{AbortDef}
+use Rattle.bus_due.specs.scenario.specs.Value.{ScenarioValue}
+use Rattle.bus_due.specs.bus_story.specs.BusState.{whole_out}
+use Rattle.bus_due.specs.bus_story.specs.HistoryEvents.{abort_line_at}
+use Rattle.bus_due.specs.bus_story.specs.Items.{abort}
+use Rattle.bus_due.specs.bus_story.specs.Links.{Link, abortive, last_out}
+use Rattle.bus_due.specs.bus_dialogue.specs.declared.exchange.Cause.{Cause}
+use Rattle.bus_due.specs.bus_dialogue.specs.declared.exchange.Cause.TheVariants as causes
+use Rattle.bus_due.specs.bus_dialogue.specs.Exchange.{Exchange, next_word, attends_with}
+use Rattle.bus_due.specs.bus_dialogue.specs.Words.{abort_bytes, abort_opening}
+use Rattle.target_units.specs.scsi_device.specs.Lines.{AreUnits}
 use Rattle.bus_books.specs.Listening.{Understanding, nothing_understood, understood, understood_byte}
 use Rattle.bus_books.specs.Speaking.{AreWordsHeard, AreWordsFor, opens, refuses, answers, rejects_data, rejects_status, IsSpeaking}
 use Rattle.bus_books.proofs.Saying.{says_byte, says_more}
 use Rattle.trace_laws.proofs.OutMessages.{next_half}
-use Rattle.bus_base.proofs.Tests.{wrong, wrong'}
+use Rattle.bus_due.specs.bus_base.proofs.Tests.{wrong, wrong'}
 
 abbrev pub is_abort_message : Option MsgOut → Bool
 is_abort_message None = false

@@ -2,20 +2,20 @@
 use Rattle.std.proofs.Common.{inl, inr, ℕ, ◌≡◌, ◌<◌, true, false, ◌+◌, ◌∙◌, List, [], ◌∷◌, ◌++◌, length, Option, Some, None, refl, sym, ap, subst, arith}
 use Rattle.std.specs.Prelude.{slice_index_or}
 use Rattle.std.proofs.lemmas.Option.{same_Some}
-use Rattle.msg_grammar.specs.declared.message.MsgIn.{MsgIn}
-use Rattle.msg_grammar.specs.declared.message.MsgIn.TheVariants as to_initiator
-use Rattle.msg_grammar.specs.declared.message.MsgOut.{MsgOut}
-use Rattle.msg_grammar.specs.declared.message.MsgOut.TheVariants as to_target
-use Rattle.msg_grammar.specs.Messages.{FitsIn, form_in, got_in, in_bytes}
-use Rattle.msg_grammar.specs.Grammar.{is_abort}
-use Rattle.bus_story.specs.BusState.{whole_in}
-use Rattle.bus_story.specs.Links.{Link, LastMessage, plain, complete, disconnect, last_in, last_out}
-use Rattle.bus_dialogue.specs.declared.exchange.Cause.{Cause}
-use Rattle.bus_dialogue.specs.declared.exchange.Cause.TheVariants as causes
-use Rattle.bus_dialogue.specs.declared.exchange.Messages.{Messages}
-use Rattle.bus_dialogue.specs.declared.exchange.Next.{Next}
-use Rattle.bus_dialogue.specs.declared.exchange.Plan.{Plan}
-use Rattle.bus_dialogue.specs.Exchange.{one_message, two_messages, bytes_of_messages, message_bytes}
+use Rattle.bus_due.specs.msg_grammar.specs.declared.message.MsgIn.{MsgIn}
+use Rattle.bus_due.specs.msg_grammar.specs.declared.message.MsgIn.TheVariants as to_initiator
+use Rattle.bus_due.specs.msg_grammar.specs.declared.message.MsgOut.{MsgOut}
+use Rattle.bus_due.specs.msg_grammar.specs.declared.message.MsgOut.TheVariants as to_target
+use Rattle.bus_due.specs.msg_grammar.specs.Messages.{FitsIn, form_in, got_in, in_bytes}
+use Rattle.bus_due.specs.msg_grammar.specs.Grammar.{is_abort}
+use Rattle.bus_due.specs.bus_story.specs.BusState.{whole_in}
+use Rattle.bus_due.specs.bus_story.specs.Links.{Link, LastMessage, plain, complete, disconnect, last_in, last_out}
+use Rattle.bus_due.specs.bus_dialogue.specs.declared.exchange.Cause.{Cause}
+use Rattle.bus_due.specs.bus_dialogue.specs.declared.exchange.Cause.TheVariants as causes
+use Rattle.bus_due.specs.bus_dialogue.specs.declared.exchange.Messages.{Messages}
+use Rattle.bus_due.specs.bus_dialogue.specs.declared.exchange.Next.{Next}
+use Rattle.bus_due.specs.bus_dialogue.specs.declared.exchange.Plan.{Plan}
+use Rattle.bus_due.specs.bus_dialogue.specs.Exchange.{one_message, two_messages, bytes_of_messages, message_bytes}
 use Rattle.bus_books.specs.Giving.{AreGiven, OnMessage, OnMessages}
 use Rattle.bus_books.specs.Listening.{half_after}
 use Rattle.bus_books.proofs.Hearable.{heard_next}
@@ -23,7 +23,7 @@ use Rattle.trace_laws.specs.Tells.{IsClosing, is_short}
 use Rattle.trace_laws.specs.LastTalks.{SaysEnd, EndsWell, stays, closes, saves, LastGiven, still_stays, to_close, to_save, closed, CompletesBy, EndsWellIf}
 use Rattle.trace_laws.proofs.Tests.{less_apart}
 use Rattle.trace_laws.proofs.UndoneRows.{empty_front}
-use Rattle.bus_base.proofs.Tests.{wrong, wrong'}
+use Rattle.bus_due.specs.bus_base.proofs.Tests.{wrong, wrong'}
 use Rattle.trace_laws.specs.DataPointers.{IsPlainIn}
 
 -- ---- which message is whole

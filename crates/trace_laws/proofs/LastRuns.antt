@@ -2,14 +2,14 @@
 use Rattle.std.proofs.Common.{ℕ, ◌≡◌, ◌≤◌, ◌<◌, ◌+◌, ◌-◌, ◌*◌, ◌/◌, Bool, true, false, ◌&&◌, ◌==◌, ◌∙◌, Option, Some, None, refl, sym, ap, subst, arith}
 use Rattle.std.specs.Prelude.{if◌then◌else◌, min, nat_lt, nat_le}
 use Rattle.std.proofs.Math.Nat.{lt-div-mul-add}
-use Rattle.scenario.specs.declared.value.Policy.{Policy}
-use Rattle.scenario.specs.declared.value.Policy.TheVariants as policies
-use Rattle.bus_dialogue.specs.DataRuns.{run_at, run_in, run_length, runs_in, runs_in_all}
-use Rattle.bus_dialogue.specs.declared.exchange.Task.{Task}
+use Rattle.bus_due.specs.scenario.specs.declared.value.Policy.{Policy}
+use Rattle.bus_due.specs.scenario.specs.declared.value.Policy.TheVariants as policies
+use Rattle.bus_due.specs.bus_dialogue.specs.DataRuns.{run_at, run_in, run_length, runs_in, runs_in_all}
+use Rattle.bus_due.specs.bus_dialogue.specs.declared.exchange.Task.{Task}
 use Rattle.trace_laws.specs.WholeRuns.{MovesBlocks, RunsBlocks}
 use Rattle.trace_laws.proofs.Tests.{mul_assoc}
 use Rattle.std.proofs.lemmas.Bool.{ltb-true, leb-true, ltb-false}
-use Rattle.bus_base.proofs.Tests.{zero_of}
+use Rattle.bus_due.specs.bus_base.proofs.Tests.{zero_of}
 
 -- ---- numbers
 

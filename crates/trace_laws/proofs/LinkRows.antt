@@ -1,33 +1,33 @@
 -- The next row of a connection, resets apart, by what the two ends are due to do: which lines it changes, and why.
 use Rattle.std.proofs.Common.{ℕ, ◌≡◌, Bool, true, false, not, ◌&&◌, ◌||◌, ◌==◌, ◌∙◌, List, [], ◌∷◌, Some, None, refl, sym, ap, subst, arith}
 use Rattle.std.specs.Prelude.{◌+◌, if◌then◌else◌, max, nat_lt, length}
-use Rattle.bus_trace.specs.LineSet.{LineSet}
-use Rattle.bus_trace.specs.declared.Row.{Row}
-use Rattle.bus_trace.specs.declared.connection.Connection.{Connection}
-use Rattle.bus_trace.specs.Terms.{receiver}
-use Rattle.bus_trace.specs.Trace.{last_time, line_times, phase_time}
-use Rattle.bus_phases.specs.Dialogue.{dialogue}
-use Rattle.bus_rules.specs.Order.{is_of_device}
-use Rattle.bus_lines.specs.declared.handshakes.Request.{Request}
-use Rattle.bus_lines.specs.Handshakes.{Handshakes, handshakes, no_handshakes, first_of, is_struck}
-use Rattle.scenario.specs.Value.{ScenarioValue}
-use Rattle.bus_reactions.specs.Reactions.{due_at}
-use Rattle.bus_reactions.specs.Target.{byte_bits, bits_if}
-use Rattle.bus_reactions.specs.Initiator.{attends_by}
-use Rattle.bus_dialogue.specs.Ends.{is_pulsed_phase}
-use Rattle.bus_dialogue.specs.declared.exchange.Phase.TheVariants as phases
-use Rattle.bus_dialogue.specs.PhaseBytes.{follows_in}
-use Rattle.bus_dialogue.specs.Hearing.{begun}
-use Rattle.bus_trace.specs.Agreements.{times_of}
+use Rattle.bus_due.specs.bus_trace.specs.LineSet.{LineSet}
+use Rattle.bus_due.specs.bus_trace.specs.declared.Row.{Row}
+use Rattle.bus_due.specs.bus_trace.specs.declared.connection.Connection.{Connection}
+use Rattle.bus_due.specs.bus_trace.specs.Terms.{receiver}
+use Rattle.bus_due.specs.bus_trace.specs.Trace.{last_time, line_times, phase_time}
+use Rattle.bus_due.specs.bus_phases.specs.Dialogue.{dialogue}
+use Rattle.bus_due.specs.bus_rules.specs.Order.{is_of_device}
+use Rattle.bus_due.specs.bus_lines.specs.declared.handshakes.Request.{Request}
+use Rattle.bus_due.specs.bus_lines.specs.Handshakes.{Handshakes, handshakes, no_handshakes, first_of, is_struck}
+use Rattle.bus_due.specs.scenario.specs.Value.{ScenarioValue}
+use Rattle.bus_due.specs.bus_reactions.specs.Reactions.{due_at}
+use Rattle.bus_due.specs.bus_reactions.specs.Target.{byte_bits, bits_if}
+use Rattle.bus_due.specs.bus_reactions.specs.Initiator.{attends_by}
+use Rattle.bus_due.specs.bus_dialogue.specs.Ends.{is_pulsed_phase}
+use Rattle.bus_due.specs.bus_dialogue.specs.declared.exchange.Phase.TheVariants as phases
+use Rattle.bus_due.specs.bus_dialogue.specs.PhaseBytes.{follows_in}
+use Rattle.bus_due.specs.bus_dialogue.specs.Hearing.{begun}
+use Rattle.bus_due.specs.bus_trace.specs.Agreements.{times_of}
 use Rattle.bus_due.specs.Least.{IsLeast}
 use Rattle.bus_due.specs.Own.{own_of}
 use Rattle.bus_due.specs.Plain.{AreOfDevices}
 use Rattle.bus_due.specs.RunSteps.{run_state}
 use Rattle.bus_due.specs.Sights.{serving_at}
-use Rattle.bus_laws.specs.Reactions.{own_time, unreset_due}
-use Rattle.bus_laws.specs.Rows.{row_of_lines, row_of_fault}
-use Rattle.bus_laws.specs.Ends.{EndLines, initiator_side, target_side, connected_bus, Linked, BeginsSelected, ends_selected}
-use Rattle.bus_laws.proofs.Dues.{is_at}
+use Rattle.link_laws.specs.bus_laws.specs.Reactions.{own_time, unreset_due}
+use Rattle.link_laws.specs.bus_laws.specs.Rows.{row_of_lines, row_of_fault}
+use Rattle.link_laws.specs.bus_laws.specs.Ends.{EndLines, initiator_side, target_side, connected_bus, Linked, BeginsSelected, ends_selected}
+use Rattle.link_laws.specs.bus_laws.proofs.Dues.{is_at}
 use Rattle.link_laws.specs.Phases.{ends, Settling, Turning, Offering, Shaking}
 use Rattle.link_laws.specs.Pulses.{Pulsing, times_here, offset_here, run_count, byte_in_run, next_bits}
 use Rattle.link_laws.specs.LinkStages.{LinkStage, when_selected, when_settling, when_turning, when_offering, when_shaking, when_pulsing}
@@ -38,7 +38,7 @@ use Rattle.link_laws.proofs.Shakes.{target_row, initiator_row}
 use Rattle.link_laws.proofs.StageDues.{selected_target, selected_initiator, settling_target, settling_initiator, handing_initiator, turning_target, turned_initiator, owing_initiator, offering_target, offering_initiator, answered_target, answered_initiator_in, answered_initiator_out, asking_target, asking_initiator_in, asking_initiator_out, giving_initiator_out, ending_target, ending_initiator_in, ending_initiator_out, ack_end_time, between_target, between_initiator_in, between_initiator_out}
 use Rattle.std.proofs.lemmas.Bool.{eqb-true}
 use Rattle.std.proofs.lemmas.Option.{none-some}
-use Rattle.bus_base.proofs.Tests.{wrong, or_true, zero_of, implication_parts}
+use Rattle.bus_due.specs.bus_base.proofs.Tests.{wrong, or_true, zero_of, implication_parts}
 use Rattle.link_laws.proofs.Faults.{none_device}
 
 -- The phase is one of data by pulses.

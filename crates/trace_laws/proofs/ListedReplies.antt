@@ -1,20 +1,20 @@
 -- The plain disk array lists the reply of a process with the event that shows it, and keeps it.
 use Rattle.std.proofs.Common.{◌≡◌, Bool, true, false, List, [], ◌∷◌, ◌∙◌, refl, sym, ap, subst, Option, Some, None}
 use Rattle.std.specs.Prelude.{if◌then◌else◌, not, ◌&&◌, ◌||◌, is_some, is_none}
-use Rattle.bus_base.specs.declared.Event.{Event}
-use Rattle.bus_base.specs.declared.Event.TheVariants as events
-use Rattle.bus_base.specs.declared.ProcId.{ProcId}
-use Rattle.cdb_codec.specs.declared.sense.TheConstants.{ABORTED_COMMAND}
-use Rattle.scenario.specs.Value.{ScenarioValue}
-use Rattle.disk_array.specs.ArrayHistory.{reply_in}
-use Rattle.disk_array.specs.Execution.{Reply, Execution, execution, queue_full, check_condition, sense_of}
-use Rattle.disk_array.specs.Processes.{Process, process_of, same_id}
-use Rattle.disk_array.specs.Units.{RunningProcess, UnitState, Array, unit_state_at, guest_at, is_held, nexus_of, settled_array}
-use Rattle.disk_array.specs.Steps
-use Rattle.disk_array.specs.Steps.{step, settled_array_if, running_if, running_process}
+use Rattle.bus_due.specs.bus_base.specs.declared.Event.{Event}
+use Rattle.bus_due.specs.bus_base.specs.declared.Event.TheVariants as events
+use Rattle.bus_due.specs.bus_base.specs.declared.ProcId.{ProcId}
+use Rattle.bus_due.specs.cdb_codec.specs.declared.sense.TheConstants.{ABORTED_COMMAND}
+use Rattle.bus_due.specs.scenario.specs.Value.{ScenarioValue}
+use Rattle.bus_due.specs.disk_array.specs.ArrayHistory.{reply_in}
+use Rattle.bus_due.specs.disk_array.specs.Execution.{Reply, Execution, execution, queue_full, check_condition, sense_of}
+use Rattle.bus_due.specs.disk_array.specs.Processes.{Process, process_of, same_id}
+use Rattle.bus_due.specs.disk_array.specs.Units.{RunningProcess, UnitState, Array, unit_state_at, guest_at, is_held, nexus_of, settled_array}
+use Rattle.bus_due.specs.disk_array.specs.Steps
+use Rattle.bus_due.specs.disk_array.specs.Steps.{step, settled_array_if, running_if, running_process}
 use Rattle.bus_books.proofs.CarriedRows.{process_id}
 use Rattle.bus_books.proofs.Lookups.{id_is}
-use Rattle.disk_array.proofs.ArrayReplies.{fail_lists, executed_lists, refuse_lists, loss_lists, abort_lists, took, reset_lists, end_lists, accept_lists}
+use Rattle.bus_due.specs.disk_array.proofs.ArrayReplies.{fail_lists, executed_lists, refuse_lists, loss_lists, abort_lists, took, reset_lists, end_lists, accept_lists}
 use Rattle.target_units.proofs.LiveQueue.{guest_id}
 
 -- ---- what it lists after an event

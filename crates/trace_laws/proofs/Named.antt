@@ -4,30 +4,30 @@ use Rattle.std.proofs.Common.{ℕ, ◌≡◌, ◌<◌, ◌≤◌, Bool, true, fa
 use Rattle.std.specs.Prelude.{if◌then◌else◌, is_some, nat_lt}
 use Rattle.std.proofs.lemmas.Bool.Decides.{nat_tests}
 use Rattle.std.proofs.lemmas.Option.{same_Some}
-use Rattle.bus_trace.specs.LineSet.{LineSet}
-use Rattle.bus_trace.specs.declared.Row.{Row}
-use Rattle.bus_trace.specs.declared.changes.Change.{Change}
-use Rattle.bus_trace.specs.declared.connection.Connection.{Connection}
-use Rattle.bus_trace.specs.Phases.{changes_phase, is_data, is_message_in}
-use Rattle.bus_trace.specs.Terms.{connection, connection_after}
-use Rattle.bus_trace.specs.Trace.{bus}
-use Rattle.bus_lines.specs.Handshakes.{Handshakes}
-use Rattle.scenario.specs.Value.{ScenarioValue}
-use Rattle.scenario.specs.Writing.{Obeys}
-use Rattle.disk_array.specs.Processes.{Process}
-use Rattle.bus_story.specs.BusState.{row_reading}
-use Rattle.bus_story.specs.Items.{Sent}
-use Rattle.bus_story.specs.Links.{Link, link_of}
-use Rattle.bus_story.specs.TraceHistory.{aim_of}
-use Rattle.bus_dialogue.specs.declared.exchange.Phase.{Phase}
-use Rattle.bus_dialogue.specs.declared.exchange.Phase.TheVariants as phases
-use Rattle.bus_dialogue.specs.declared.exchange.Plan.{Plan}
-use Rattle.bus_dialogue.specs.Ends.{follows_by}
-use Rattle.bus_dialogue.specs.Exchange.{bytes_of_messages, no_messages}
-use Rattle.bus_dialogue.specs.NextPhase.{phase_of}
-use Rattle.bus_dialogue.specs.PhaseBytes.{follows_in}
-use Rattle.bus_dialogue.specs.Planning.{first_plan}
-use Rattle.bus_dialogue.specs.Words.{naming_messages}
+use Rattle.bus_due.specs.bus_trace.specs.LineSet.{LineSet}
+use Rattle.bus_due.specs.bus_trace.specs.declared.Row.{Row}
+use Rattle.bus_due.specs.bus_trace.specs.declared.changes.Change.{Change}
+use Rattle.bus_due.specs.bus_trace.specs.declared.connection.Connection.{Connection}
+use Rattle.bus_due.specs.bus_trace.specs.Phases.{changes_phase, is_data, is_message_in}
+use Rattle.bus_due.specs.bus_trace.specs.Terms.{connection, connection_after}
+use Rattle.bus_due.specs.bus_trace.specs.Trace.{bus}
+use Rattle.bus_due.specs.bus_lines.specs.Handshakes.{Handshakes}
+use Rattle.bus_due.specs.scenario.specs.Value.{ScenarioValue}
+use Rattle.bus_due.specs.scenario.specs.Writing.{Obeys}
+use Rattle.bus_due.specs.disk_array.specs.Processes.{Process}
+use Rattle.bus_due.specs.bus_story.specs.BusState.{row_reading}
+use Rattle.bus_due.specs.bus_story.specs.Items.{Sent}
+use Rattle.bus_due.specs.bus_story.specs.Links.{Link, link_of}
+use Rattle.bus_due.specs.bus_story.specs.TraceHistory.{aim_of}
+use Rattle.bus_due.specs.bus_dialogue.specs.declared.exchange.Phase.{Phase}
+use Rattle.bus_due.specs.bus_dialogue.specs.declared.exchange.Phase.TheVariants as phases
+use Rattle.bus_due.specs.bus_dialogue.specs.declared.exchange.Plan.{Plan}
+use Rattle.bus_due.specs.bus_dialogue.specs.Ends.{follows_by}
+use Rattle.bus_due.specs.bus_dialogue.specs.Exchange.{bytes_of_messages, no_messages}
+use Rattle.bus_due.specs.bus_dialogue.specs.NextPhase.{phase_of}
+use Rattle.bus_due.specs.bus_dialogue.specs.PhaseBytes.{follows_in}
+use Rattle.bus_due.specs.bus_dialogue.specs.Planning.{first_plan}
+use Rattle.bus_due.specs.bus_dialogue.specs.Words.{naming_messages}
 use Rattle.bus_due.specs.Next.{IsPrompt}
 use Rattle.bus_due.specs.Plain.{IsPlain, AreOfDevices}
 use Rattle.bus_due.specs.RunState.{RunState, bus_of, item_of, agreement_of}
@@ -39,9 +39,9 @@ use Rattle.bus_books.specs.Giving.{Gives}
 use Rattle.bus_books.specs.Hearing.{is_in_phase, is_out_phase}
 use Rattle.bus_books.specs.Reactions.{IsOver}
 use Rattle.bus_books.specs.Traces.{Begins}
-use Rattle.bus_laws.specs.Ends.{BeginsConnection, by_selection, by_reselection}
-use Rattle.bus_laws.proofs.Apart.{change_plain}
-use Rattle.bus_laws.proofs.Prompt.{least_is}
+use Rattle.link_laws.specs.bus_laws.specs.Ends.{BeginsConnection, by_selection, by_reselection}
+use Rattle.link_laws.specs.bus_laws.proofs.Apart.{change_plain}
+use Rattle.link_laws.specs.bus_laws.proofs.Prompt.{least_is}
 use Rattle.link_laws.specs.LinkStages.{AnyStage, apart, linked}
 use Rattle.trace_laws.specs.Named.{AreFound, IsFoundBy, Names, all, known, said, refused, Named, NamedFacts}
 use Rattle.trace_laws.specs.Offers.{OfferFacts}
@@ -56,8 +56,8 @@ use Rattle.trace_laws.proofs.NamedBytes.{names_some}
 use Rattle.trace_laws.proofs.NamedFirst.{found_by, first_sent, first_link}
 use Rattle.trace_laws.proofs.NamedTurns.{named_on}
 use Rattle.trace_laws.proofs.PhaseLines.{in_phase, out_phase}
-use Rattle.bus_base.proofs.Tests.{wrong, wrong', or_true}
-use Rattle.scsi_device.specs.Writes.{is_data_out}
+use Rattle.bus_due.specs.bus_base.proofs.Tests.{wrong, wrong', or_true}
+use Rattle.target_units.specs.scsi_device.specs.Writes.{is_data_out}
 
 -- ---- before any row
 

@@ -1,30 +1,30 @@
 -- The names of a process, byte by byte: with the last one the initiator finds a process (6.6.7, 6.6.17).
 use Rattle.std.proofs.Common.{ℕ, zero, suc, ◌≡◌, ◌<◌, ◌≤◌, ◌+◌, true, false, ◌==◌, ◌∙◌, List, [], ◌∷◌, ◌++◌, length, Option, Some, None, refl, sym, ap, subst, arith}
 use Rattle.std.specs.Prelude.{◌-◌, is_some, slice_index_or, take}
-use Rattle.bus_trace.specs.declared.connection.Connection.{Connection}
-use Rattle.bus_phases.specs.Half.{left_of}
-use Rattle.msg_grammar.specs.declared.message.MsgIn.{MsgIn}
-use Rattle.msg_grammar.specs.declared.message.MsgIn.TheVariants as to_initiator
-use Rattle.msg_grammar.specs.Messages.{form_in, FitsIn, got_in}
-use Rattle.scenario.specs.declared.value.Tag.{Tag}
-use Rattle.scenario.specs.declared.value.Tag.TheVariants as tags
-use Rattle.scenario.specs.Value.{ScenarioValue}
-use Rattle.disk_array.specs.Processes.{Process}
-use Rattle.disk_array.specs.Order.{tag_number}
-use Rattle.bus_story.specs.BusState.{whole_in}
-use Rattle.bus_story.specs.CarriedBytes.{CarriedBytes}
-use Rattle.bus_story.specs.Items.{Sent}
-use Rattle.bus_story.specs.Links.{Link, named_item}
-use Rattle.bus_dialogue.specs.declared.exchange.Messages.{Messages}
-use Rattle.bus_dialogue.specs.Exchange.{bytes_of_messages, message_bytes, from_byte, one_message}
-use Rattle.bus_dialogue.specs.Words.{naming_messages, tag_named, is_name, is_naming}
+use Rattle.bus_due.specs.bus_trace.specs.declared.connection.Connection.{Connection}
+use Rattle.bus_due.specs.bus_phases.specs.Half.{left_of}
+use Rattle.bus_due.specs.msg_grammar.specs.declared.message.MsgIn.{MsgIn}
+use Rattle.bus_due.specs.msg_grammar.specs.declared.message.MsgIn.TheVariants as to_initiator
+use Rattle.bus_due.specs.msg_grammar.specs.Messages.{form_in, FitsIn, got_in}
+use Rattle.bus_due.specs.scenario.specs.declared.value.Tag.{Tag}
+use Rattle.bus_due.specs.scenario.specs.declared.value.Tag.TheVariants as tags
+use Rattle.bus_due.specs.scenario.specs.Value.{ScenarioValue}
+use Rattle.bus_due.specs.disk_array.specs.Processes.{Process}
+use Rattle.bus_due.specs.disk_array.specs.Order.{tag_number}
+use Rattle.bus_due.specs.bus_story.specs.BusState.{whole_in}
+use Rattle.bus_due.specs.bus_story.specs.CarriedBytes.{CarriedBytes}
+use Rattle.bus_due.specs.bus_story.specs.Items.{Sent}
+use Rattle.bus_due.specs.bus_story.specs.Links.{Link, named_item}
+use Rattle.bus_due.specs.bus_dialogue.specs.declared.exchange.Messages.{Messages}
+use Rattle.bus_due.specs.bus_dialogue.specs.Exchange.{bytes_of_messages, message_bytes, from_byte, one_message}
+use Rattle.bus_due.specs.bus_dialogue.specs.Words.{naming_messages, tag_named, is_name, is_naming}
 use Rattle.bus_books.specs.Giving.{AreGiven, OnMessages}
 use Rattle.bus_books.specs.Listening.{half_after}
 use Rattle.trace_laws.specs.Named.{IsFoundBy, Names, all, tag_alone}
 use Rattle.trace_laws.proofs.Impossible.{none_some}
 use Rattle.trace_laws.proofs.NamedStory.{after_name}
 use Rattle.trace_laws.proofs.OneMessages.{take_front}
-use Rattle.bus_base.proofs.Tests.{wrong}
+use Rattle.bus_due.specs.bus_base.proofs.Tests.{wrong}
 
 -- ---- tagged or not
 

@@ -2,31 +2,31 @@
 use Rattle.std.proofs.Common.{ℕ, zero, suc, ◌≡◌, ◌+◌, Bool, true, false, not, ◌&&◌, ◌==◌, ◌∙◌, List, [], ◌∷◌, Option, Some, None, refl, sym, ap, arith, one-add}
 use Rattle.std.specs.Prelude.{if◌then◌else◌, is_some}
 use Rattle.std.proofs.lemmas.Option.{same_Some}
-use Rattle.bus_base.specs.declared.Event.TheVariants as events
-use Rattle.bus_trace.specs.declared.Row.{Row}
-use Rattle.bus_trace.specs.declared.connection.Connection.{Connection}
-use Rattle.bus_trace.specs.Changes.{rises}
-use Rattle.scenario.specs.declared.value.CmdDef.{CmdDef}
-use Rattle.scenario.specs.declared.value.Tag.{Tag}
-use Rattle.scenario.specs.Value.{ScenarioValue}
-use Rattle.disk_array.specs.Processes.{Process, command_at, process_by, process_if, process_of}
-use Rattle.disk_array.specs.Order.{same_number, tag_number}
-use Rattle.disk_array.proofs.SeatLookups.{number_same}
-use Rattle.bus_story.specs.BusState.{RowReading, row_reading}
-use Rattle.bus_story.specs.HistoryEvents.{link_events, row_events_by}
-use Rattle.bus_story.specs.Items.{process, Sent, has_item, command_item, is_open}
-use Rattle.bus_story.specs.Links.{link_of, is_of_nexus, is_open_sense, named_item, named_item_from}
-use Rattle.bus_story.specs.Items.{sense_item}
-use Rattle.bus_story.specs.Story.{story_after_events}
-use Rattle.bus_story.specs.TraceHistory.{aim_of, story_with_restored, story_with_sent, story_by_change, story_on_bus}
+use Rattle.bus_due.specs.bus_base.specs.declared.Event.TheVariants as events
+use Rattle.bus_due.specs.bus_trace.specs.declared.Row.{Row}
+use Rattle.bus_due.specs.bus_trace.specs.declared.connection.Connection.{Connection}
+use Rattle.bus_due.specs.bus_trace.specs.Changes.{rises}
+use Rattle.bus_due.specs.scenario.specs.declared.value.CmdDef.{CmdDef}
+use Rattle.bus_due.specs.scenario.specs.declared.value.Tag.{Tag}
+use Rattle.bus_due.specs.scenario.specs.Value.{ScenarioValue}
+use Rattle.bus_due.specs.disk_array.specs.Processes.{Process, command_at, process_by, process_if, process_of}
+use Rattle.bus_due.specs.disk_array.specs.Order.{same_number, tag_number}
+use Rattle.bus_due.specs.disk_array.proofs.SeatLookups.{number_same}
+use Rattle.bus_due.specs.bus_story.specs.BusState.{RowReading, row_reading}
+use Rattle.bus_due.specs.bus_story.specs.HistoryEvents.{link_events, row_events_by}
+use Rattle.bus_due.specs.bus_story.specs.Items.{process, Sent, has_item, command_item, is_open}
+use Rattle.bus_due.specs.bus_story.specs.Links.{link_of, is_of_nexus, is_open_sense, named_item, named_item_from}
+use Rattle.bus_due.specs.bus_story.specs.Items.{sense_item}
+use Rattle.bus_due.specs.bus_story.specs.Story.{story_after_events}
+use Rattle.bus_due.specs.bus_story.specs.TraceHistory.{aim_of, story_with_restored, story_with_sent, story_by_change, story_on_bus}
 use Rattle.bus_due.specs.RunState.{RunState}
 use Rattle.bus_due.specs.RunSteps.{run_state_after}
 use Rattle.bus_books.specs.Rows.{IsFirstRow}
 use Rattle.trace_laws.specs.Named.{IsFoundBy}
 use Rattle.trace_laws.proofs.Impossible.{none_some}
 use Rattle.trace_laws.proofs.Tests.{plus_one}
-use Rattle.bus_base.proofs.Tests.{wrong', eq_self}
-use Rattle.bus_story.proofs.StorySteps.{events_link}
+use Rattle.bus_due.specs.bus_base.proofs.Tests.{wrong', eq_self}
+use Rattle.bus_due.specs.bus_story.proofs.StorySteps.{events_link}
 
 -- ---- a command that is open is found by its nexus
 

@@ -1,28 +1,28 @@
 -- That the initiator knows the process after a reselection, or its names are said, goes on with each row (6.1.4, 6.6.7, 6.6.13).
 use Rattle.std.proofs.Common.{ℕ, ◌≡◌, Bool, true, false, not, ◌&&◌, ◌∙◌, Option, Some, None, refl, sym, subst}
 use Rattle.std.specs.Prelude.{if◌then◌else◌}
-use Rattle.bus_trace.specs.LineSet.{LineSet}
-use Rattle.bus_trace.specs.declared.connection.Connection.{Connection}
-use Rattle.bus_lines.specs.Handshakes.{Handshakes}
-use Rattle.msg_grammar.specs.declared.message.MsgIn.{MsgIn}
-use Rattle.msg_grammar.specs.declared.message.MsgIn.TheVariants as to_initiator
-use Rattle.msg_grammar.specs.declared.message.MsgOut.{MsgOut}
-use Rattle.msg_grammar.specs.declared.message.MsgOut.TheVariants as to_target
-use Rattle.scenario.specs.Value.{ScenarioValue}
-use Rattle.disk_array.specs.Processes.{Process}
-use Rattle.bus_story.specs.CarriedBytes.{CarriedBytes}
-use Rattle.bus_story.specs.HistoryEvents.{is_complete}
-use Rattle.bus_story.specs.Items.{Sent}
-use Rattle.bus_story.specs.Links.{Link, last_in, last_out}
-use Rattle.bus_dialogue.specs.Exchange.{Exchange, struck_plan}
-use Rattle.bus_dialogue.specs.Words.{is_name}
+use Rattle.bus_due.specs.bus_trace.specs.LineSet.{LineSet}
+use Rattle.bus_due.specs.bus_trace.specs.declared.connection.Connection.{Connection}
+use Rattle.bus_due.specs.bus_lines.specs.Handshakes.{Handshakes}
+use Rattle.bus_due.specs.msg_grammar.specs.declared.message.MsgIn.{MsgIn}
+use Rattle.bus_due.specs.msg_grammar.specs.declared.message.MsgIn.TheVariants as to_initiator
+use Rattle.bus_due.specs.msg_grammar.specs.declared.message.MsgOut.{MsgOut}
+use Rattle.bus_due.specs.msg_grammar.specs.declared.message.MsgOut.TheVariants as to_target
+use Rattle.bus_due.specs.scenario.specs.Value.{ScenarioValue}
+use Rattle.bus_due.specs.disk_array.specs.Processes.{Process}
+use Rattle.bus_due.specs.bus_story.specs.CarriedBytes.{CarriedBytes}
+use Rattle.bus_due.specs.bus_story.specs.HistoryEvents.{is_complete}
+use Rattle.bus_due.specs.bus_story.specs.Items.{Sent}
+use Rattle.bus_due.specs.bus_story.specs.Links.{Link, last_in, last_out}
+use Rattle.bus_due.specs.bus_dialogue.specs.Exchange.{Exchange, struck_plan}
+use Rattle.bus_due.specs.bus_dialogue.specs.Words.{is_name}
 use Rattle.bus_books.specs.Giving.{OnMessage}
 use Rattle.bus_books.specs.Knowing.{IsNoName}
 use Rattle.bus_books.proofs.Gives.{in_io, in_same}
 use Rattle.bus_books.proofs.InConnection.{SamePhase}
 use Rattle.trace_laws.specs.Named.{IsFoundBy, Names, IsNaming, NamedBy, known, said, refused}
 use Rattle.trace_laws.proofs.NamedStory.{after_name, after_byte}
-use Rattle.bus_base.proofs.Tests.{wrong}
+use Rattle.bus_due.specs.bus_base.proofs.Tests.{wrong}
 use Rattle.bus_books.proofs.Speaks.{out_same, struck}
 
 -- ---- what is kept is known otherwise

@@ -1,38 +1,38 @@
 -- As another phase begins after a reselection: that the initiator knows the process, or its names are said; so in each row (6.6.7, 6.6.13).
 use Rattle.std.proofs.Common.{ℕ, ◌≡◌, ◌<◌, ◌≤◌, Bool, true, false, not, ◌&&◌, ◌∙◌, List, length, length-append, Option, Some, None, refl, sym, ap, subst, arith}
 use Rattle.std.specs.Prelude.{◌-◌, if◌then◌else◌, is_some}
-use Rattle.bus_trace.specs.LineSet.{LineSet}
-use Rattle.bus_trace.specs.Changes.{rises}
-use Rattle.bus_trace.specs.declared.Row.{Row}
-use Rattle.bus_trace.specs.declared.changes.Change.{Change}
-use Rattle.bus_trace.specs.declared.connection.Connection.{Connection}
-use Rattle.bus_trace.specs.Phases.{changes_phase, is_message_out, is_message_in}
-use Rattle.bus_trace.specs.Terms.{receiver_in}
-use Rattle.bus_lines.specs.Handshakes.{Handshakes, no_handshakes, handshakes_after, handshakes_on, answered_if, asked_if, strikes_if}
-use Rattle.scenario.specs.declared.value.HostDef.{HostDef}
-use Rattle.scenario.specs.Value.{ScenarioValue}
-use Rattle.disk_array.specs.Processes.{Process}
-use Rattle.bus_story.specs.BusState.{row_reading}
-use Rattle.bus_story.specs.HistoryEvents.{is_complete}
-use Rattle.bus_story.specs.Items.{Sent}
-use Rattle.bus_story.specs.Links.{Link}
-use Rattle.bus_dialogue.specs.declared.exchange.Cause.{Cause}
-use Rattle.bus_dialogue.specs.declared.exchange.Cause.TheVariants as causes
-use Rattle.bus_dialogue.specs.declared.exchange.Hearing.{Hearing}
-use Rattle.bus_dialogue.specs.declared.exchange.Leaving.{Leaving}
-use Rattle.bus_dialogue.specs.declared.exchange.Messages.{Messages}
-use Rattle.bus_dialogue.specs.declared.exchange.Next.{Next}
-use Rattle.bus_dialogue.specs.declared.exchange.Next.TheVariants as nexts
-use Rattle.bus_dialogue.specs.declared.exchange.Phase.{Phase}
-use Rattle.bus_dialogue.specs.declared.exchange.Phase.TheVariants as phases
-use Rattle.bus_dialogue.specs.declared.exchange.Said.{Said}
-use Rattle.bus_dialogue.specs.declared.exchange.Task.{Task}
-use Rattle.bus_dialogue.specs.Arrivals.{policy_of}
-use Rattle.bus_dialogue.specs.Exchange.{Exchange, bytes_of_messages, from_byte, plan_anew, speech_of}
-use Rattle.bus_dialogue.specs.NextPhase.{Serving, phase_of, phase_entry, phase_leaving, message_repetition, message_out_leaving, after_refusal, after_messages, next_data_phase, with_task, recovery, bus_free}
-use Rattle.bus_dialogue.specs.Planning.{plan_in_message_out}
-use Rattle.bus_dialogue.specs.Speaking.{words_after}
-use Rattle.bus_dialogue.specs.Words.{is_naming}
+use Rattle.bus_due.specs.bus_trace.specs.LineSet.{LineSet}
+use Rattle.bus_due.specs.bus_trace.specs.Changes.{rises}
+use Rattle.bus_due.specs.bus_trace.specs.declared.Row.{Row}
+use Rattle.bus_due.specs.bus_trace.specs.declared.changes.Change.{Change}
+use Rattle.bus_due.specs.bus_trace.specs.declared.connection.Connection.{Connection}
+use Rattle.bus_due.specs.bus_trace.specs.Phases.{changes_phase, is_message_out, is_message_in}
+use Rattle.bus_due.specs.bus_trace.specs.Terms.{receiver_in}
+use Rattle.bus_due.specs.bus_lines.specs.Handshakes.{Handshakes, no_handshakes, handshakes_after, handshakes_on, answered_if, asked_if, strikes_if}
+use Rattle.bus_due.specs.scenario.specs.declared.value.HostDef.{HostDef}
+use Rattle.bus_due.specs.scenario.specs.Value.{ScenarioValue}
+use Rattle.bus_due.specs.disk_array.specs.Processes.{Process}
+use Rattle.bus_due.specs.bus_story.specs.BusState.{row_reading}
+use Rattle.bus_due.specs.bus_story.specs.HistoryEvents.{is_complete}
+use Rattle.bus_due.specs.bus_story.specs.Items.{Sent}
+use Rattle.bus_due.specs.bus_story.specs.Links.{Link}
+use Rattle.bus_due.specs.bus_dialogue.specs.declared.exchange.Cause.{Cause}
+use Rattle.bus_due.specs.bus_dialogue.specs.declared.exchange.Cause.TheVariants as causes
+use Rattle.bus_due.specs.bus_dialogue.specs.declared.exchange.Hearing.{Hearing}
+use Rattle.bus_due.specs.bus_dialogue.specs.declared.exchange.Leaving.{Leaving}
+use Rattle.bus_due.specs.bus_dialogue.specs.declared.exchange.Messages.{Messages}
+use Rattle.bus_due.specs.bus_dialogue.specs.declared.exchange.Next.{Next}
+use Rattle.bus_due.specs.bus_dialogue.specs.declared.exchange.Next.TheVariants as nexts
+use Rattle.bus_due.specs.bus_dialogue.specs.declared.exchange.Phase.{Phase}
+use Rattle.bus_due.specs.bus_dialogue.specs.declared.exchange.Phase.TheVariants as phases
+use Rattle.bus_due.specs.bus_dialogue.specs.declared.exchange.Said.{Said}
+use Rattle.bus_due.specs.bus_dialogue.specs.declared.exchange.Task.{Task}
+use Rattle.bus_due.specs.bus_dialogue.specs.Arrivals.{policy_of}
+use Rattle.bus_due.specs.bus_dialogue.specs.Exchange.{Exchange, bytes_of_messages, from_byte, plan_anew, speech_of}
+use Rattle.bus_due.specs.bus_dialogue.specs.NextPhase.{Serving, phase_of, phase_entry, phase_leaving, message_repetition, message_out_leaving, after_refusal, after_messages, next_data_phase, with_task, recovery, bus_free}
+use Rattle.bus_due.specs.bus_dialogue.specs.Planning.{plan_in_message_out}
+use Rattle.bus_due.specs.bus_dialogue.specs.Speaking.{words_after}
+use Rattle.bus_due.specs.bus_dialogue.specs.Words.{is_naming}
 use Rattle.bus_due.specs.Defs.{host_of}
 use Rattle.bus_due.specs.RunState.{RunState, bus_of}
 use Rattle.bus_due.specs.RunSteps.{run_state_after}
@@ -45,7 +45,7 @@ use Rattle.bus_books.specs.Rows.{RowKind, still, strikes, crosses, turns, IsRowI
 use Rattle.bus_books.specs.Speaking.{Speaks}
 use Rattle.bus_books.specs.Traces.{GoesOn}
 use Rattle.bus_books.proofs.Gives.{requests_stay}
-use Rattle.bus_lines.proofs.Early.{struck_same}
+use Rattle.bus_due.specs.bus_lines.proofs.Early.{struck_same}
 use Rattle.bus_books.proofs.InConnection.{InConnection, in_connection, same_phase_is}
 use Rattle.bus_books.proofs.Leavings.{left_messages}
 use Rattle.trace_laws.specs.Named.{Names, IsNaming, NamedBy, known, said, refused, Named}
@@ -60,7 +60,7 @@ use Rattle.trace_laws.proofs.OfferSteps.{left_is}
 use Rattle.trace_laws.proofs.OfferTurns.{out_by_phase, entering, goes_out}
 use Rattle.trace_laws.proofs.PhaseLines.{in_phase, out_phase}
 use Rattle.trace_laws.proofs.Plans.{is_in_message}
-use Rattle.bus_base.proofs.Tests.{wrong, wrong'}
+use Rattle.bus_due.specs.bus_base.proofs.Tests.{wrong, wrong'}
 use Rattle.bus_books.proofs.Knows.{from_nameless, others_nameless}
 use Rattle.bus_books.proofs.Speaks.{asking}
 

@@ -2,14 +2,14 @@
 use Rattle.std.proofs.Common.{ℕ, suc, ◌≡◌, ◌+◌, Bool, true, false, not, ◌&&◌, ◌||◌, ◌∙◌, List, [], ◌∷◌, Option, Some, None, refl, sym, ap, subst, arith}
 use Rattle.std.specs.Prelude.{if◌then◌else◌, ◌==◌, nat_le}
 use Rattle.std.specs.List.{list_any}
-use Rattle.scenario.specs.declared.value.CmdDef.{CmdDef}
-use Rattle.scenario.specs.declared.value.AbortDef.{AbortDef}
-use Rattle.scenario.specs.Value.{ScenarioValue}
-use Rattle.disk_array.specs.Processes.{command_at}
-use Rattle.bus_story.specs.Items.{Item, abort, command_item, sense_item, Sent, is_done, abort_from, is_of_host, sense_from, may_send, open_from, command_from, or_else, item_at}
+use Rattle.bus_due.specs.scenario.specs.declared.value.CmdDef.{CmdDef}
+use Rattle.bus_due.specs.scenario.specs.declared.value.AbortDef.{AbortDef}
+use Rattle.bus_due.specs.scenario.specs.Value.{ScenarioValue}
+use Rattle.bus_due.specs.disk_array.specs.Processes.{command_at}
+use Rattle.bus_due.specs.bus_story.specs.Items.{Item, abort, command_item, sense_item, Sent, is_done, abort_from, is_of_host, sense_from, may_send, open_from, command_from, or_else, item_at}
 use Rattle.trace_laws.specs.ItemFacts.{IsNext, is_abort, is_sense, is_command}
 use Rattle.std.proofs.lemmas.Bool.{not-true, eqb-true}
-use Rattle.bus_base.proofs.Tests.{and_first, and_second, eq_self}
+use Rattle.bus_due.specs.bus_base.proofs.Tests.{and_first, and_second, eq_self}
 
 abbrev pub IsNextIf : ScenarioValue → Sent → ℕ → Option Item → Type 0
 IsNextIf s b dev None = Unit {0}

@@ -2,26 +2,26 @@
 use Rattle.std.proofs.Common.{inl, inr, ℕ, ◌≡◌, ◌⊎◌, ◌<◌, ◌+◌, Bool, true, false, not, ◌∙◌, List, [], ◌∷◌, ◌++◌, length, append-nil, Option, Some, None, refl, sym, ap, subst, arith, true≢false}
 use Rattle.std.specs.Prelude.{if◌then◌else◌, is_some, nat_lt, slice_index_or, take}
 use Rattle.std.proofs.lemmas.Bool.Decides.{nat_tests}
-use Rattle.bus_trace.specs.declared.agreements.Agreement.{Agreement}
-use Rattle.bus_phases.specs.declared.dialogue.Dialogue.{Dialogue}
-use Rattle.bus_phases.specs.declared.spoken.Heard.{Heard}
-use Rattle.bus_phases.specs.declared.spoken.Spoken.{Spoken}
-use Rattle.bus_phases.specs.declared.words.End.{End}
-use Rattle.bus_phases.specs.declared.words.End.TheVariants as ends
-use Rattle.bus_phases.specs.Dialogue.{fresh_bytes, fresh_heard, heard_if_begun, heard_in, heard_out, heard_with_in, heard_with_out, void_or_now, word_in, word_out, is_of_other, without_offset, spoken_with_reject, byte_in, byte_out}
-use Rattle.msg_grammar.specs.declared.message.Got.{Got}
-use Rattle.msg_grammar.specs.declared.message.Got.TheVariants.{Whole, More, Unknown}
-use Rattle.msg_grammar.specs.declared.message.MsgIn.{MsgIn}
-use Rattle.msg_grammar.specs.declared.message.MsgIn.TheVariants as to_initiator
-use Rattle.msg_grammar.specs.declared.message.MsgOut.{MsgOut}
-use Rattle.msg_grammar.specs.declared.message.MsgOut.TheVariants as to_target
-use Rattle.msg_grammar.specs.Messages.{FitsIn, got_in, got_out, in_bytes}
-use Rattle.bus_story.specs.BusState.{whole_out, whole_in}
-use Rattle.bus_dialogue.specs.declared.exchange.Messages.{Messages}
-use Rattle.bus_dialogue.specs.declared.exchange.Next.{Next}
-use Rattle.bus_dialogue.specs.declared.exchange.Plan.{Plan}
-use Rattle.bus_dialogue.specs.declared.exchange.Said.{Said}
-use Rattle.bus_dialogue.specs.Exchange.{Exchange, bytes_of_messages, plan_anew_if, said_with_if, attends_with, next_word}
+use Rattle.bus_due.specs.bus_trace.specs.declared.agreements.Agreement.{Agreement}
+use Rattle.bus_due.specs.bus_phases.specs.declared.dialogue.Dialogue.{Dialogue}
+use Rattle.bus_due.specs.bus_phases.specs.declared.spoken.Heard.{Heard}
+use Rattle.bus_due.specs.bus_phases.specs.declared.spoken.Spoken.{Spoken}
+use Rattle.bus_due.specs.bus_phases.specs.declared.words.End.{End}
+use Rattle.bus_due.specs.bus_phases.specs.declared.words.End.TheVariants as ends
+use Rattle.bus_due.specs.bus_phases.specs.Dialogue.{fresh_bytes, fresh_heard, heard_if_begun, heard_in, heard_out, heard_with_in, heard_with_out, void_or_now, word_in, word_out, is_of_other, without_offset, spoken_with_reject, byte_in, byte_out}
+use Rattle.bus_due.specs.msg_grammar.specs.declared.message.Got.{Got}
+use Rattle.bus_due.specs.msg_grammar.specs.declared.message.Got.TheVariants.{Whole, More, Unknown}
+use Rattle.bus_due.specs.msg_grammar.specs.declared.message.MsgIn.{MsgIn}
+use Rattle.bus_due.specs.msg_grammar.specs.declared.message.MsgIn.TheVariants as to_initiator
+use Rattle.bus_due.specs.msg_grammar.specs.declared.message.MsgOut.{MsgOut}
+use Rattle.bus_due.specs.msg_grammar.specs.declared.message.MsgOut.TheVariants as to_target
+use Rattle.bus_due.specs.msg_grammar.specs.Messages.{FitsIn, got_in, got_out, in_bytes}
+use Rattle.bus_due.specs.bus_story.specs.BusState.{whole_out, whole_in}
+use Rattle.bus_due.specs.bus_dialogue.specs.declared.exchange.Messages.{Messages}
+use Rattle.bus_due.specs.bus_dialogue.specs.declared.exchange.Next.{Next}
+use Rattle.bus_due.specs.bus_dialogue.specs.declared.exchange.Plan.{Plan}
+use Rattle.bus_due.specs.bus_dialogue.specs.declared.exchange.Said.{Said}
+use Rattle.bus_due.specs.bus_dialogue.specs.Exchange.{Exchange, bytes_of_messages, plan_anew_if, said_with_if, attends_with, next_word}
 use Rattle.bus_books.specs.Giving.{AreGiven, OnMessage, OnMessages}
 use Rattle.bus_books.specs.Listening.{half_after}
 use Rattle.bus_books.specs.Speaking.{AreWordsHeard}

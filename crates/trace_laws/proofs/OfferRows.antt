@@ -1,25 +1,25 @@
 -- Whose synchronous data transfer request is open, in a row that goes on with a phase.
 use Rattle.std.proofs.Common.{inl, inr, ℕ, ◌≡◌, ◌⊎◌, ◌<◌, ◌+◌, Bool, true, false, not, ◌&&◌, ◌||◌, ◌==◌, ◌∙◌, Option, Some, None, refl, sym, ap, subst, true≢false}
 use Rattle.std.specs.Prelude.{if◌then◌else◌, is_some}
-use Rattle.bus_trace.specs.LineSet.{LineSet}
-use Rattle.bus_trace.specs.declared.changes.Change.{Change}
-use Rattle.bus_trace.specs.declared.connection.Connection.{Connection}
-use Rattle.bus_trace.specs.Changes.{rises}
-use Rattle.bus_trace.specs.Phases.{changes_phase, is_command, is_message_out, is_message_in}
-use Rattle.bus_trace.specs.Terms.{receiver_in}
-use Rattle.bus_phases.specs.declared.dialogue.Dialogue.{Dialogue}
-use Rattle.bus_phases.specs.declared.words.End.{End}
-use Rattle.bus_phases.specs.declared.words.End.TheVariants as ends
-use Rattle.bus_phases.specs.Dialogue.{is_of_other, heard_with_command, byte_else}
-use Rattle.bus_lines.specs.Handshakes.{Handshakes, no_handshakes, handshakes_on, asked_if, answered_if, strikes_if}
-use Rattle.bus_dialogue.specs.declared.exchange.Messages.{Messages}
-use Rattle.bus_dialogue.specs.Exchange.{Exchange, struck_plan}
+use Rattle.bus_due.specs.bus_trace.specs.LineSet.{LineSet}
+use Rattle.bus_due.specs.bus_trace.specs.declared.changes.Change.{Change}
+use Rattle.bus_due.specs.bus_trace.specs.declared.connection.Connection.{Connection}
+use Rattle.bus_due.specs.bus_trace.specs.Changes.{rises}
+use Rattle.bus_due.specs.bus_trace.specs.Phases.{changes_phase, is_command, is_message_out, is_message_in}
+use Rattle.bus_due.specs.bus_trace.specs.Terms.{receiver_in}
+use Rattle.bus_due.specs.bus_phases.specs.declared.dialogue.Dialogue.{Dialogue}
+use Rattle.bus_due.specs.bus_phases.specs.declared.words.End.{End}
+use Rattle.bus_due.specs.bus_phases.specs.declared.words.End.TheVariants as ends
+use Rattle.bus_due.specs.bus_phases.specs.Dialogue.{is_of_other, heard_with_command, byte_else}
+use Rattle.bus_due.specs.bus_lines.specs.Handshakes.{Handshakes, no_handshakes, handshakes_on, asked_if, answered_if, strikes_if}
+use Rattle.bus_due.specs.bus_dialogue.specs.declared.exchange.Messages.{Messages}
+use Rattle.bus_due.specs.bus_dialogue.specs.Exchange.{Exchange, struck_plan}
 use Rattle.bus_books.proofs.Gives.{in_io, in_same, counted, not_both, requests_rise}
 use Rattle.bus_books.proofs.InConnection.{SamePhase}
 use Rattle.trace_laws.specs.Offers.{offer_now, IsHeardIn, IsHeardOut, opens, repeats, answers_it, detects, OffersBy}
 use Rattle.trace_laws.specs.Attention.{MessageRow, keeps, asks, answers}
 use Rattle.trace_laws.proofs.PhaseLines.{message_line, out_line}
-use Rattle.bus_base.proofs.Tests.{wrong, wrong', rises_none}
+use Rattle.bus_due.specs.bus_base.proofs.Tests.{wrong, wrong', rises_none}
 use Rattle.bus_books.proofs.Speaks.{out_same, struck}
 use Rattle.trace_laws.specs.ItemTalks.{awaits}
 

@@ -1,31 +1,31 @@
 -- Whose synchronous data transfer request is open goes on with each row of a connection (6.6.21).
 use Rattle.std.proofs.Common.{inl, inr, ℕ, ◌≡◌, ◌⊎◌, ◌+◌, Bool, true, false, not, ◌&&◌, ◌%◌, ◌∙◌, [], ◌∷◌, ◌++◌, Option, Some, None, refl, sym, ap, subst}
 use Rattle.std.specs.Prelude.{◌-◌, if◌then◌else◌, is_some}
-use Rattle.bus_trace.specs.LineSet.{LineSet, same}
-use Rattle.bus_trace.specs.declared.Row.{Row}
-use Rattle.bus_trace.specs.declared.changes.Change.{Change}
-use Rattle.bus_trace.specs.declared.connection.Connection.{Connection}
-use Rattle.bus_trace.specs.Phases.{changes_phase, is_message_out, is_message_in}
-use Rattle.bus_trace.specs.Terms.{receiver_in, receiver_of}
-use Rattle.bus_phases.specs.declared.dialogue.Dialogue.{Dialogue}
-use Rattle.bus_phases.specs.declared.words.End.TheVariants as ends
-use Rattle.bus_phases.specs.Dialogue.{fresh_bytes, byte_in, byte_out, byte_else, byte_crosses, phase_begins}
-use Rattle.msg_grammar.specs.Messages.{got_out}
-use Rattle.bus_lines.specs.Handshakes.{Handshakes, no_handshakes, handshakes_after, handshakes_on, answered_if, asked_if, strikes_if}
-use Rattle.bus_trace.specs.Changes.{rises}
-use Rattle.scenario.specs.declared.value.HostDef.{HostDef}
-use Rattle.scenario.specs.Value.{ScenarioValue}
-use Rattle.bus_story.specs.BusState.{row_reading, whole_out, message_in, message_out}
-use Rattle.bus_dialogue.specs.declared.exchange.Cause.TheVariants as causes
-use Rattle.bus_dialogue.specs.declared.exchange.Hearing.{Hearing}
-use Rattle.bus_dialogue.specs.declared.exchange.Leaving.{Leaving}
-use Rattle.bus_dialogue.specs.declared.exchange.Phase.{Phase}
-use Rattle.bus_dialogue.specs.declared.exchange.Phase.TheVariants as phases
-use Rattle.bus_dialogue.specs.Exchange.{Exchange, from_byte, plan_after_message, plan_anew, request_after, speech_after_byte, speech_after_request, speech_of, attends_with}
-use Rattle.bus_dialogue.specs.NextPhase.{Serving, phase_of, phase_leaving, leaving_by}
-use Rattle.bus_dialogue.specs.Planning.{plan_in_message_out}
-use Rattle.bus_dialogue.specs.Speaking.{words_after}
-use Rattle.bus_dialogue.specs.Words.{parity_error, detected_error, answer_bytes}
+use Rattle.bus_due.specs.bus_trace.specs.LineSet.{LineSet, same}
+use Rattle.bus_due.specs.bus_trace.specs.declared.Row.{Row}
+use Rattle.bus_due.specs.bus_trace.specs.declared.changes.Change.{Change}
+use Rattle.bus_due.specs.bus_trace.specs.declared.connection.Connection.{Connection}
+use Rattle.bus_due.specs.bus_trace.specs.Phases.{changes_phase, is_message_out, is_message_in}
+use Rattle.bus_due.specs.bus_trace.specs.Terms.{receiver_in, receiver_of}
+use Rattle.bus_due.specs.bus_phases.specs.declared.dialogue.Dialogue.{Dialogue}
+use Rattle.bus_due.specs.bus_phases.specs.declared.words.End.TheVariants as ends
+use Rattle.bus_due.specs.bus_phases.specs.Dialogue.{fresh_bytes, byte_in, byte_out, byte_else, byte_crosses, phase_begins}
+use Rattle.bus_due.specs.msg_grammar.specs.Messages.{got_out}
+use Rattle.bus_due.specs.bus_lines.specs.Handshakes.{Handshakes, no_handshakes, handshakes_after, handshakes_on, answered_if, asked_if, strikes_if}
+use Rattle.bus_due.specs.bus_trace.specs.Changes.{rises}
+use Rattle.bus_due.specs.scenario.specs.declared.value.HostDef.{HostDef}
+use Rattle.bus_due.specs.scenario.specs.Value.{ScenarioValue}
+use Rattle.bus_due.specs.bus_story.specs.BusState.{row_reading, whole_out, message_in, message_out}
+use Rattle.bus_due.specs.bus_dialogue.specs.declared.exchange.Cause.TheVariants as causes
+use Rattle.bus_due.specs.bus_dialogue.specs.declared.exchange.Hearing.{Hearing}
+use Rattle.bus_due.specs.bus_dialogue.specs.declared.exchange.Leaving.{Leaving}
+use Rattle.bus_due.specs.bus_dialogue.specs.declared.exchange.Phase.{Phase}
+use Rattle.bus_due.specs.bus_dialogue.specs.declared.exchange.Phase.TheVariants as phases
+use Rattle.bus_due.specs.bus_dialogue.specs.Exchange.{Exchange, from_byte, plan_after_message, plan_anew, request_after, speech_after_byte, speech_after_request, speech_of, attends_with}
+use Rattle.bus_due.specs.bus_dialogue.specs.NextPhase.{Serving, phase_of, phase_leaving, leaving_by}
+use Rattle.bus_due.specs.bus_dialogue.specs.Planning.{plan_in_message_out}
+use Rattle.bus_due.specs.bus_dialogue.specs.Speaking.{words_after}
+use Rattle.bus_due.specs.bus_dialogue.specs.Words.{parity_error, detected_error, answer_bytes}
 use Rattle.bus_due.specs.Defs.{host_of}
 use Rattle.bus_due.specs.RunState.{RunState, bus_of}
 use Rattle.bus_due.specs.RunSteps.{run_state_after}
@@ -38,7 +38,7 @@ use Rattle.bus_books.specs.Rows.{RowKind, still, strikes, crosses, turns, IsRowI
 use Rattle.bus_books.specs.Speaking.{Speaks}
 use Rattle.bus_books.specs.Traces.{GoesOn}
 use Rattle.bus_books.proofs.Gives.{requests_stay, few_messages}
-use Rattle.bus_lines.proofs.Early.{struck_same}
+use Rattle.bus_due.specs.bus_lines.proofs.Early.{struck_same}
 use Rattle.bus_books.proofs.InConnection.{InConnection, in_connection, dialogue_by, same_phase_is}
 use Rattle.trace_laws.specs.Attention.{Attention}
 use Rattle.trace_laws.specs.Offers.{offer_now, IsHeardIn, is_detected, OffersBy, Offers}
@@ -47,7 +47,7 @@ use Rattle.trace_laws.proofs.OfferLeavings.{HeadsTo, Heads, heads_none, heads_at
 use Rattle.trace_laws.proofs.OfferRows.{offers_as, offers_still, offers_struck, struck_stays, struck_by_fault, request_rises, offers_said, offers_given, offers_else}
 use Rattle.trace_laws.proofs.OfferTurns.{out_by_phase, Lines, says, gives, others, lines_of, entering, offers_enter, offers_open, offers_detect, offers_answer, none_open, unattended, in_direction, low_line}
 use Rattle.trace_laws.proofs.PhaseLines.{in_phase, out_phase, not_message_out, not_message_in}
-use Rattle.bus_base.proofs.Tests.{wrong, wrong'}
+use Rattle.bus_due.specs.bus_base.proofs.Tests.{wrong, wrong'}
 use Rattle.bus_books.proofs.Speaks.{heard_byte, opening_exchange, asking}
 use Rattle.trace_laws.specs.ItemTalks.{awaits}
 

@@ -1,17 +1,17 @@
 -- One message, byte by byte: it is heard with its last byte, and not before (6.6).
 use Rattle.std.proofs.Common.{ℕ, zero, suc, ◌≡◌, ◌<◌, ◌+◌, Bool, true, false, not, ◌∙◌, List, [], ◌∷◌, ◌++◌, length, length-append, refl, sym, ap, arith, true≢false}
 use Rattle.std.specs.Prelude.{if◌then◌else◌, nat_lt, slice_index_or, take}
-use Rattle.bus_trace.specs.declared.agreements.Agreement.{Agreement}
-use Rattle.bus_phases.specs.declared.dialogue.Dialogue.{Dialogue}
-use Rattle.bus_phases.specs.declared.spoken.Heard.{Heard}
-use Rattle.bus_phases.specs.Dialogue.{fresh_bytes, fresh_heard, heard_out, heard_in, heard_with_out, heard_with_in, word_out, word_in, byte_out}
-use Rattle.msg_grammar.specs.declared.message.MsgIn.{MsgIn}
-use Rattle.msg_grammar.specs.declared.message.MsgIn.TheVariants as to_initiator
-use Rattle.msg_grammar.specs.declared.message.MsgOut.{MsgOut}
-use Rattle.msg_grammar.specs.declared.message.MsgOut.TheVariants as to_target
-use Rattle.msg_grammar.specs.Messages.{form_in, form_out, got_in, got_out, in_bytes, out_bytes}
-use Rattle.bus_dialogue.specs.declared.exchange.Plan.{Plan}
-use Rattle.bus_dialogue.specs.Exchange.{Speech, next_word, attends_with, speech_after_byte}
+use Rattle.bus_due.specs.bus_trace.specs.declared.agreements.Agreement.{Agreement}
+use Rattle.bus_due.specs.bus_phases.specs.declared.dialogue.Dialogue.{Dialogue}
+use Rattle.bus_due.specs.bus_phases.specs.declared.spoken.Heard.{Heard}
+use Rattle.bus_due.specs.bus_phases.specs.Dialogue.{fresh_bytes, fresh_heard, heard_out, heard_in, heard_with_out, heard_with_in, word_out, word_in, byte_out}
+use Rattle.bus_due.specs.msg_grammar.specs.declared.message.MsgIn.{MsgIn}
+use Rattle.bus_due.specs.msg_grammar.specs.declared.message.MsgIn.TheVariants as to_initiator
+use Rattle.bus_due.specs.msg_grammar.specs.declared.message.MsgOut.{MsgOut}
+use Rattle.bus_due.specs.msg_grammar.specs.declared.message.MsgOut.TheVariants as to_target
+use Rattle.bus_due.specs.msg_grammar.specs.Messages.{form_in, form_out, got_in, got_out, in_bytes, out_bytes}
+use Rattle.bus_due.specs.bus_dialogue.specs.declared.exchange.Plan.{Plan}
+use Rattle.bus_due.specs.bus_dialogue.specs.Exchange.{Speech, next_word, attends_with, speech_after_byte}
 use Rattle.bus_books.specs.Listening.{Understanding, nothing_understood, understood, half_after}
 use Rattle.bus_books.specs.Speaking.{AreWordsHeard}
 use Rattle.trace_laws.specs.Offers.{SaysOne}

@@ -3,18 +3,18 @@ use Rattle.std.proofs.Common.{inl, inr, ℕ, zero, suc, ◌≡◌, ◌⊎◌, �
 use Rattle.std.specs.Prelude.{if◌then◌else◌, ◌==◌, nat_le, nat_lt, length}
 use Rattle.std.specs.List.{list_any}
 use Rattle.std.proofs.lemmas.Option.{same_Some}
-use Rattle.bus_base.specs.declared.ProcId.{ProcId}
-use Rattle.scenario.specs.declared.value.CmdDef.{CmdDef}
-use Rattle.scenario.specs.Value.{ScenarioValue}
-use Rattle.disk_array.specs.Processes.{command_at}
-use Rattle.disk_array.specs.Order.{same_number, tag_number}
-use Rattle.bus_story.specs.Items.{Item, process, abort, same_item, has_item, command_item, sense_item, Sent, is_open, open_from, is_tag_clash, is_clash, open_limit_of, may_send}
-use Rattle.bus_story.specs.Links.{is_of_nexus, is_open_sense, named_item_from}
+use Rattle.bus_due.specs.bus_base.specs.declared.ProcId.{ProcId}
+use Rattle.bus_due.specs.scenario.specs.declared.value.CmdDef.{CmdDef}
+use Rattle.bus_due.specs.scenario.specs.Value.{ScenarioValue}
+use Rattle.bus_due.specs.disk_array.specs.Processes.{command_at}
+use Rattle.bus_due.specs.disk_array.specs.Order.{same_number, tag_number}
+use Rattle.bus_due.specs.bus_story.specs.Items.{Item, process, abort, same_item, has_item, command_item, sense_item, Sent, is_open, open_from, is_tag_clash, is_clash, open_limit_of, may_send}
+use Rattle.bus_due.specs.bus_story.specs.Links.{is_of_nexus, is_open_sense, named_item_from}
 use Rattle.bus_books.proofs.Lookups.{id_is}
 use Rattle.trace_laws.specs.ItemFacts.{IsNext, is_abort, is_sense, is_command, NoClash}
 use Rattle.trace_laws.proofs.Impossible.{none_some}
 use Rattle.std.proofs.lemmas.Bool.{not-true, eqb-true, or_parts, or_cases}
-use Rattle.bus_base.proofs.Tests.{wrong, and_first, and_second, eq_self, none_between}
+use Rattle.bus_due.specs.bus_base.proofs.Tests.{wrong, and_first, and_second, eq_self, none_between}
 
 -- ---- items
 

@@ -2,27 +2,27 @@
 use Rattle.std.proofs.Common.{ℕ, ◌≡◌, Bool, true, false, not, ◌&&◌, ◌||◌, ◌==◌, ◌∙◌, List, [], ◌∷◌, ◌++◌, Option, Some, None, refl, sym, ap, subst}
 use Rattle.std.specs.Prelude.{if◌then◌else◌, is_some, is_none, nat_lt, ⊤}
 use Rattle.std.proofs.lemmas.Option.{same_Some}
-use Rattle.bus_base.specs.declared.ProcId.{ProcId}
-use Rattle.bus_base.specs.declared.AbortKind.{AbortKind}
-use Rattle.bus_base.specs.declared.AbortKind.TheVariants as aborts
-use Rattle.bus_base.specs.declared.Event.{Event}
-use Rattle.bus_base.specs.declared.Event.TheVariants as events
-use Rattle.cdb_codec.specs.declared.sense.TheConstants.{ABORTED_COMMAND}
-use Rattle.cdb_codec.specs.Cdb.{command_of}
-use Rattle.scenario.specs.declared.value.UnitDef.{UnitDef}
-use Rattle.scenario.specs.Value.{ScenarioValue}
-use Rattle.disk_array.specs.ArrayHistory.{reply_in}
-use Rattle.disk_array.specs.Processes.{Process, process_of, same_id}
-use Rattle.disk_array.specs.Execution.{Reply, Execution, execution, is_request_sense, check_condition, queue_full, sense_of}
-use Rattle.disk_array.specs.Units.{RunningProcess, UnitState, Array, is_held, unit_state_at, with_unit, guest_at, nexus_of, settled_array, starting_array, starting_units}
-use Rattle.disk_array.specs.Steps as Steps
-use Rattle.disk_array.specs.Steps.{has_ended, is_of_unit}
-use Rattle.disk_array.proofs.SoundArrays.{id_is}
+use Rattle.bus_due.specs.bus_base.specs.declared.ProcId.{ProcId}
+use Rattle.bus_due.specs.bus_base.specs.declared.AbortKind.{AbortKind}
+use Rattle.bus_due.specs.bus_base.specs.declared.AbortKind.TheVariants as aborts
+use Rattle.bus_due.specs.bus_base.specs.declared.Event.{Event}
+use Rattle.bus_due.specs.bus_base.specs.declared.Event.TheVariants as events
+use Rattle.bus_due.specs.cdb_codec.specs.declared.sense.TheConstants.{ABORTED_COMMAND}
+use Rattle.bus_due.specs.cdb_codec.specs.Cdb.{command_of}
+use Rattle.bus_due.specs.scenario.specs.declared.value.UnitDef.{UnitDef}
+use Rattle.bus_due.specs.scenario.specs.Value.{ScenarioValue}
+use Rattle.bus_due.specs.disk_array.specs.ArrayHistory.{reply_in}
+use Rattle.bus_due.specs.disk_array.specs.Processes.{Process, process_of, same_id}
+use Rattle.bus_due.specs.disk_array.specs.Execution.{Reply, Execution, execution, is_request_sense, check_condition, queue_full, sense_of}
+use Rattle.bus_due.specs.disk_array.specs.Units.{RunningProcess, UnitState, Array, is_held, unit_state_at, with_unit, guest_at, nexus_of, settled_array, starting_array, starting_units}
+use Rattle.bus_due.specs.disk_array.specs.Steps as Steps
+use Rattle.bus_due.specs.disk_array.specs.Steps.{has_ended, is_of_unit}
+use Rattle.bus_due.specs.disk_array.proofs.SoundArrays.{id_is}
 use Rattle.bus_books.proofs.Lookups.{id_is as ids_are}
 use Rattle.trace_laws.specs.Places.{IsAway, IsUnanswered, Waits, Runs, OnUnits, Each, IsAtRest, IsUntouched}
 use Rattle.trace_laws.proofs.EachProcess.{AdmitsEvent, Admits, status_same, attended_same, cleared_same, each_after, each_settled}
 use Rattle.trace_laws.proofs.ListedReplies.{running_id}
-use Rattle.bus_base.proofs.Tests.{wrong}
+use Rattle.bus_due.specs.bus_base.proofs.Tests.{wrong}
 
 -- ---- the process of an event
 

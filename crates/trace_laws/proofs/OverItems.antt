@@ -4,27 +4,27 @@ use Rattle.std.specs.Prelude.{if◌then◌else◌}
 use Rattle.std.specs.List.{list_any}
 use Rattle.std.proofs.lemmas.Option.{same_Some}
 use Rattle.std.proofs.lemmas.Bool.{or_from, not-true, eqb-true}
-use Rattle.bus_base.specs.declared.ProcId.{ProcId}
-use Rattle.bus_base.specs.declared.AbortKind.{AbortKind}
-use Rattle.bus_base.specs.declared.AbortKind.TheVariants as aborts
-use Rattle.bus_base.specs.declared.Event.{Event}
-use Rattle.bus_base.specs.declared.Event.TheVariants as events
-use Rattle.cdb_codec.specs.declared.status.TheConstants.{CHECK_CONDITION}
-use Rattle.scenario.specs.declared.value.CmdDef.{CmdDef}
-use Rattle.scenario.specs.Value.{ScenarioValue}
-use Rattle.disk_array.specs.Processes.{Process, process_of, process_if, process_by, command_at, same_id, same_bool}
-use Rattle.bus_story.specs.Items.{Item, process, same_item, has_item, command_item, sense_item, Sent, is_open}
-use Rattle.bus_story.specs.Links.{is_open_sense}
-use Rattle.bus_story.specs.Story.{Story, Ending, by_status, by_abort, by_reset, is_aborted, is_sense_stopped, story_with_over, story_with_end, with_check, story_with_ends, story_after_event, story_after_events}
+use Rattle.bus_due.specs.bus_base.specs.declared.ProcId.{ProcId}
+use Rattle.bus_due.specs.bus_base.specs.declared.AbortKind.{AbortKind}
+use Rattle.bus_due.specs.bus_base.specs.declared.AbortKind.TheVariants as aborts
+use Rattle.bus_due.specs.bus_base.specs.declared.Event.{Event}
+use Rattle.bus_due.specs.bus_base.specs.declared.Event.TheVariants as events
+use Rattle.bus_due.specs.cdb_codec.specs.declared.status.TheConstants.{CHECK_CONDITION}
+use Rattle.bus_due.specs.scenario.specs.declared.value.CmdDef.{CmdDef}
+use Rattle.bus_due.specs.scenario.specs.Value.{ScenarioValue}
+use Rattle.bus_due.specs.disk_array.specs.Processes.{Process, process_of, process_if, process_by, command_at, same_id, same_bool}
+use Rattle.bus_due.specs.bus_story.specs.Items.{Item, process, same_item, has_item, command_item, sense_item, Sent, is_open}
+use Rattle.bus_due.specs.bus_story.specs.Links.{is_open_sense}
+use Rattle.bus_due.specs.bus_story.specs.Story.{Story, Ending, by_status, by_abort, by_reset, is_aborted, is_sense_stopped, story_with_over, story_with_end, with_check, story_with_ends, story_after_event, story_after_events}
 use Rattle.trace_laws.proofs.Impossible.{none_some}
 use Rattle.trace_laws.proofs.OpenCommands.{fewer_clash}
 use Rattle.trace_laws.proofs.SentItems.{more_has, own_has}
-use Rattle.bus_story.proofs.StorySteps.{event_sent, ends_checks}
+use Rattle.bus_due.specs.bus_story.proofs.StorySteps.{event_sent, ends_checks}
 use Rattle.trace_laws.proofs.QueuedProcesses.{is_dropped, stays_queued}
 use Rattle.trace_laws.specs.ItemFacts.{NoClash, AreChecked, IsQueued}
-use Rattle.bus_base.proofs.Tests.{wrong, and_first, and_second, and_true}
+use Rattle.bus_due.specs.bus_base.proofs.Tests.{wrong, and_first, and_second, and_true}
 use Rattle.target_units.proofs.LiveQueue.{id_turned}
-use Rattle.disk_array.proofs.SeatLookups.{none_at}
+use Rattle.bus_due.specs.disk_array.proofs.SeatLookups.{none_at}
 
 -- ---- what is over stays over
 

@@ -1,17 +1,17 @@
 -- What the lines MSG, C/D and I/O tell of the phase, and the phase of the lines (6.1.5).
 use Rattle.std.proofs.Common.{◌≡◌, Bool, true, false, not, ◌&&◌, Option, Some, refl, ap}
 use Rattle.std.specs.Prelude.{if◌then◌else◌}
-use Rattle.bus_trace.specs.LineSet.{LineSet}
-use Rattle.bus_trace.specs.Phases.{is_command, is_data, is_message_in, is_message_out}
-use Rattle.bus_dialogue.specs.declared.exchange.Phase.{Phase}
-use Rattle.bus_dialogue.specs.declared.exchange.Phase.TheVariants as phases
-use Rattle.bus_dialogue.specs.NextPhase.{phase_of}
-use Rattle.bus_story.specs.CarriedBytes.{is_status_phase}
-use Rattle.scsi_device.specs.Heard.{is_message}
-use Rattle.scsi_device.specs.Writes.{is_data_in}
-use Rattle.bus_base.proofs.Tests.{and_first, wrong'}
+use Rattle.bus_due.specs.bus_trace.specs.LineSet.{LineSet}
+use Rattle.bus_due.specs.bus_trace.specs.Phases.{is_command, is_data, is_message_in, is_message_out}
+use Rattle.bus_due.specs.bus_dialogue.specs.declared.exchange.Phase.{Phase}
+use Rattle.bus_due.specs.bus_dialogue.specs.declared.exchange.Phase.TheVariants as phases
+use Rattle.bus_due.specs.bus_dialogue.specs.NextPhase.{phase_of}
+use Rattle.bus_due.specs.bus_story.specs.CarriedBytes.{is_status_phase}
+use Rattle.target_units.specs.scsi_device.specs.Heard.{is_message}
+use Rattle.target_units.specs.scsi_device.specs.Writes.{is_data_in}
+use Rattle.bus_due.specs.bus_base.proofs.Tests.{and_first, wrong'}
 pub use Rattle.bus_books.proofs.Faith.{out_lines}
-pub use Rattle.scsi_device.proofs.PhaseLines.{in_phase, out_phase}
+pub use Rattle.target_units.specs.scsi_device.proofs.PhaseLines.{in_phase, out_phase}
 
 abbrev pub is_status : Phase → Bool
 is_status phases.Status = true

@@ -1,27 +1,27 @@
 -- As a connection ends the initiator knows its process, and in MESSAGE IN the last message tells that it ends (6.6.5, 6.6.6, 6.6.13).
 use Rattle.std.proofs.Common.{inl, inr, ◌≡◌, ◌⊎◌, ◌<◌, Bool, true, false, ◌∙◌, List, ◌∷◌, Option, Some, None, refl, sym, ap, subst}
 use Rattle.std.specs.Prelude.{is_some, if◌then◌else◌}
-use Rattle.bus_base.specs.declared.ProcId.{ProcId}
-use Rattle.bus_trace.specs.LineSet.{LineSet}
-use Rattle.bus_trace.specs.declared.Row.{Row}
-use Rattle.bus_trace.specs.declared.changes.Change.{Change}
-use Rattle.bus_trace.specs.declared.connection.Connection.{Connection}
-use Rattle.bus_trace.specs.Terms.{connection}
-use Rattle.bus_trace.specs.Trace.{bus}
-use Rattle.scenario.specs.Value.{ScenarioValue}
-use Rattle.scenario.specs.Writing.{Obeys}
-use Rattle.bus_story.specs.BusState.{RowReading, row_reading}
-use Rattle.bus_story.specs.Items.{process}
-use Rattle.bus_story.specs.Links.{Link, complete, disconnect}
-use Rattle.bus_dialogue.specs.declared.exchange.Cause.{Cause}
-use Rattle.bus_dialogue.specs.declared.exchange.Leaving.{Leaving}
-use Rattle.bus_dialogue.specs.declared.exchange.Next.{Next}
-use Rattle.bus_dialogue.specs.declared.exchange.Next.TheVariants as nexts
-use Rattle.bus_dialogue.specs.declared.exchange.Phase.{Phase}
-use Rattle.bus_dialogue.specs.declared.exchange.Phase.TheVariants as phases
-use Rattle.bus_dialogue.specs.declared.exchange.Task.{Task}
-use Rattle.bus_dialogue.specs.Arrivals.{policy_of}
-use Rattle.bus_dialogue.specs.NextPhase.{Serving, phase_of, phase_entry, with_task, next_data_phase, phase_leaving, message_out_leaving, after_messages, leaving_by}
+use Rattle.bus_due.specs.bus_base.specs.declared.ProcId.{ProcId}
+use Rattle.bus_due.specs.bus_trace.specs.LineSet.{LineSet}
+use Rattle.bus_due.specs.bus_trace.specs.declared.Row.{Row}
+use Rattle.bus_due.specs.bus_trace.specs.declared.changes.Change.{Change}
+use Rattle.bus_due.specs.bus_trace.specs.declared.connection.Connection.{Connection}
+use Rattle.bus_due.specs.bus_trace.specs.Terms.{connection}
+use Rattle.bus_due.specs.bus_trace.specs.Trace.{bus}
+use Rattle.bus_due.specs.scenario.specs.Value.{ScenarioValue}
+use Rattle.bus_due.specs.scenario.specs.Writing.{Obeys}
+use Rattle.bus_due.specs.bus_story.specs.BusState.{RowReading, row_reading}
+use Rattle.bus_due.specs.bus_story.specs.Items.{process}
+use Rattle.bus_due.specs.bus_story.specs.Links.{Link, complete, disconnect}
+use Rattle.bus_due.specs.bus_dialogue.specs.declared.exchange.Cause.{Cause}
+use Rattle.bus_due.specs.bus_dialogue.specs.declared.exchange.Leaving.{Leaving}
+use Rattle.bus_due.specs.bus_dialogue.specs.declared.exchange.Next.{Next}
+use Rattle.bus_due.specs.bus_dialogue.specs.declared.exchange.Next.TheVariants as nexts
+use Rattle.bus_due.specs.bus_dialogue.specs.declared.exchange.Phase.{Phase}
+use Rattle.bus_due.specs.bus_dialogue.specs.declared.exchange.Phase.TheVariants as phases
+use Rattle.bus_due.specs.bus_dialogue.specs.declared.exchange.Task.{Task}
+use Rattle.bus_due.specs.bus_dialogue.specs.Arrivals.{policy_of}
+use Rattle.bus_due.specs.bus_dialogue.specs.NextPhase.{Serving, phase_of, phase_entry, with_task, next_data_phase, phase_leaving, message_out_leaving, after_messages, leaving_by}
 use Rattle.bus_due.specs.Next.{IsPrompt}
 use Rattle.bus_due.specs.Plain.{IsPlain, AreOfDevices}
 use Rattle.bus_due.specs.RunState.{RunState, bus_of, item_of, process_item}
@@ -32,8 +32,8 @@ use Rattle.bus_due.proofs.Plains.{run_state_plain}
 use Rattle.bus_books.specs.Knowing.{Knows}
 use Rattle.bus_books.specs.Traces.{Ends}
 use Rattle.bus_books.proofs.InConnection.{reading_is}
-use Rattle.bus_laws.proofs.Apart.{change_plain}
-use Rattle.bus_laws.proofs.Prompt.{least_is}
+use Rattle.link_laws.specs.bus_laws.proofs.Apart.{change_plain}
+use Rattle.link_laws.specs.bus_laws.proofs.Prompt.{least_is}
 use Rattle.trace_laws.specs.Places.{PlaceFacts}
 use Rattle.trace_laws.specs.Tells.{Tells, LastIn, TellsAsLeft}
 use Rattle.trace_laws.proofs.ConnectionRows.{connection_row}
@@ -42,7 +42,7 @@ use Rattle.trace_laws.proofs.Impossible.{some_none}
 use Rattle.trace_laws.proofs.Joint.{Stood}
 use Rattle.trace_laws.proofs.PlaceTurnRows.{no_task}
 use Rattle.trace_laws.proofs.TellEnds.{naming_goes_on}
-use Rattle.bus_base.proofs.Tests.{wrong}
+use Rattle.bus_due.specs.bus_base.proofs.Tests.{wrong}
 
 pub record EndTold (k : RunState) (l : Link) : Type 0 where
   pub named : (id : ProcId) → k.served ≡ Some (process id) → l.item ≡ Some (process id)

@@ -1,49 +1,49 @@
 -- A row with which a connection ends: its process is disconnected, has ended, or is lost, or an abort drops processes (6.1.1, 6.6).
 use Rattle.std.proofs.Common.{inl, inr, ℕ, ◌≡◌, ◌⊎◌, Bool, true, false, ◌∙◌, List, [], ◌∷◌, Option, Some, None, refl, sym, ap, subst, true≢false}
 use Rattle.std.specs.Prelude.{if◌then◌else◌, is_some}
-use Rattle.bus_base.specs.declared.ProcId.{ProcId}
-use Rattle.bus_base.specs.declared.Event.{Event}
-use Rattle.bus_base.specs.declared.Event.TheVariants as events
-use Rattle.bus_trace.specs.Changes.{rises}
-use Rattle.bus_trace.specs.declared.Row.{Row}
-use Rattle.bus_trace.specs.declared.connection.Connection.{Connection}
-use Rattle.msg_grammar.specs.declared.message.MsgIn.TheVariants as to_initiator
-use Rattle.scenario.specs.declared.value.AbortDef.{AbortDef}
-use Rattle.scenario.specs.Value.{ScenarioValue}
-use Rattle.disk_array.specs.Processes.{Process, same_id}
-use Rattle.disk_array.specs.SoundArray.{IsSound, HasSeats}
-use Rattle.disk_array.specs.Steps as Steps
-use Rattle.disk_array.specs.Steps.{has_ended}
-use Rattle.disk_array.specs.Units.{Array, settled_array}
-use Rattle.disk_array.proofs.SoundArrays.{id_is}
-use Rattle.bus_story.specs.BusState.{RowReading, row_reading}
-use Rattle.bus_story.specs.HistoryEvents.{item_loss_events, abort_line_at, abort_line_events, item_abort_events, bus_free_events, connection_events, link_events, row_events_by}
-use Rattle.bus_story.specs.Items.{Item, process, abort}
-use Rattle.bus_story.specs.Links.{Link, LastMessage, plain, complete, disconnect, abortive}
-use Rattle.bus_dialogue.specs.declared.exchange.Cause.{Cause}
-use Rattle.bus_dialogue.specs.declared.exchange.Cause.TheVariants as causes
-use Rattle.bus_dialogue.specs.declared.exchange.Messages.{Messages}
-use Rattle.bus_dialogue.specs.declared.exchange.Next.{Next}
-use Rattle.bus_dialogue.specs.declared.exchange.Next.TheVariants as nexts
-use Rattle.bus_dialogue.specs.declared.exchange.Phase.{Phase}
-use Rattle.bus_dialogue.specs.declared.exchange.Phase.TheVariants as phases
-use Rattle.bus_dialogue.specs.declared.exchange.Plan.{Plan}
-use Rattle.bus_dialogue.specs.Exchange.{one_message}
-use Rattle.bus_dialogue.specs.NextPhase.{phase_of}
+use Rattle.bus_due.specs.bus_base.specs.declared.ProcId.{ProcId}
+use Rattle.bus_due.specs.bus_base.specs.declared.Event.{Event}
+use Rattle.bus_due.specs.bus_base.specs.declared.Event.TheVariants as events
+use Rattle.bus_due.specs.bus_trace.specs.Changes.{rises}
+use Rattle.bus_due.specs.bus_trace.specs.declared.Row.{Row}
+use Rattle.bus_due.specs.bus_trace.specs.declared.connection.Connection.{Connection}
+use Rattle.bus_due.specs.msg_grammar.specs.declared.message.MsgIn.TheVariants as to_initiator
+use Rattle.bus_due.specs.scenario.specs.declared.value.AbortDef.{AbortDef}
+use Rattle.bus_due.specs.scenario.specs.Value.{ScenarioValue}
+use Rattle.bus_due.specs.disk_array.specs.Processes.{Process, same_id}
+use Rattle.bus_due.specs.disk_array.specs.SoundArray.{IsSound, HasSeats}
+use Rattle.bus_due.specs.disk_array.specs.Steps as Steps
+use Rattle.bus_due.specs.disk_array.specs.Steps.{has_ended}
+use Rattle.bus_due.specs.disk_array.specs.Units.{Array, settled_array}
+use Rattle.bus_due.specs.disk_array.proofs.SoundArrays.{id_is}
+use Rattle.bus_due.specs.bus_story.specs.BusState.{RowReading, row_reading}
+use Rattle.bus_due.specs.bus_story.specs.HistoryEvents.{item_loss_events, abort_line_at, abort_line_events, item_abort_events, bus_free_events, connection_events, link_events, row_events_by}
+use Rattle.bus_due.specs.bus_story.specs.Items.{Item, process, abort}
+use Rattle.bus_due.specs.bus_story.specs.Links.{Link, LastMessage, plain, complete, disconnect, abortive}
+use Rattle.bus_due.specs.bus_dialogue.specs.declared.exchange.Cause.{Cause}
+use Rattle.bus_due.specs.bus_dialogue.specs.declared.exchange.Cause.TheVariants as causes
+use Rattle.bus_due.specs.bus_dialogue.specs.declared.exchange.Messages.{Messages}
+use Rattle.bus_due.specs.bus_dialogue.specs.declared.exchange.Next.{Next}
+use Rattle.bus_due.specs.bus_dialogue.specs.declared.exchange.Next.TheVariants as nexts
+use Rattle.bus_due.specs.bus_dialogue.specs.declared.exchange.Phase.{Phase}
+use Rattle.bus_due.specs.bus_dialogue.specs.declared.exchange.Phase.TheVariants as phases
+use Rattle.bus_due.specs.bus_dialogue.specs.declared.exchange.Plan.{Plan}
+use Rattle.bus_due.specs.bus_dialogue.specs.Exchange.{one_message}
+use Rattle.bus_due.specs.bus_dialogue.specs.NextPhase.{phase_of}
 use Rattle.bus_due.specs.RunState.{RunState, bus_of, process_item, process_served}
 use Rattle.bus_due.specs.RunSteps.{array_after_events}
 use Rattle.bus_books.specs.Accounts.{is_served_by}
 use Rattle.bus_books.specs.Hearing.{is_out_phase}
 use Rattle.bus_books.proofs.Lookups.{id_is as ids_are, self_id}
 use Rattle.trace_laws.specs.Places.{AreWithin, IsUntouched, IsAtRest, Closes, completes, disconnects, PlacedBefore, PlacedAsked, PlacedIn, PlacedIf, HasPlaces}
-use Rattle.bus_base.specs.declared.AbortKind.{AbortKind}
+use Rattle.bus_due.specs.bus_base.specs.declared.AbortKind.{AbortKind}
 use Rattle.trace_laws.proofs.OtherProcesses.{rests_after, untouched_after}
 use Rattle.trace_laws.proofs.AnsweredProcesses.{lost_is, leaves}
 use Rattle.trace_laws.proofs.PhaseLines.{is_status, is_data_phase}
 use Rattle.trace_laws.proofs.PlaceEvents.{Passes, passes_same, passes_step}
 use Rattle.trace_laws.proofs.PlaceTurned.{other_id}
-use Rattle.bus_base.proofs.Tests.{wrong}
-use Rattle.scsi_device.specs.Heard.{is_command_phase}
+use Rattle.bus_due.specs.bus_base.proofs.Tests.{wrong}
+use Rattle.target_units.specs.scsi_device.specs.Heard.{is_command_phase}
 
 -- ---- what is asked of it
 

@@ -3,31 +3,31 @@
 use Rattle.std.proofs.Common.{inl, inr, ℕ, suc, ◌≡◌, Bool, true, false, not, ◌&&◌, ◌||◌, ◌∙◌, List, [], ◌∷◌, length, Option, Some, None, refl, sym, ap, subst, arith}
 use Rattle.std.specs.Prelude.{if◌then◌else◌, ◌==◌, nat_lt}
 use Rattle.std.specs.List.{list_any}
-use Rattle.bus_base.specs.declared.ProcId.{ProcId}
-use Rattle.bus_base.specs.declared.Event.{Event}
-use Rattle.bus_base.specs.declared.Event.TheVariants as events
-use Rattle.bus_trace.specs.LineSet.{LineSet}
-use Rattle.cdb_codec.specs.Cdb.{command_of}
-use Rattle.scenario.specs.Value.{ScenarioValue}
-use Rattle.scenario.specs.declared.value.Policy.{Policy}
-use Rattle.disk_array.specs.Execution.{is_request_sense, aborted_reply}
-use Rattle.disk_array.specs.Processes.{Process, process_of, same_id}
-use Rattle.disk_array.specs.SoundArray.{IsSound, HasSeats}
-use Rattle.disk_array.specs.Steps as Steps
-use Rattle.disk_array.specs.Steps.{process_count, has_ended}
-use Rattle.disk_array.specs.Units.{UnitState, Array, unit_state_at, is_held, has_no_current, settled_array}
-use Rattle.disk_array.proofs.SoundArrays.{step_sound}
-use Rattle.bus_story.specs.CarriedBytes.{CarriedBytes, is_whole_block}
-use Rattle.bus_story.specs.HistoryEvents.{queue_event, queue_events, is_refuse, status_event, status_events}
-use Rattle.bus_story.specs.Story.{Story}
-use Rattle.bus_dialogue.specs.declared.exchange.Arrival.{Arrival}
-use Rattle.bus_dialogue.specs.declared.exchange.Arrival.TheVariants as arrivals
-use Rattle.bus_dialogue.specs.declared.exchange.Phase.TheVariants as phases
-use Rattle.bus_dialogue.specs.Arrivals.{arrival_by, is_never}
-use Rattle.bus_dialogue.specs.NextPhase.{phase_of}
+use Rattle.bus_due.specs.bus_base.specs.declared.ProcId.{ProcId}
+use Rattle.bus_due.specs.bus_base.specs.declared.Event.{Event}
+use Rattle.bus_due.specs.bus_base.specs.declared.Event.TheVariants as events
+use Rattle.bus_due.specs.bus_trace.specs.LineSet.{LineSet}
+use Rattle.bus_due.specs.cdb_codec.specs.Cdb.{command_of}
+use Rattle.bus_due.specs.scenario.specs.Value.{ScenarioValue}
+use Rattle.bus_due.specs.scenario.specs.declared.value.Policy.{Policy}
+use Rattle.bus_due.specs.disk_array.specs.Execution.{is_request_sense, aborted_reply}
+use Rattle.bus_due.specs.disk_array.specs.Processes.{Process, process_of, same_id}
+use Rattle.bus_due.specs.disk_array.specs.SoundArray.{IsSound, HasSeats}
+use Rattle.bus_due.specs.disk_array.specs.Steps as Steps
+use Rattle.bus_due.specs.disk_array.specs.Steps.{process_count, has_ended}
+use Rattle.bus_due.specs.disk_array.specs.Units.{UnitState, Array, unit_state_at, is_held, has_no_current, settled_array}
+use Rattle.bus_due.specs.disk_array.proofs.SoundArrays.{step_sound}
+use Rattle.bus_due.specs.bus_story.specs.CarriedBytes.{CarriedBytes, is_whole_block}
+use Rattle.bus_due.specs.bus_story.specs.HistoryEvents.{queue_event, queue_events, is_refuse, status_event, status_events}
+use Rattle.bus_due.specs.bus_story.specs.Story.{Story}
+use Rattle.bus_due.specs.bus_dialogue.specs.declared.exchange.Arrival.{Arrival}
+use Rattle.bus_due.specs.bus_dialogue.specs.declared.exchange.Arrival.TheVariants as arrivals
+use Rattle.bus_due.specs.bus_dialogue.specs.declared.exchange.Phase.TheVariants as phases
+use Rattle.bus_due.specs.bus_dialogue.specs.Arrivals.{arrival_by, is_never}
+use Rattle.bus_due.specs.bus_dialogue.specs.NextPhase.{phase_of}
 use Rattle.bus_due.specs.RunSteps.{array_after_events}
 use Rattle.bus_due.specs.Tasks.{is_idle_unit, room_of}
-use Rattle.ending_causes.specs.FullQueues.{is_refusal}
+use Rattle.bus_books.specs.FullQueues.{is_refusal}
 use Rattle.trace_laws.specs.Places.{AreWithin, IsUntouched, IsAtRest, IsOutside, RunsOpen, AnsweredOpen, is_queued}
 use Rattle.trace_laws.proofs.Impossible.{some_none}
 use Rattle.trace_laws.proofs.OtherProcesses.{is_of, untouched_after, rests_after, executed}
@@ -37,8 +37,8 @@ use Rattle.trace_laws.proofs.QueueEvents.{queued_stands}
 use Rattle.trace_laws.proofs.ArrivingProcesses.{queued, queued_rests, guest_may_run, at_once_may_run, guest_answered, Arrives, as_guest, in_queue, arrives, refused_array, refuses, fails_new}
 use Rattle.trace_laws.proofs.AnsweredProcesses.{run_is, run_answers, fail_is, fail_answers}
 use Rattle.std.proofs.lemmas.Bool.{eqb-true}
-use Rattle.bus_base.proofs.Tests.{wrong}
-use Rattle.scsi_device.specs.Heard.{is_command_phase}
+use Rattle.bus_due.specs.bus_base.proofs.Tests.{wrong}
+use Rattle.target_units.specs.scsi_device.specs.Heard.{is_command_phase}
 
 -- ---- what events of one process leave of the array
 

@@ -1,9 +1,9 @@
 -- What the seam of what a target hears asks of the place of its process follows from where the process stands.
 use Rattle.std.proofs.Common.{◌≡◌, true, not, ◌&&◌}
 use Rattle.std.specs.Prelude.{is_none}
-use Rattle.disk_array.specs.Processes.{Process}
-use Rattle.disk_array.specs.Units.{Array}
-use Rattle.scsi_device.specs.Heard.{is_new}
+use Rattle.bus_due.specs.disk_array.specs.Processes.{Process}
+use Rattle.bus_due.specs.disk_array.specs.Units.{Array}
+use Rattle.target_units.specs.scsi_device.specs.Heard.{is_new}
 use Rattle.trace_laws.specs.Places.{IsUntouched}
 use Rattle.trace_laws.proofs.ArrivingProcesses.{not_waiting, not_running}
 

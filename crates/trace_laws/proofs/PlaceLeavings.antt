@@ -1,29 +1,29 @@
 -- Which phase follows, by where the process that is served stands in the plain disk array (6.1.5, 6.6).
 use Rattle.std.proofs.Common.{inl, inr, ℕ, ◌≡◌, ◌⊎◌, ◌+◌, Bool, true, false, Option, Some, None, refl, sym}
 use Rattle.std.specs.Prelude.{if◌then◌else◌, is_some, nat_lt, ⊤}
-use Rattle.msg_grammar.specs.declared.message.MsgIn.{MsgIn}
-use Rattle.msg_grammar.specs.declared.message.MsgIn.TheVariants as to_initiator
-use Rattle.scenario.specs.declared.value.Policy.{Policy}
-use Rattle.scenario.specs.declared.value.Policy.TheVariants as policies
-use Rattle.scenario.specs.declared.value.TargetDef.{TargetDef}
-use Rattle.bus_trace.specs.declared.agreements.Agreement.{Agreement}
-use Rattle.bus_dialogue.specs.declared.exchange.Arrival.{Arrival}
-use Rattle.bus_dialogue.specs.declared.exchange.Arrival.TheVariants as arrivals
-use Rattle.bus_dialogue.specs.declared.exchange.Cause.TheVariants as causes
-use Rattle.bus_dialogue.specs.declared.exchange.Leaving.{Leaving}
-use Rattle.bus_dialogue.specs.declared.exchange.Messages.{Messages}
-use Rattle.bus_dialogue.specs.declared.exchange.Next.{Next}
-use Rattle.bus_dialogue.specs.declared.exchange.Next.TheVariants as nexts
-use Rattle.bus_dialogue.specs.declared.exchange.Phase.{Phase}
-use Rattle.bus_dialogue.specs.declared.exchange.Phase.TheVariants as phases
-use Rattle.bus_dialogue.specs.declared.exchange.Task.{Task}
-use Rattle.bus_dialogue.specs.Arrivals.{policy_of}
-use Rattle.bus_dialogue.specs.DataRuns.{runs_in_all}
-use Rattle.bus_dialogue.specs.Exchange.{one_message}
-use Rattle.bus_dialogue.specs.NextPhase.{Serving, bus_free, phase_entry, with_task, recovery, recovery_limit, pointer_restoration, next_data_phase, request_or_command, after_offer, message_repetition, message_out_leaving, after_messages, disconnection, disconnect_messages, after_arrival, after_run, data_in_leaving, phase_leaving}
-use Rattle.bus_dialogue.specs.Words.{request_by, is_naming}
+use Rattle.bus_due.specs.msg_grammar.specs.declared.message.MsgIn.{MsgIn}
+use Rattle.bus_due.specs.msg_grammar.specs.declared.message.MsgIn.TheVariants as to_initiator
+use Rattle.bus_due.specs.scenario.specs.declared.value.Policy.{Policy}
+use Rattle.bus_due.specs.scenario.specs.declared.value.Policy.TheVariants as policies
+use Rattle.bus_due.specs.scenario.specs.declared.value.TargetDef.{TargetDef}
+use Rattle.bus_due.specs.bus_trace.specs.declared.agreements.Agreement.{Agreement}
+use Rattle.bus_due.specs.bus_dialogue.specs.declared.exchange.Arrival.{Arrival}
+use Rattle.bus_due.specs.bus_dialogue.specs.declared.exchange.Arrival.TheVariants as arrivals
+use Rattle.bus_due.specs.bus_dialogue.specs.declared.exchange.Cause.TheVariants as causes
+use Rattle.bus_due.specs.bus_dialogue.specs.declared.exchange.Leaving.{Leaving}
+use Rattle.bus_due.specs.bus_dialogue.specs.declared.exchange.Messages.{Messages}
+use Rattle.bus_due.specs.bus_dialogue.specs.declared.exchange.Next.{Next}
+use Rattle.bus_due.specs.bus_dialogue.specs.declared.exchange.Next.TheVariants as nexts
+use Rattle.bus_due.specs.bus_dialogue.specs.declared.exchange.Phase.{Phase}
+use Rattle.bus_due.specs.bus_dialogue.specs.declared.exchange.Phase.TheVariants as phases
+use Rattle.bus_due.specs.bus_dialogue.specs.declared.exchange.Task.{Task}
+use Rattle.bus_due.specs.bus_dialogue.specs.Arrivals.{policy_of}
+use Rattle.bus_due.specs.bus_dialogue.specs.DataRuns.{runs_in_all}
+use Rattle.bus_due.specs.bus_dialogue.specs.Exchange.{one_message}
+use Rattle.bus_due.specs.bus_dialogue.specs.NextPhase.{Serving, bus_free, phase_entry, with_task, recovery, recovery_limit, pointer_restoration, next_data_phase, request_or_command, after_offer, message_repetition, message_out_leaving, after_messages, disconnection, disconnect_messages, after_arrival, after_run, data_in_leaving, phase_leaving}
+use Rattle.bus_due.specs.bus_dialogue.specs.Words.{request_by, is_naming}
 use Rattle.trace_laws.specs.Places.{TellNoEnd}
-use Rattle.bus_base.proofs.Tests.{wrong}
+use Rattle.bus_due.specs.bus_base.proofs.Tests.{wrong}
 
 -- ---- of a process that runs
 

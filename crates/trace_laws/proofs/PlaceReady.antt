@@ -2,17 +2,17 @@
 use Rattle.std.proofs.Common.{inr, ℕ, ◌≡◌, ◌+◌, Bool, true, false, not, ◌&&◌, ◌||◌, ◌∙◌, List, [], ◌∷◌, Option, Some, None, refl, sym, ap, subst}
 use Rattle.std.specs.Prelude.{if◌then◌else◌, ◌==◌, is_some}
 use Rattle.std.proofs.lemmas.Option.{same_Some}
-use Rattle.bus_base.specs.declared.ProcId.{ProcId}
-use Rattle.scenario.specs.Value.{ScenarioValue}
-use Rattle.disk_array.specs.ArrayHistory.{reply_in}
-use Rattle.disk_array.specs.Processes.{Process, process_of, same_id}
-use Rattle.disk_array.specs.SoundArray.{IsOwn, IsOwnRunning, IsOwnUnit, IsSound}
-use Rattle.disk_array.specs.Steps.{running_if, running_in, has_ended}
-use Rattle.disk_array.specs.Units.{RunningProcess, UnitState, Array, unit_state_at, guest_at, is_held, without_reply}
-use Rattle.disk_array.specs.Seats.{current_of}
-use Rattle.disk_array.proofs.SoundArrays.{current_process}
-use Rattle.disk_array.proofs.SeatOwn.{own_found}
-use Rattle.bus_dialogue.specs.Wants.{Ready, ready_in, is_ready_before, first_ready}
+use Rattle.bus_due.specs.bus_base.specs.declared.ProcId.{ProcId}
+use Rattle.bus_due.specs.scenario.specs.Value.{ScenarioValue}
+use Rattle.bus_due.specs.disk_array.specs.ArrayHistory.{reply_in}
+use Rattle.bus_due.specs.disk_array.specs.Processes.{Process, process_of, same_id}
+use Rattle.bus_due.specs.disk_array.specs.SoundArray.{IsOwn, IsOwnRunning, IsOwnUnit, IsSound}
+use Rattle.bus_due.specs.disk_array.specs.Steps.{running_if, running_in, has_ended}
+use Rattle.bus_due.specs.disk_array.specs.Units.{RunningProcess, UnitState, Array, unit_state_at, guest_at, is_held, without_reply}
+use Rattle.bus_due.specs.disk_array.specs.Seats.{current_of}
+use Rattle.bus_due.specs.disk_array.proofs.SoundArrays.{current_process}
+use Rattle.bus_due.specs.disk_array.proofs.SeatOwn.{own_found}
+use Rattle.bus_due.specs.bus_dialogue.specs.Wants.{Ready, ready_in, is_ready_before, first_ready}
 use Rattle.bus_due.specs.Wants.{since_of, ready_at, ready_among}
 use Rattle.target_units.proofs.UnitTimes.{running_is}
 use Rattle.bus_books.proofs.Lookups.{self_id, id_is}

@@ -3,24 +3,24 @@
 use Rattle.std.proofs.Common.{inl, inr, ℕ, ◌≡◌, ◌⊎◌, ◌+◌, Bool, true, false, not, ◌&&◌, ◌==◌, ◌∙◌, List, length, Option, Some, None, refl, sym, ap, subst, arith}
 use Rattle.std.specs.Prelude.{if◌then◌else◌, nat_lt, slice_index, Result, Ok, Err}
 use Rattle.std.proofs.lemmas.Bool.Decides.{nat_tests}
-use Rattle.cdb_codec.specs.declared.command.Command.{Command}
-use Rattle.cdb_codec.specs.declared.command.Command.TheVariants as commands
-use Rattle.cdb_codec.specs.declared.command.CdbFault.{CdbFault}
-use Rattle.cdb_codec.specs.declared.command.CdbFault.TheVariants as faults
-use Rattle.cdb_codec.specs.declared.operation.TheConstants.{INQUIRY}
-use Rattle.cdb_codec.specs.Cdb.{command_of, sized_of, has_group_len, are_zero, spare_room, where_zero}
-use Rattle.cdb_codec.specs.Operations.{operation_of}
-use Rattle.scenario.specs.declared.value.Policy.{Policy}
-use Rattle.scenario.specs.Value.{ScenarioValue}
-use Rattle.disk_array.specs.ArrayHistory.{reply_in}
-use Rattle.disk_array.specs.Execution.{execution, attention_execution, reply_execution, check_condition, unit_not_supported, is_request_sense, is_opcode, needs_unit}
-use Rattle.disk_array.specs.Order.{range_in}
-use Rattle.disk_array.specs.Processes.{Process}
-use Rattle.disk_array.specs.Steps.{context_at}
-use Rattle.disk_array.specs.Units.{Array, unit_state_at, nexus_of}
-use Rattle.bus_dialogue.specs.declared.exchange.Task.{Task}
-use Rattle.bus_dialogue.specs.Arrivals.{policy_of}
-use Rattle.bus_dialogue.specs.DataRuns.{runs_in, runs_in_all}
+use Rattle.bus_due.specs.cdb_codec.specs.declared.command.Command.{Command}
+use Rattle.bus_due.specs.cdb_codec.specs.declared.command.Command.TheVariants as commands
+use Rattle.bus_due.specs.cdb_codec.specs.declared.command.CdbFault.{CdbFault}
+use Rattle.bus_due.specs.cdb_codec.specs.declared.command.CdbFault.TheVariants as faults
+use Rattle.bus_due.specs.cdb_codec.specs.declared.operation.TheConstants.{INQUIRY}
+use Rattle.bus_due.specs.cdb_codec.specs.Cdb.{command_of, sized_of, has_group_len, are_zero, spare_room, where_zero}
+use Rattle.bus_due.specs.cdb_codec.specs.Operations.{operation_of}
+use Rattle.bus_due.specs.scenario.specs.declared.value.Policy.{Policy}
+use Rattle.bus_due.specs.scenario.specs.Value.{ScenarioValue}
+use Rattle.bus_due.specs.disk_array.specs.ArrayHistory.{reply_in}
+use Rattle.bus_due.specs.disk_array.specs.Execution.{execution, attention_execution, reply_execution, check_condition, unit_not_supported, is_request_sense, is_opcode, needs_unit}
+use Rattle.bus_due.specs.disk_array.specs.Order.{range_in}
+use Rattle.bus_due.specs.disk_array.specs.Processes.{Process}
+use Rattle.bus_due.specs.disk_array.specs.Steps.{context_at}
+use Rattle.bus_due.specs.disk_array.specs.Units.{Array, unit_state_at, nexus_of}
+use Rattle.bus_due.specs.bus_dialogue.specs.declared.exchange.Task.{Task}
+use Rattle.bus_due.specs.bus_dialogue.specs.Arrivals.{policy_of}
+use Rattle.bus_due.specs.bus_dialogue.specs.DataRuns.{runs_in, runs_in_all}
 use Rattle.bus_due.specs.LastingState.{progress_in}
 use Rattle.bus_due.specs.RunState.{RunState, array_of, process_served, carried_here}
 use Rattle.bus_due.specs.Sights.{serving_of}
@@ -29,7 +29,7 @@ use Rattle.trace_laws.specs.Places.{IsOutside}
 use Rattle.trace_laws.proofs.LastMessages.{one_run}
 use Rattle.trace_laws.proofs.PlaceLeavings.{HasOneRun}
 use Rattle.std.proofs.lemmas.Bool.{eqb-true}
-use Rattle.bus_base.proofs.Tests.{wrong, wrong', and_second}
+use Rattle.bus_due.specs.bus_base.proofs.Tests.{wrong, wrong', and_second}
 
 -- ---- commands of no blocks
 

@@ -2,43 +2,43 @@
 -- (6.6.5).
 use Rattle.std.proofs.Common.{inl, inr, ℕ, ◌≡◌, ◌⊎◌, Bool, true, false, not, ◌&&◌, ◌==◌, ◌∙◌, [], ◌∷◌, Option, Some, None, refl, sym, ap, subst}
 use Rattle.std.specs.Prelude.{if◌then◌else◌, is_some, slice_index}
-use Rattle.bus_base.specs.Faults.{counted_on}
-use Rattle.bus_base.specs.declared.ProcId.{ProcId}
-use Rattle.bus_base.specs.declared.Event.TheVariants as events
-use Rattle.bus_trace.specs.LineSet.{LineSet}
-use Rattle.bus_trace.specs.Changes.{rises}
-use Rattle.bus_trace.specs.declared.Row.{Row}
-use Rattle.bus_trace.specs.declared.changes.Change.{Change}
-use Rattle.bus_trace.specs.declared.connection.Connection.{Connection}
-use Rattle.bus_trace.specs.Phases.{changes_phase, is_message_out, is_message_in}
-use Rattle.bus_trace.specs.Terms.{receiver_in, is_fault}
-use Rattle.msg_grammar.specs.declared.message.MsgIn.TheVariants as to_initiator
-use Rattle.scenario.specs.Value.{ScenarioValue}
-use Rattle.bus_lines.specs.Handshakes.{Handshakes, no_handshakes, handshakes_after, answered_if, asked_if, strikes_if}
-use Rattle.disk_array.specs.ArrayHistory.{reply_in}
-use Rattle.disk_array.specs.Execution.{Reply}
-use Rattle.disk_array.specs.Processes.{Process}
-use Rattle.disk_array.specs.SoundArray.{HasSeats}
-use Rattle.disk_array.specs.Steps as Steps
-use Rattle.disk_array.specs.Units.{Array, settled_array}
-use Rattle.bus_story.specs.BusState.{row_reading}
-use Rattle.bus_story.specs.HistoryEvents.{carried_if, is_complete, is_completion, end_events, phase_events, link_events, row_events_by}
-use Rattle.bus_story.specs.Items.{Item, process, abort}
-use Rattle.bus_story.specs.Links.{Link}
-use Rattle.bus_story.proofs.CarriedLists.{carried_id}
-use Rattle.bus_dialogue.specs.declared.exchange.Cause.{Cause}
-use Rattle.bus_dialogue.specs.declared.exchange.Cause.TheVariants as causes
-use Rattle.bus_dialogue.specs.declared.exchange.Hearing.{Hearing}
-use Rattle.bus_dialogue.specs.declared.exchange.Leaving.{Leaving}
-use Rattle.bus_dialogue.specs.declared.exchange.Messages.{Messages}
-use Rattle.bus_dialogue.specs.declared.exchange.Next.{Next}
-use Rattle.bus_dialogue.specs.declared.exchange.Next.TheVariants as nexts
-use Rattle.bus_dialogue.specs.declared.exchange.Phase.{Phase}
-use Rattle.bus_dialogue.specs.declared.exchange.Phase.TheVariants as phases
-use Rattle.bus_dialogue.specs.declared.exchange.Plan.{Plan}
-use Rattle.bus_dialogue.specs.Exchange.{Exchange, one_message, plan_after_message, plan_anew, struck_plan}
-use Rattle.bus_dialogue.specs.NextPhase.{phase_of}
-use Rattle.bus_dialogue.specs.Planning.{plan_with_byte}
+use Rattle.bus_due.specs.bus_base.specs.Faults.{counted_on}
+use Rattle.bus_due.specs.bus_base.specs.declared.ProcId.{ProcId}
+use Rattle.bus_due.specs.bus_base.specs.declared.Event.TheVariants as events
+use Rattle.bus_due.specs.bus_trace.specs.LineSet.{LineSet}
+use Rattle.bus_due.specs.bus_trace.specs.Changes.{rises}
+use Rattle.bus_due.specs.bus_trace.specs.declared.Row.{Row}
+use Rattle.bus_due.specs.bus_trace.specs.declared.changes.Change.{Change}
+use Rattle.bus_due.specs.bus_trace.specs.declared.connection.Connection.{Connection}
+use Rattle.bus_due.specs.bus_trace.specs.Phases.{changes_phase, is_message_out, is_message_in}
+use Rattle.bus_due.specs.bus_trace.specs.Terms.{receiver_in, is_fault}
+use Rattle.bus_due.specs.msg_grammar.specs.declared.message.MsgIn.TheVariants as to_initiator
+use Rattle.bus_due.specs.scenario.specs.Value.{ScenarioValue}
+use Rattle.bus_due.specs.bus_lines.specs.Handshakes.{Handshakes, no_handshakes, handshakes_after, answered_if, asked_if, strikes_if}
+use Rattle.bus_due.specs.disk_array.specs.ArrayHistory.{reply_in}
+use Rattle.bus_due.specs.disk_array.specs.Execution.{Reply}
+use Rattle.bus_due.specs.disk_array.specs.Processes.{Process}
+use Rattle.bus_due.specs.disk_array.specs.SoundArray.{HasSeats}
+use Rattle.bus_due.specs.disk_array.specs.Steps as Steps
+use Rattle.bus_due.specs.disk_array.specs.Units.{Array, settled_array}
+use Rattle.bus_due.specs.bus_story.specs.BusState.{row_reading}
+use Rattle.bus_due.specs.bus_story.specs.HistoryEvents.{carried_if, is_complete, is_completion, end_events, phase_events, link_events, row_events_by}
+use Rattle.bus_due.specs.bus_story.specs.Items.{Item, process, abort}
+use Rattle.bus_due.specs.bus_story.specs.Links.{Link}
+use Rattle.bus_due.specs.bus_story.proofs.CarriedLists.{carried_id}
+use Rattle.bus_due.specs.bus_dialogue.specs.declared.exchange.Cause.{Cause}
+use Rattle.bus_due.specs.bus_dialogue.specs.declared.exchange.Cause.TheVariants as causes
+use Rattle.bus_due.specs.bus_dialogue.specs.declared.exchange.Hearing.{Hearing}
+use Rattle.bus_due.specs.bus_dialogue.specs.declared.exchange.Leaving.{Leaving}
+use Rattle.bus_due.specs.bus_dialogue.specs.declared.exchange.Messages.{Messages}
+use Rattle.bus_due.specs.bus_dialogue.specs.declared.exchange.Next.{Next}
+use Rattle.bus_due.specs.bus_dialogue.specs.declared.exchange.Next.TheVariants as nexts
+use Rattle.bus_due.specs.bus_dialogue.specs.declared.exchange.Phase.{Phase}
+use Rattle.bus_due.specs.bus_dialogue.specs.declared.exchange.Phase.TheVariants as phases
+use Rattle.bus_due.specs.bus_dialogue.specs.declared.exchange.Plan.{Plan}
+use Rattle.bus_due.specs.bus_dialogue.specs.Exchange.{Exchange, one_message, plan_after_message, plan_anew, struck_plan}
+use Rattle.bus_due.specs.bus_dialogue.specs.NextPhase.{phase_of}
+use Rattle.bus_due.specs.bus_dialogue.specs.Planning.{plan_with_byte}
 use Rattle.bus_due.specs.RunState.{RunState, array_of, or_start, bus_of, process_item, process_served, carried_here}
 use Rattle.bus_due.specs.RunSteps.{run_state_after}
 use Rattle.bus_due.specs.Sights.{hearing_of, leaving}
@@ -46,7 +46,7 @@ use Rattle.bus_books.specs.Hearing.{is_in_phase}
 use Rattle.bus_books.specs.Rows.{IsRowIn, reading_in}
 use Rattle.bus_books.specs.Traces.{GoesOn}
 use Rattle.bus_books.proofs.InConnection.{InConnection, in_connection, reading_is, same_phase_is}
-use Rattle.disk_array.proofs.SoundArrays.{id_is}
+use Rattle.bus_due.specs.disk_array.proofs.SoundArrays.{id_is}
 use Rattle.trace_laws.specs.Places.{AnsweredOpen, Closes, completes, disconnects, PlacedBefore, IsTaken, PlacedAsked, PlacedIn, PlacedIf, HasPlaces}
 use Rattle.trace_laws.proofs.CommandStays.{phase_same}
 use Rattle.trace_laws.proofs.AnsweredProcesses.{end_is, leaves}
@@ -54,7 +54,7 @@ use Rattle.trace_laws.proofs.PhaseLines.{in_phase}
 use Rattle.trace_laws.proofs.PlaceEvents.{turned_none, passes_step}
 use Rattle.trace_laws.proofs.PlaceTurnRows.{RowPlaced}
 use Rattle.trace_laws.proofs.PlaceTurned.{row_turned, row_none}
-use Rattle.bus_base.proofs.Tests.{wrong, wrong'}
+use Rattle.bus_due.specs.bus_base.proofs.Tests.{wrong, wrong'}
 use Rattle.link_laws.proofs.Asks.{counted_some}
 use Rattle.trace_laws.specs.ItemTalks.{is_complete_in}
 

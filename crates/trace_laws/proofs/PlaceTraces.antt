@@ -1,18 +1,18 @@
 -- After a row of a prompt trace the process that a target serves stands in the plain disk array where the phase says.
 use Rattle.std.proofs.Common.{◌≡◌, ◌∙◌, ◌<◌, false, List, ◌∷◌, Some, sym, ap}
-use Rattle.bus_story.specs.BusState.{row_reading}
-use Rattle.bus_trace.specs.declared.Row.{Row}
-use Rattle.bus_trace.specs.declared.connection.Connection.{Connection}
-use Rattle.scenario.specs.Value.{ScenarioValue}
-use Rattle.scenario.specs.Writing.{Obeys}
-use Rattle.disk_array.specs.Units.{Array}
-use Rattle.bus_story.specs.Links.{Link}
+use Rattle.bus_due.specs.bus_story.specs.BusState.{row_reading}
+use Rattle.bus_due.specs.bus_trace.specs.declared.Row.{Row}
+use Rattle.bus_due.specs.bus_trace.specs.declared.connection.Connection.{Connection}
+use Rattle.bus_due.specs.scenario.specs.Value.{ScenarioValue}
+use Rattle.bus_due.specs.scenario.specs.Writing.{Obeys}
+use Rattle.bus_due.specs.disk_array.specs.Units.{Array}
+use Rattle.bus_due.specs.bus_story.specs.Links.{Link}
 use Rattle.bus_due.specs.Next.{IsPrompt}
 use Rattle.bus_due.specs.RunState.{RunState, or_start}
 use Rattle.bus_due.specs.RunSteps.{run_state}
 use Rattle.bus_books.specs.Traces.{Ends}
-use Rattle.bus_laws.proofs.Prompt.{least_is}
-use Rattle.disk_array.specs.Steps.{has_ended}
+use Rattle.link_laws.specs.bus_laws.proofs.Prompt.{least_is}
+use Rattle.bus_due.specs.disk_array.specs.Steps.{has_ended}
 use Rattle.trace_laws.specs.Places.{PlaceFacts}
 use Rattle.trace_laws.specs.Tells.{AreRepliesShown, TellsAsLeft}
 use Rattle.trace_laws.proofs.Joint.{Stood, NextStood}

@@ -3,40 +3,40 @@
 use Rattle.std.proofs.Common.{inl, ℕ, ◌≡◌, ◌-◌, Bool, true, false, not, ◌&&◌, ◌||◌, ◌∙◌, List, [], ◌∷◌, Option, Some, None, refl, sym, ap, subst, true≢false}
 use Rattle.std.specs.Prelude.{if◌then◌else◌, is_some}
 use Rattle.std.specs.List.{list_any}
-use Rattle.bus_base.specs.declared.ProcId.{ProcId}
-use Rattle.bus_base.specs.declared.Event.{Event}
-use Rattle.bus_trace.specs.declared.Row.{Row}
-use Rattle.bus_trace.specs.declared.changes.Change.{Change}
-use Rattle.bus_trace.specs.declared.connection.Connection.{Connection}
-use Rattle.bus_trace.specs.Changes.{rises}
-use Rattle.bus_trace.specs.Phases.{changes_phase, is_message_out}
-use Rattle.bus_trace.specs.Terms.{receiver_in}
-use Rattle.msg_grammar.specs.declared.message.MsgIn.TheVariants as to_initiator
-use Rattle.scenario.specs.Value.{ScenarioValue}
-use Rattle.bus_lines.specs.Handshakes.{Handshakes}
-use Rattle.disk_array.specs.ArrayHistory.{reply_in, array_after}
-use Rattle.disk_array.specs.Processes.{Process, process_of}
-use Rattle.disk_array.specs.SoundArray.{IsSound, HasSeats}
-use Rattle.disk_array.specs.Units.{Array}
-use Rattle.disk_array.proofs.SoundArrays.{id_is}
-use Rattle.bus_story.specs.BusState.{row_reading}
-use Rattle.bus_story.specs.CarriedBytes.{CarriedBytes, is_whole_block}
-use Rattle.bus_story.specs.HistoryEvents.{carried_if, is_refuse, queue_event, status_event, status_events, phase_events, link_events, row_events_by}
-use Rattle.bus_story.specs.Items.{Item, process, abort}
-use Rattle.bus_story.specs.Links.{Link}
-use Rattle.bus_story.proofs.CarriedLists.{carried_id}
-use Rattle.bus_dialogue.specs.declared.exchange.Cause.TheVariants as causes
-use Rattle.bus_dialogue.specs.declared.exchange.Hearing.{Hearing}
-use Rattle.bus_dialogue.specs.declared.exchange.Leaving.{Leaving}
-use Rattle.bus_dialogue.specs.declared.exchange.Next.TheVariants as nexts
-use Rattle.bus_dialogue.specs.declared.exchange.Phase.{Phase}
-use Rattle.bus_dialogue.specs.declared.exchange.Phase.TheVariants as phases
-use Rattle.bus_dialogue.specs.declared.exchange.Plan.{Plan}
-use Rattle.bus_dialogue.specs.declared.exchange.Task.{Task}
-use Rattle.bus_dialogue.specs.Arrivals.{policy_of}
-use Rattle.bus_dialogue.specs.Exchange.{plan_anew, one_message, from_byte}
-use Rattle.bus_dialogue.specs.NextPhase.{Serving, phase_of, phase_leaving, leaving_by}
-use Rattle.bus_dialogue.specs.Planning.{plan_in_phase, plan_in_message_out}
+use Rattle.bus_due.specs.bus_base.specs.declared.ProcId.{ProcId}
+use Rattle.bus_due.specs.bus_base.specs.declared.Event.{Event}
+use Rattle.bus_due.specs.bus_trace.specs.declared.Row.{Row}
+use Rattle.bus_due.specs.bus_trace.specs.declared.changes.Change.{Change}
+use Rattle.bus_due.specs.bus_trace.specs.declared.connection.Connection.{Connection}
+use Rattle.bus_due.specs.bus_trace.specs.Changes.{rises}
+use Rattle.bus_due.specs.bus_trace.specs.Phases.{changes_phase, is_message_out}
+use Rattle.bus_due.specs.bus_trace.specs.Terms.{receiver_in}
+use Rattle.bus_due.specs.msg_grammar.specs.declared.message.MsgIn.TheVariants as to_initiator
+use Rattle.bus_due.specs.scenario.specs.Value.{ScenarioValue}
+use Rattle.bus_due.specs.bus_lines.specs.Handshakes.{Handshakes}
+use Rattle.bus_due.specs.disk_array.specs.ArrayHistory.{reply_in, array_after}
+use Rattle.bus_due.specs.disk_array.specs.Processes.{Process, process_of}
+use Rattle.bus_due.specs.disk_array.specs.SoundArray.{IsSound, HasSeats}
+use Rattle.bus_due.specs.disk_array.specs.Units.{Array}
+use Rattle.bus_due.specs.disk_array.proofs.SoundArrays.{id_is}
+use Rattle.bus_due.specs.bus_story.specs.BusState.{row_reading}
+use Rattle.bus_due.specs.bus_story.specs.CarriedBytes.{CarriedBytes, is_whole_block}
+use Rattle.bus_due.specs.bus_story.specs.HistoryEvents.{carried_if, is_refuse, queue_event, status_event, status_events, phase_events, link_events, row_events_by}
+use Rattle.bus_due.specs.bus_story.specs.Items.{Item, process, abort}
+use Rattle.bus_due.specs.bus_story.specs.Links.{Link}
+use Rattle.bus_due.specs.bus_story.proofs.CarriedLists.{carried_id}
+use Rattle.bus_due.specs.bus_dialogue.specs.declared.exchange.Cause.TheVariants as causes
+use Rattle.bus_due.specs.bus_dialogue.specs.declared.exchange.Hearing.{Hearing}
+use Rattle.bus_due.specs.bus_dialogue.specs.declared.exchange.Leaving.{Leaving}
+use Rattle.bus_due.specs.bus_dialogue.specs.declared.exchange.Next.TheVariants as nexts
+use Rattle.bus_due.specs.bus_dialogue.specs.declared.exchange.Phase.{Phase}
+use Rattle.bus_due.specs.bus_dialogue.specs.declared.exchange.Phase.TheVariants as phases
+use Rattle.bus_due.specs.bus_dialogue.specs.declared.exchange.Plan.{Plan}
+use Rattle.bus_due.specs.bus_dialogue.specs.declared.exchange.Task.{Task}
+use Rattle.bus_due.specs.bus_dialogue.specs.Arrivals.{policy_of}
+use Rattle.bus_due.specs.bus_dialogue.specs.Exchange.{plan_anew, one_message, from_byte}
+use Rattle.bus_due.specs.bus_dialogue.specs.NextPhase.{Serving, phase_of, phase_leaving, leaving_by}
+use Rattle.bus_due.specs.bus_dialogue.specs.Planning.{plan_in_phase, plan_in_message_out}
 use Rattle.bus_due.specs.Defs.{target_def_of}
 use Rattle.bus_due.specs.RunState.{RunState, array_of, or_start, bus_of, process_item, process_served, carried_here}
 use Rattle.bus_due.specs.RunSteps.{run_state_after, array_after_events}
@@ -51,19 +51,19 @@ use Rattle.trace_laws.proofs.Impossible.{none_some}
 use Rattle.trace_laws.proofs.PhaseLines.{is_status}
 use Rattle.trace_laws.proofs.PlaceEvents.{Turned, status_events_are, queue_events_are}
 use Rattle.trace_laws.proofs.PlaceLeavings.{HasOneRun}
-use Rattle.disk_array.specs.Execution.{Reply}
+use Rattle.bus_due.specs.disk_array.specs.Execution.{Reply}
 use Rattle.trace_laws.proofs.PlaceTurns.{OutOf, PlacedNext, Standing, IsLeft, reply_shown, turns, command_not_out}
 use Rattle.trace_laws.proofs.PlaceCommands.{command_shown, command_turns}
-use Rattle.bus_base.proofs.Tests.{wrong'}
-use Rattle.scsi_device.specs.Heard.{is_command_phase}
+use Rattle.bus_due.specs.bus_base.proofs.Tests.{wrong'}
+use Rattle.target_units.specs.scsi_device.specs.Heard.{is_command_phase}
 
 -- ---- what a row shows where another phase begins
 
 pub shown_is : (s : ScenarioValue) (k : RunState) (row : Row) (n : Connection) (c : Change) (l : Link) → IsRowIn k row n c → changes_phase c ≡ true → is_some (receiver_in n c) ≡ false → k.story.link ≡ Some l → row_events_by s k.story (row_reading k.story.bus_state row) row ≡ phase_events s k.story (carried_if k.story l.item) c
 shown_is s k row n c l r ep none link =
     (λ i. row_events_by s k.story (reading_is k row n c false r none i) row)
-    ∙ (λ i. if r.calm i then (if rises c.own.rst c.next.rst then Rattle.bus_base.specs.declared.Event.TheVariants.Reset row.dev ∷ [] else []) else link_events s k.story (link i) (reading_in k.story.bus_state n c false))
-    ∙ ap (λ (q : Bool). if q then phase_events s k.story (carried_if k.story l.item) c else (if Rattle.bus_story.specs.HistoryEvents.is_completion l c then Rattle.bus_story.specs.HistoryEvents.end_events (carried_if k.story l.item) else [])) ep
+    ∙ (λ i. if r.calm i then (if rises c.own.rst c.next.rst then Rattle.bus_due.specs.bus_base.specs.declared.Event.TheVariants.Reset row.dev ∷ [] else []) else link_events s k.story (link i) (reading_in k.story.bus_state n c false))
+    ∙ ap (λ (q : Bool). if q then phase_events s k.story (carried_if k.story l.item) c else (if Rattle.bus_due.specs.bus_story.specs.HistoryEvents.is_completion l c then Rattle.bus_due.specs.bus_story.specs.HistoryEvents.end_events (carried_if k.story l.item) else [])) ep
 
 -- Of a process.
 marks_gone : (x m : Bool) (y : Bool) (a b : List Event) → m ≡ false → (if x && not m && y then a else b) ≡ (if x && y then a else b)

@@ -2,33 +2,33 @@
 use Rattle.std.proofs.Common.{inl, inr, ◌≡◌, ◌⊎◌, Bool, true, false, not, ◌&&◌, ◌||◌, ◌∙◌, List, [], ◌∷◌, Option, Some, None, refl, sym, ap, subst}
 use Rattle.std.specs.Prelude.{if◌then◌else◌, is_some}
 use Rattle.std.proofs.lemmas.Option.{same_Some}
-use Rattle.bus_base.specs.declared.ProcId.{ProcId}
-use Rattle.bus_base.specs.declared.Event.{Event}
-use Rattle.bus_trace.specs.LineSet.{LineSet}
-use Rattle.bus_trace.specs.declared.Row.{Row}
-use Rattle.bus_trace.specs.declared.changes.Change.{Change}
-use Rattle.bus_trace.specs.declared.connection.Connection.{Connection}
-use Rattle.bus_trace.specs.Phases.{changes_phase, is_message_out}
-use Rattle.bus_trace.specs.Terms.{receiver_in, is_fault}
-use Rattle.scenario.specs.Value.{ScenarioValue}
-use Rattle.disk_array.specs.Processes.{Process, same_id}
-use Rattle.disk_array.specs.SoundArray.{HasSeats}
-use Rattle.disk_array.specs.Units.{Array}
-use Rattle.disk_array.proofs.SoundArrays.{id_is}
-use Rattle.bus_story.specs.BusState.{row_reading}
-use Rattle.bus_story.specs.HistoryEvents.{carried_if, phase_events, row_events_by}
-use Rattle.bus_story.specs.Items.{Item, process, abort}
-use Rattle.bus_story.specs.Links.{Link}
-use Rattle.bus_dialogue.specs.declared.exchange.Cause.{Cause}
-use Rattle.bus_dialogue.specs.declared.exchange.Cause.TheVariants as causes
-use Rattle.bus_dialogue.specs.declared.exchange.Hearing.{Hearing}
-use Rattle.bus_dialogue.specs.declared.exchange.Leaving.{Leaving}
-use Rattle.bus_dialogue.specs.declared.exchange.Phase.{Phase}
-use Rattle.bus_dialogue.specs.declared.exchange.Phase.TheVariants as phases
-use Rattle.bus_dialogue.specs.declared.exchange.Plan.{Plan}
-use Rattle.bus_dialogue.specs.Exchange.{Exchange, plan_anew}
-use Rattle.bus_dialogue.specs.NextPhase.{phase_of}
-use Rattle.bus_dialogue.specs.Planning.{plan_in_phase, plan_in_message_out}
+use Rattle.bus_due.specs.bus_base.specs.declared.ProcId.{ProcId}
+use Rattle.bus_due.specs.bus_base.specs.declared.Event.{Event}
+use Rattle.bus_due.specs.bus_trace.specs.LineSet.{LineSet}
+use Rattle.bus_due.specs.bus_trace.specs.declared.Row.{Row}
+use Rattle.bus_due.specs.bus_trace.specs.declared.changes.Change.{Change}
+use Rattle.bus_due.specs.bus_trace.specs.declared.connection.Connection.{Connection}
+use Rattle.bus_due.specs.bus_trace.specs.Phases.{changes_phase, is_message_out}
+use Rattle.bus_due.specs.bus_trace.specs.Terms.{receiver_in, is_fault}
+use Rattle.bus_due.specs.scenario.specs.Value.{ScenarioValue}
+use Rattle.bus_due.specs.disk_array.specs.Processes.{Process, same_id}
+use Rattle.bus_due.specs.disk_array.specs.SoundArray.{HasSeats}
+use Rattle.bus_due.specs.disk_array.specs.Units.{Array}
+use Rattle.bus_due.specs.disk_array.proofs.SoundArrays.{id_is}
+use Rattle.bus_due.specs.bus_story.specs.BusState.{row_reading}
+use Rattle.bus_due.specs.bus_story.specs.HistoryEvents.{carried_if, phase_events, row_events_by}
+use Rattle.bus_due.specs.bus_story.specs.Items.{Item, process, abort}
+use Rattle.bus_due.specs.bus_story.specs.Links.{Link}
+use Rattle.bus_due.specs.bus_dialogue.specs.declared.exchange.Cause.{Cause}
+use Rattle.bus_due.specs.bus_dialogue.specs.declared.exchange.Cause.TheVariants as causes
+use Rattle.bus_due.specs.bus_dialogue.specs.declared.exchange.Hearing.{Hearing}
+use Rattle.bus_due.specs.bus_dialogue.specs.declared.exchange.Leaving.{Leaving}
+use Rattle.bus_due.specs.bus_dialogue.specs.declared.exchange.Phase.{Phase}
+use Rattle.bus_due.specs.bus_dialogue.specs.declared.exchange.Phase.TheVariants as phases
+use Rattle.bus_due.specs.bus_dialogue.specs.declared.exchange.Plan.{Plan}
+use Rattle.bus_due.specs.bus_dialogue.specs.Exchange.{Exchange, plan_anew}
+use Rattle.bus_due.specs.bus_dialogue.specs.NextPhase.{phase_of}
+use Rattle.bus_due.specs.bus_dialogue.specs.Planning.{plan_in_phase, plan_in_message_out}
 use Rattle.bus_due.specs.RunState.{RunState, bus_of, process_item, process_served, carried_here}
 use Rattle.bus_due.specs.RunSteps.{run_state_after, array_after_events}
 use Rattle.bus_due.specs.Sights.{hearing_of, leaving}
@@ -44,7 +44,7 @@ use Rattle.trace_laws.proofs.PhaseLines.{out_phase}
 use Rattle.trace_laws.proofs.PlaceEvents.{Turned, turned_none}
 use Rattle.trace_laws.proofs.PlaceTurns.{OutOf, PlacedNext, reply_shown}
 use Rattle.trace_laws.proofs.PlaceTurnRows.{IsTurnAsked, RowPlaced, asked_by, enters, process_turn, other_shown, shown_is}
-use Rattle.bus_base.proofs.Tests.{wrong, wrong'}
+use Rattle.bus_due.specs.bus_base.proofs.Tests.{wrong, wrong'}
 
 -- Another process than the one that is served.
 pub other_id : (x id : ProcId) → is_served_by (Some (process x)) id ≡ false → same_id x id ≡ false
@@ -155,7 +155,7 @@ turn_row s k row n c l h seats g ep none ef link item there whereto asked = by_s
         by (inr z) =
             let u = asked.unnamed z in
             let quiet : phase_events s k.story (Some (carried_here k p.id)) c ≡ [] =
-            other_shown s k c p.id u.1 ∙ ap (λ (x : Bool). if x && not ((carried_here k p.id).shown || (carried_here k p.id).refused) then Rattle.bus_story.specs.HistoryEvents.status_event p.id (carried_here k p.id).failure ∷ [] else []) u.0 in
+            other_shown s k c p.id u.1 ∙ ap (λ (x : Bool). if x && not ((carried_here k p.id).shown || (carried_here k p.id).refused) then Rattle.bus_due.specs.bus_story.specs.HistoryEvents.status_event p.id (carried_here k p.id).failure ∷ [] else []) u.0 in
             row_turned s k row a p [] q h.array_is e here (shown ∙ ap (λ (x : Option Item). phase_events s k.story (carried_if k.story x) c) z) (subst (λ (x : List Event). Turned s a p.id x q) quiet t) f
 
     of_process : (p : Process) → k.served ≡ Some (process p.id) → process_served s k ≡ Some p → (y : Bool) → k.exchange.begun ≡ y → RowPlaced s k row a
@@ -180,7 +180,7 @@ turn_row s k row n c l h seats g ep none ef link item there whereto asked = by_s
     none_shown x e f = shown ∙ by item
       where
         by : (l.item ≡ k.served) ⊎ (l.item ≡ None) → phase_events s k.story (carried_if k.story l.item) c ≡ []
-        by (inl z) = ap (λ (y : Option Item). phase_events s k.story (carried_if k.story y) c) (z ∙ e) ∙ ap (λ (y : Option Rattle.bus_story.specs.CarriedBytes.CarriedBytes). phase_events s k.story y c) f
+        by (inl z) = ap (λ (y : Option Item). phase_events s k.story (carried_if k.story y) c) (z ∙ e) ∙ ap (λ (y : Option Rattle.bus_due.specs.bus_story.specs.CarriedBytes.CarriedBytes). phase_events s k.story y c) f
         by (inr z) = ap (λ (y : Option Item). phase_events s k.story (carried_if k.story y) c) z
 
     by_served : (x : Option Item) → k.served ≡ x → RowPlaced s k row a

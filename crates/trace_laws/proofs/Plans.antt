@@ -2,39 +2,39 @@
 use Rattle.std.proofs.Common.{ℕ, ◌≡◌, ◌≤◌, Bool, true, false, not, ◌&&◌, ◌==◌, ◌∙◌, List, length, length-append, Option, Some, None, refl, sym, ap, arith}
 use Rattle.std.specs.Prelude.{◌+◌, ◌-◌, if◌then◌else◌, is_some, nat_lt}
 use Rattle.std.proofs.lemmas.Bool.{and_parts, ltb-false}
-use Rattle.bus_trace.specs.LineSet.{LineSet}
-use Rattle.bus_trace.specs.declared.Row.{Row}
-use Rattle.bus_trace.specs.declared.changes.Change.{Change}
-use Rattle.bus_trace.specs.declared.connection.Connection.{Connection}
-use Rattle.bus_trace.specs.declared.agreements.Agreement.{Agreement}
-use Rattle.bus_trace.specs.Changes.{implies}
-use Rattle.bus_trace.specs.Phases.{changes_phase, is_data, is_message_out, is_message_in}
-use Rattle.bus_trace.specs.Terms.{receiver_in}
-use Rattle.msg_grammar.specs.declared.message.MsgIn.{MsgIn}
-use Rattle.scenario.specs.Value.{ScenarioValue}
-use Rattle.scenario.specs.declared.value.Policy.{Policy}
-use Rattle.scenario.specs.declared.value.Policy.TheVariants as policies
-use Rattle.scenario.specs.declared.value.TargetDef.{TargetDef}
-use Rattle.disk_array.specs.Processes.{Process}
-use Rattle.bus_dialogue.specs.declared.exchange.Arrival.{Arrival}
-use Rattle.bus_dialogue.specs.declared.exchange.Arrival.TheVariants as arrivals
-use Rattle.bus_dialogue.specs.declared.exchange.Cause.{Cause}
-use Rattle.bus_dialogue.specs.declared.exchange.Cause.TheVariants as causes
-use Rattle.bus_dialogue.specs.declared.exchange.Hearing.{Hearing}
-use Rattle.bus_dialogue.specs.declared.exchange.Leaving.{Leaving}
-use Rattle.bus_dialogue.specs.declared.exchange.Messages.{Messages}
-use Rattle.bus_dialogue.specs.declared.exchange.Next.{Next}
-use Rattle.bus_dialogue.specs.declared.exchange.Next.TheVariants as nexts
-use Rattle.bus_dialogue.specs.declared.exchange.Phase.{Phase}
-use Rattle.bus_dialogue.specs.declared.exchange.Phase.TheVariants as phases
-use Rattle.bus_dialogue.specs.declared.exchange.Plan.{Plan}
-use Rattle.bus_dialogue.specs.declared.exchange.Task.{Task}
-use Rattle.bus_dialogue.specs.Arrivals.{policy_of}
-use Rattle.bus_dialogue.specs.DataRuns.{runs_in_all}
-use Rattle.bus_dialogue.specs.Exchange.{Exchange, plan_anew, plan_after_message, struck_plan, message_bytes, bytes_of_messages, from_byte}
-use Rattle.bus_dialogue.specs.NextPhase.{Serving, phase_of, phase_leaving, leaving_by, bus_free, phase_entry, recovery, recovery_limit, pointer_restoration, next_data_phase, request_or_command, after_offer, message_repetition, message_out_leaving, after_messages, disconnection, disconnect_messages, after_arrival, command_leaving, after_run, data_in_leaving, data_out_leaving, with_task}
-use Rattle.bus_dialogue.specs.Planning.{cause_after, plan_in_message_out, plan_with_byte}
-use Rattle.bus_dialogue.specs.Words.{request_by, is_naming}
+use Rattle.bus_due.specs.bus_trace.specs.LineSet.{LineSet}
+use Rattle.bus_due.specs.bus_trace.specs.declared.Row.{Row}
+use Rattle.bus_due.specs.bus_trace.specs.declared.changes.Change.{Change}
+use Rattle.bus_due.specs.bus_trace.specs.declared.connection.Connection.{Connection}
+use Rattle.bus_due.specs.bus_trace.specs.declared.agreements.Agreement.{Agreement}
+use Rattle.bus_due.specs.bus_trace.specs.Changes.{implies}
+use Rattle.bus_due.specs.bus_trace.specs.Phases.{changes_phase, is_data, is_message_out, is_message_in}
+use Rattle.bus_due.specs.bus_trace.specs.Terms.{receiver_in}
+use Rattle.bus_due.specs.msg_grammar.specs.declared.message.MsgIn.{MsgIn}
+use Rattle.bus_due.specs.scenario.specs.Value.{ScenarioValue}
+use Rattle.bus_due.specs.scenario.specs.declared.value.Policy.{Policy}
+use Rattle.bus_due.specs.scenario.specs.declared.value.Policy.TheVariants as policies
+use Rattle.bus_due.specs.scenario.specs.declared.value.TargetDef.{TargetDef}
+use Rattle.bus_due.specs.disk_array.specs.Processes.{Process}
+use Rattle.bus_due.specs.bus_dialogue.specs.declared.exchange.Arrival.{Arrival}
+use Rattle.bus_due.specs.bus_dialogue.specs.declared.exchange.Arrival.TheVariants as arrivals
+use Rattle.bus_due.specs.bus_dialogue.specs.declared.exchange.Cause.{Cause}
+use Rattle.bus_due.specs.bus_dialogue.specs.declared.exchange.Cause.TheVariants as causes
+use Rattle.bus_due.specs.bus_dialogue.specs.declared.exchange.Hearing.{Hearing}
+use Rattle.bus_due.specs.bus_dialogue.specs.declared.exchange.Leaving.{Leaving}
+use Rattle.bus_due.specs.bus_dialogue.specs.declared.exchange.Messages.{Messages}
+use Rattle.bus_due.specs.bus_dialogue.specs.declared.exchange.Next.{Next}
+use Rattle.bus_due.specs.bus_dialogue.specs.declared.exchange.Next.TheVariants as nexts
+use Rattle.bus_due.specs.bus_dialogue.specs.declared.exchange.Phase.{Phase}
+use Rattle.bus_due.specs.bus_dialogue.specs.declared.exchange.Phase.TheVariants as phases
+use Rattle.bus_due.specs.bus_dialogue.specs.declared.exchange.Plan.{Plan}
+use Rattle.bus_due.specs.bus_dialogue.specs.declared.exchange.Task.{Task}
+use Rattle.bus_due.specs.bus_dialogue.specs.Arrivals.{policy_of}
+use Rattle.bus_due.specs.bus_dialogue.specs.DataRuns.{runs_in_all}
+use Rattle.bus_due.specs.bus_dialogue.specs.Exchange.{Exchange, plan_anew, plan_after_message, struck_plan, message_bytes, bytes_of_messages, from_byte}
+use Rattle.bus_due.specs.bus_dialogue.specs.NextPhase.{Serving, phase_of, phase_leaving, leaving_by, bus_free, phase_entry, recovery, recovery_limit, pointer_restoration, next_data_phase, request_or_command, after_offer, message_repetition, message_out_leaving, after_messages, disconnection, disconnect_messages, after_arrival, command_leaving, after_run, data_in_leaving, data_out_leaving, with_task}
+use Rattle.bus_due.specs.bus_dialogue.specs.Planning.{cause_after, plan_in_message_out, plan_with_byte}
+use Rattle.bus_due.specs.bus_dialogue.specs.Words.{request_by, is_naming}
 use Rattle.bus_due.specs.Defs.{host_of}
 use Rattle.bus_due.specs.RunState.{RunState, bus_of, process_item, process_served}
 use Rattle.bus_due.specs.RunSteps.{run_state_after}
@@ -48,8 +48,8 @@ use Rattle.bus_books.proofs.InConnection.{InConnection, in_connection, same_phas
 use Rattle.trace_laws.proofs.PhaseLines.{in_phase, is_data_phase}
 use Rattle.trace_laws.proofs.Tests.{some_count}
 use Rattle.trace_laws.proofs.UndoneLeavings.{is_to_message_in}
-use Rattle.bus_base.proofs.Tests.{wrong'}
-use Rattle.scsi_device.specs.Writes.{is_data_out}
+use Rattle.bus_due.specs.bus_base.proofs.Tests.{wrong'}
+use Rattle.target_units.specs.scsi_device.specs.Writes.{is_data_out}
 
 abbrev pub is_in_message : Cause → Bool
 is_in_message causes.InMessage = true

@@ -2,30 +2,30 @@
 use Rattle.std.proofs.Common.{◌≡◌, ◌⊎◌, inl, inr, ◌*◌, Bool, true, false, not, ◌&&◌, ◌∙◌, List, Option, Some, None, refl, sym, ap, subst}
 use Rattle.std.specs.Prelude.{if◌then◌else◌, is_some}
 use Rattle.std.proofs.lemmas.Option.{same_Some}
-use Rattle.bus_base.specs.declared.ProcId.{ProcId}
-use Rattle.bus_trace.specs.declared.Row.{Row}
-use Rattle.bus_trace.specs.declared.changes.Change.{Change}
-use Rattle.bus_trace.specs.declared.connection.Connection.{Connection}
-use Rattle.bus_trace.specs.Phases.{is_message_in}
-use Rattle.bus_trace.specs.Terms.{receiver_in}
-use Rattle.msg_grammar.specs.declared.message.MsgIn.{MsgIn}
-use Rattle.msg_grammar.specs.declared.message.MsgOut.{MsgOut}
-use Rattle.scenario.specs.declared.value.Tag.{Tag}
-use Rattle.scenario.specs.declared.value.Tag.TheVariants as tags
-use Rattle.scenario.specs.Value.{ScenarioValue}
-use Rattle.disk_array.specs.Processes.{Process}
-use Rattle.bus_story.specs.BusState.{RowReading, row_reading}
-use Rattle.bus_story.specs.CarriedBytes.{Area, CarriedBytes, carried_of, with_restored_pointers}
-use Rattle.bus_story.specs.HistoryEvents.{carried_if, row_events_by}
-use Rattle.bus_story.specs.Items.{Item, process, abort, has_item}
-use Rattle.bus_story.specs.Links.{Link, plain, link_of, link_after_name}
-use Rattle.bus_story.specs.Story.{Story}
-use Rattle.bus_story.specs.TraceHistory.{aim_of, story_with_restored, story_with_sent, story_after_connection, story_after_out, story_after_in, story_after_byte, story_after_fault, story_in_connection, story_on_bus, story_by_change}
-use Rattle.bus_dialogue.specs.declared.exchange.Messages.{Messages}
-use Rattle.bus_dialogue.specs.Exchange.{Exchange}
-use Rattle.bus_dialogue.specs.NextPhase.{phase_of}
-use Rattle.bus_dialogue.specs.Wants.{Ready}
-use Rattle.bus_dialogue.specs.Words.{naming_messages}
+use Rattle.bus_due.specs.bus_base.specs.declared.ProcId.{ProcId}
+use Rattle.bus_due.specs.bus_trace.specs.declared.Row.{Row}
+use Rattle.bus_due.specs.bus_trace.specs.declared.changes.Change.{Change}
+use Rattle.bus_due.specs.bus_trace.specs.declared.connection.Connection.{Connection}
+use Rattle.bus_due.specs.bus_trace.specs.Phases.{is_message_in}
+use Rattle.bus_due.specs.bus_trace.specs.Terms.{receiver_in}
+use Rattle.bus_due.specs.msg_grammar.specs.declared.message.MsgIn.{MsgIn}
+use Rattle.bus_due.specs.msg_grammar.specs.declared.message.MsgOut.{MsgOut}
+use Rattle.bus_due.specs.scenario.specs.declared.value.Tag.{Tag}
+use Rattle.bus_due.specs.scenario.specs.declared.value.Tag.TheVariants as tags
+use Rattle.bus_due.specs.scenario.specs.Value.{ScenarioValue}
+use Rattle.bus_due.specs.disk_array.specs.Processes.{Process}
+use Rattle.bus_due.specs.bus_story.specs.BusState.{RowReading, row_reading}
+use Rattle.bus_due.specs.bus_story.specs.CarriedBytes.{Area, CarriedBytes, carried_of, with_restored_pointers}
+use Rattle.bus_due.specs.bus_story.specs.HistoryEvents.{carried_if, row_events_by}
+use Rattle.bus_due.specs.bus_story.specs.Items.{Item, process, abort, has_item}
+use Rattle.bus_due.specs.bus_story.specs.Links.{Link, plain, link_of, link_after_name}
+use Rattle.bus_due.specs.bus_story.specs.Story.{Story}
+use Rattle.bus_due.specs.bus_story.specs.TraceHistory.{aim_of, story_with_restored, story_with_sent, story_after_connection, story_after_out, story_after_in, story_after_byte, story_after_fault, story_in_connection, story_on_bus, story_by_change}
+use Rattle.bus_due.specs.bus_dialogue.specs.declared.exchange.Messages.{Messages}
+use Rattle.bus_due.specs.bus_dialogue.specs.Exchange.{Exchange}
+use Rattle.bus_due.specs.bus_dialogue.specs.NextPhase.{phase_of}
+use Rattle.bus_due.specs.bus_dialogue.specs.Wants.{Ready}
+use Rattle.bus_due.specs.bus_dialogue.specs.Words.{naming_messages}
 use Rattle.bus_due.specs.LastingState.{ProcessProgress, progress_in}
 use Rattle.bus_due.specs.RunState.{RunState, bus_of, carried_here}
 use Rattle.bus_due.specs.RunSteps.{run_state_after, progress_after, leaving_of, exchange_after, first_exchange, served_after, item_if, messages_if}
@@ -40,8 +40,8 @@ use Rattle.trace_laws.proofs.Impossible.{none_some}
 use Rattle.trace_laws.proofs.PhaseLines.{in_phase}
 use Rattle.trace_laws.proofs.PointerStories.{SamePointers, events_same}
 use Rattle.trace_laws.proofs.PointerStorySteps.{in_link}
-use Rattle.bus_story.proofs.StorySteps.{byte_link, out_link, events_link, first_link as begun_link, fault_link}
-use Rattle.bus_story.proofs.CarriedLists.{carried_id}
+use Rattle.bus_due.specs.bus_story.proofs.StorySteps.{byte_link, out_link, events_link, first_link as begun_link, fault_link}
+use Rattle.bus_due.specs.bus_story.proofs.CarriedLists.{carried_id}
 
 -- ---- the first row
 
@@ -129,10 +129,10 @@ begins_served s k row n q h names anew served waits = go n.reselected refl (sym 
           begun = begun ∙ e;
           undone = tt;
           undisturbed = inr (refl, refl);
-          next = ap (λ (x : Exchange). x.plan.next) made ∙ ap (λ (x : Bool). (Rattle.bus_dialogue.specs.Planning.first_plan x (not n.reselected && Rattle.bus_due.specs.RunSteps.may_negotiate k n (aim_of k.story.aims n.initiator)) (Rattle.bus_due.specs.RunSteps.naming_of s k n)).next) e;
+          next = ap (λ (x : Exchange). x.plan.next) made ∙ ap (λ (x : Bool). (Rattle.bus_due.specs.bus_dialogue.specs.Planning.first_plan x (not n.reselected && Rattle.bus_due.specs.RunSteps.may_negotiate k n (aim_of k.story.aims n.initiator)) (Rattle.bus_due.specs.RunSteps.naming_of s k n)).next) e;
           plain = subst (λ (x : Messages). OnMessages IsPlainIn x)
               (sym (ap (λ (x : Exchange). x.plan.messages) made
-              ∙ ap (λ (x : Bool). (Rattle.bus_dialogue.specs.Planning.first_plan x (not x && Rattle.bus_due.specs.RunSteps.may_negotiate k n (aim_of k.story.aims n.initiator)) (if x then messages_if (ready_of s k n.target) else Rattle.bus_dialogue.specs.Exchange.no_messages)).messages) e
+              ∙ ap (λ (x : Bool). (Rattle.bus_due.specs.bus_dialogue.specs.Planning.first_plan x (not x && Rattle.bus_due.specs.RunSteps.may_negotiate k n (aim_of k.story.aims n.initiator)) (if x then messages_if (ready_of s k n.target) else Rattle.bus_due.specs.bus_dialogue.specs.Exchange.no_messages)).messages) e
               ∙ ap messages_if er))
               (plain_names r.process);
           saved = ap (λ (x : Area). x.saved) (first_carried s k row n q.id h).moved ∙ ap (λ (x : CarriedBytes). x.moved.saved) there ∙ from ∙ sym start;
@@ -175,7 +175,7 @@ goes_undoes s k row n c now r en knows served h l u el eu =
 
     go : (q : Bool) (o : Option MsgOut) (m : Option MsgIn) → (if q then (if is_some o then story_after_out k.story knows.link o else if is_some m then story_after_in s k.story knows.link m else story_after_byte k.story knows.link d) else story_after_fault k.story knows.link row.kind).link ≡ Some l → k.served ≡ Some (process u.id)
     go false o m e = same (same_Some knows.link l (sym (fault_link k.story knows.link row.kind ∙ knows.link_is) ∙ e))
-    go true (Some o) m e = h knows.link u knows.link_is (ap (λ (x : Link). x.undo) (same_Some (record knows.link { last = Rattle.bus_story.specs.Links.last_out o knows.link }) l (sym (out_link k.story knows.link o) ∙ e)) ∙ eu)
+    go true (Some o) m e = h knows.link u knows.link_is (ap (λ (x : Link). x.undo) (same_Some (record knows.link { last = Rattle.bus_due.specs.bus_story.specs.Links.last_out o knows.link }) l (sym (out_link k.story knows.link o) ∙ e)) ∙ eu)
     go true None None e = same (same_Some knows.link l (sym (byte_link k.story knows.link d ∙ knows.link_is) ∙ e))
     go true None (Some m) e =
-        told knows.link.item refl (ap (λ (x : Link). x.undo) (same_Some (record (link_after_name k.story.sent s.commands knows.link m) { last = Rattle.bus_story.specs.Links.last_in m; before = knows.link.last; undo = carried_if k.story knows.link.item }) l (sym (in_link s k.story knows.link m) ∙ e)) ∙ eu)
+        told knows.link.item refl (ap (λ (x : Link). x.undo) (same_Some (record (link_after_name k.story.sent s.commands knows.link m) { last = Rattle.bus_due.specs.bus_story.specs.Links.last_in m; before = knows.link.last; undo = carried_if k.story knows.link.item }) l (sym (in_link s k.story knows.link m) ∙ e)) ∙ eu)

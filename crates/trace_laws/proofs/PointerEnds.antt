@@ -2,29 +2,29 @@
 use Rattle.std.proofs.Common.{ℕ, zero, suc, ◌≡◌, ◌+◌, ◌*◌, Bool, true, false, not, ◌&&◌, ◌∙◌, List, [], ◌∷◌, Option, Some, None, refl, sym, ap, subst, arith, true≢false}
 use Rattle.std.specs.Prelude.{if◌then◌else◌, is_some, ◌==◌}
 use Rattle.std.specs.List.{list_any}
-use Rattle.bus_base.specs.declared.Event.{Event}
-use Rattle.bus_base.specs.declared.Event.TheVariants as events
-use Rattle.bus_base.specs.declared.ProcId.{ProcId}
-use Rattle.bus_trace.specs.declared.Row.{Row}
-use Rattle.bus_trace.specs.declared.connection.Connection.{Connection}
-use Rattle.bus_trace.specs.Changes.{rises}
-use Rattle.scenario.specs.Needs.{is_write, sent_of}
-use Rattle.scenario.specs.declared.value.CmdDef.{CmdDef}
-use Rattle.scenario.specs.declared.value.Tag.TheVariants as tags
-use Rattle.scenario.specs.Value.{ScenarioValue}
-use Rattle.cdb_codec.specs.Cdb.{command_of}
-use Rattle.disk_array.specs.Processes.{Process, process_of, process_if, process_by, command_at, payload_bytes, sense_block}
-use Rattle.bus_story.specs.BusState.{row_reading}
-use Rattle.bus_story.specs.HistoryEvents.{row_events_by, link_events, bus_free_events}
-use Rattle.bus_story.specs.Items.{Item, process, has_item, command_item, sense_item, is_open}
-use Rattle.bus_story.specs.Links.{Link, LastMessage, plain}
-use Rattle.bus_story.specs.Story.{Story, by_reset, story_with_over, story_with_end, story_with_ends, story_after_event, story_after_events}
-use Rattle.bus_story.specs.TraceHistory.{story_on_bus, story_by_change}
-use Rattle.bus_dialogue.specs.declared.exchange.Cause.{Cause}
-use Rattle.bus_dialogue.specs.declared.exchange.Cause.TheVariants as causes
-use Rattle.bus_dialogue.specs.declared.exchange.Phase.{Phase}
-use Rattle.bus_dialogue.specs.declared.exchange.Phase.TheVariants as phases
-use Rattle.bus_dialogue.specs.NextPhase.{phase_of}
+use Rattle.bus_due.specs.bus_base.specs.declared.Event.{Event}
+use Rattle.bus_due.specs.bus_base.specs.declared.Event.TheVariants as events
+use Rattle.bus_due.specs.bus_base.specs.declared.ProcId.{ProcId}
+use Rattle.bus_due.specs.bus_trace.specs.declared.Row.{Row}
+use Rattle.bus_due.specs.bus_trace.specs.declared.connection.Connection.{Connection}
+use Rattle.bus_due.specs.bus_trace.specs.Changes.{rises}
+use Rattle.bus_due.specs.scenario.specs.Needs.{is_write, sent_of}
+use Rattle.bus_due.specs.scenario.specs.declared.value.CmdDef.{CmdDef}
+use Rattle.bus_due.specs.scenario.specs.declared.value.Tag.TheVariants as tags
+use Rattle.bus_due.specs.scenario.specs.Value.{ScenarioValue}
+use Rattle.bus_due.specs.cdb_codec.specs.Cdb.{command_of}
+use Rattle.bus_due.specs.disk_array.specs.Processes.{Process, process_of, process_if, process_by, command_at, payload_bytes, sense_block}
+use Rattle.bus_due.specs.bus_story.specs.BusState.{row_reading}
+use Rattle.bus_due.specs.bus_story.specs.HistoryEvents.{row_events_by, link_events, bus_free_events}
+use Rattle.bus_due.specs.bus_story.specs.Items.{Item, process, has_item, command_item, sense_item, is_open}
+use Rattle.bus_due.specs.bus_story.specs.Links.{Link, LastMessage, plain}
+use Rattle.bus_due.specs.bus_story.specs.Story.{Story, by_reset, story_with_over, story_with_end, story_with_ends, story_after_event, story_after_events}
+use Rattle.bus_due.specs.bus_story.specs.TraceHistory.{story_on_bus, story_by_change}
+use Rattle.bus_due.specs.bus_dialogue.specs.declared.exchange.Cause.{Cause}
+use Rattle.bus_due.specs.bus_dialogue.specs.declared.exchange.Cause.TheVariants as causes
+use Rattle.bus_due.specs.bus_dialogue.specs.declared.exchange.Phase.{Phase}
+use Rattle.bus_due.specs.bus_dialogue.specs.declared.exchange.Phase.TheVariants as phases
+use Rattle.bus_due.specs.bus_dialogue.specs.NextPhase.{phase_of}
 use Rattle.bus_due.specs.LastingState.{ProcessProgress, progress_in}
 use Rattle.bus_due.specs.RunState.{RunState, bus_of, carried_here}
 use Rattle.bus_due.specs.RunSteps.{run_state_after, progress_after, leaving_of}
@@ -98,9 +98,9 @@ ends_wait s k row n q con next off h = go (ended s k q h)
         ap (λ (x : List Event). has_item (story_after_events s c x).sent.over (process q.id))
         (ap (λ (x : Bool). if x then (if rises d.change.own.rst d.change.next.rst then events.Reset row.dev ∷ [] else []) else link_events s k.story k.story.link d) off
         ∙ ap (λ (x : Option Link). link_events s k.story x d) el
-        ∙ ap (λ (x : Option Connection). if is_some x then Rattle.bus_story.specs.HistoryEvents.connection_events s k.story l d else bus_free_events s l l.last) next
+        ∙ ap (λ (x : Option Connection). if is_some x then Rattle.bus_due.specs.bus_story.specs.HistoryEvents.connection_events s k.story l d else bus_free_events s l l.last) next
         ∙ ap (λ (x : LastMessage). bus_free_events s l x) last
-        ∙ ap (λ (x : Option Item). Rattle.bus_story.specs.HistoryEvents.item_loss_events x) own)
+        ∙ ap (λ (x : Option Item). Rattle.bus_due.specs.bus_story.specs.HistoryEvents.item_loss_events x) own)
         ∙ lost_over s c q.id
 
     go : Ended s k q → IsWaiting s j q

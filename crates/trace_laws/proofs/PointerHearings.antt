@@ -1,23 +1,23 @@
 -- Which message the byte that crosses makes whole: of a message of one byte that very one.
 use Rattle.std.proofs.Common.{ℕ, ◌≡◌, ◌<◌, true, false, ◌∙◌, List, [], ◌∷◌, ◌++◌, length, Option, Some, refl, sym, ap, subst, arith, length-append, true≢false}
 use Rattle.std.specs.Prelude.{slice_index_or, is_some}
-use Rattle.bus_base.proofs.Tests.{nil_of as none_before}
-use Rattle.msg_grammar.specs.declared.message.MsgIn.{MsgIn}
-use Rattle.msg_grammar.specs.declared.message.MsgIn.TheVariants as to_initiator
-use Rattle.msg_grammar.specs.declared.message.MsgOut.TheVariants as to_target
-use Rattle.msg_grammar.specs.Messages.{form_in, form_out, got_in, got_out, in_bytes, FitsIn}
-use Rattle.bus_phases.specs.declared.dialogue.Dialogue.{Dialogue}
-use Rattle.bus_phases.specs.Dialogue.{fresh_bytes}
-use Rattle.bus_story.specs.BusState.{whole_in, whole_out}
-use Rattle.scenario.specs.Value.{ScenarioValue}
-use Rattle.bus_trace.specs.declared.connection.Connection.{Connection}
-use Rattle.bus_story.specs.Items.{Item}
-use Rattle.bus_dialogue.specs.declared.exchange.Cause.{Cause}
-use Rattle.bus_dialogue.specs.declared.exchange.Cause.TheVariants as causes
-use Rattle.bus_dialogue.specs.declared.exchange.Messages.{Messages}
-use Rattle.bus_dialogue.specs.declared.exchange.Plan.{Plan}
-use Rattle.bus_dialogue.specs.Exchange.{Exchange, Speech, next_word, bytes_of_messages, message_bytes, two_messages}
-use Rattle.bus_dialogue.specs.Words.{parity_error, detected_error}
+use Rattle.bus_due.specs.bus_base.proofs.Tests.{nil_of as none_before}
+use Rattle.bus_due.specs.msg_grammar.specs.declared.message.MsgIn.{MsgIn}
+use Rattle.bus_due.specs.msg_grammar.specs.declared.message.MsgIn.TheVariants as to_initiator
+use Rattle.bus_due.specs.msg_grammar.specs.declared.message.MsgOut.TheVariants as to_target
+use Rattle.bus_due.specs.msg_grammar.specs.Messages.{form_in, form_out, got_in, got_out, in_bytes, FitsIn}
+use Rattle.bus_due.specs.bus_phases.specs.declared.dialogue.Dialogue.{Dialogue}
+use Rattle.bus_due.specs.bus_phases.specs.Dialogue.{fresh_bytes}
+use Rattle.bus_due.specs.bus_story.specs.BusState.{whole_in, whole_out}
+use Rattle.bus_due.specs.scenario.specs.Value.{ScenarioValue}
+use Rattle.bus_due.specs.bus_trace.specs.declared.connection.Connection.{Connection}
+use Rattle.bus_due.specs.bus_story.specs.Items.{Item}
+use Rattle.bus_due.specs.bus_dialogue.specs.declared.exchange.Cause.{Cause}
+use Rattle.bus_due.specs.bus_dialogue.specs.declared.exchange.Cause.TheVariants as causes
+use Rattle.bus_due.specs.bus_dialogue.specs.declared.exchange.Messages.{Messages}
+use Rattle.bus_due.specs.bus_dialogue.specs.declared.exchange.Plan.{Plan}
+use Rattle.bus_due.specs.bus_dialogue.specs.Exchange.{Exchange, Speech, next_word, bytes_of_messages, message_bytes, two_messages}
+use Rattle.bus_due.specs.bus_dialogue.specs.Words.{parity_error, detected_error}
 use Rattle.bus_books.specs.Listening.{Understanding, nothing_understood, understood, half_after}
 use Rattle.bus_books.specs.Giving.{AreGiven, OnMessages}
 use Rattle.bus_books.specs.Knowing.{IsNoName}

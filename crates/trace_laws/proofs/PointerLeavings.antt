@@ -3,34 +3,34 @@ use Rattle.std.proofs.Common.{ℕ, ◌≡◌, ◌⊎◌, inl, inr, ◌+◌, ◌*
 use Rattle.std.specs.Prelude.{if◌then◌else◌, is_some, nat_lt, ◌==◌, ◌&&◌, ⊤}
 use Rattle.std.proofs.lemmas.Bool.Decides.{nat_tests}
 use Rattle.std.proofs.lemmas.Option.{same_Some}
-use Rattle.bus_trace.specs.declared.agreements.Agreement.{Agreement}
-use Rattle.bus_trace.specs.declared.agreements.TheConstants.{UNLIMITED_OFFSET}
-use Rattle.bus_lines.specs.Handshakes.{Handshakes}
-use Rattle.msg_grammar.specs.declared.message.MsgIn.{MsgIn}
-use Rattle.msg_grammar.specs.declared.message.MsgIn.TheVariants as to_initiator
-use Rattle.scenario.specs.declared.value.Policy.{Policy}
-use Rattle.scenario.specs.declared.value.Policy.TheVariants as policies
-use Rattle.scenario.specs.declared.value.TargetDef.{TargetDef}
-use Rattle.bus_story.specs.CarriedBytes.{CarriedBytes}
-use Rattle.bus_story.specs.Links.{Link, plain}
-use Rattle.bus_dialogue.specs.declared.exchange.Arrival.{Arrival}
-use Rattle.bus_dialogue.specs.declared.exchange.Arrival.TheVariants as arrivals
-use Rattle.bus_dialogue.specs.declared.exchange.Cause.{Cause}
-use Rattle.bus_dialogue.specs.declared.exchange.Cause.TheVariants as causes
-use Rattle.bus_dialogue.specs.declared.exchange.Leaving.{Leaving}
-use Rattle.bus_dialogue.specs.declared.exchange.Messages.{Messages}
-use Rattle.bus_dialogue.specs.declared.exchange.Next.{Next}
-use Rattle.bus_dialogue.specs.declared.exchange.Next.TheVariants as nexts
-use Rattle.bus_dialogue.specs.declared.exchange.Phase.{Phase}
-use Rattle.bus_dialogue.specs.declared.exchange.Phase.TheVariants as phases
-use Rattle.bus_dialogue.specs.declared.exchange.Plan.{Plan}
-use Rattle.bus_dialogue.specs.declared.exchange.Task.{Task}
-use Rattle.bus_dialogue.specs.Arrivals.{policy_of, is_never}
-use Rattle.bus_dialogue.specs.DataRuns.{runs_in_all}
-use Rattle.bus_dialogue.specs.Exchange.{one_message, no_messages}
-use Rattle.bus_dialogue.specs.NextPhase.{Serving, bus_free, phase_entry, message_in_entry, with_task, recovery, recovery_limit, pointer_restoration, next_data_phase, request_or_command, after_offer, message_repetition, message_out_leaving, after_messages, disconnection, after_arrival, command_leaving, disconnect_messages, after_run, data_in_leaving, data_out_leaving, phase_leaving}
-use Rattle.bus_dialogue.specs.PhaseBytes.{one_if}
-use Rattle.bus_dialogue.specs.Words.{reply_to, request_by, is_naming, target_answer}
+use Rattle.bus_due.specs.bus_trace.specs.declared.agreements.Agreement.{Agreement}
+use Rattle.bus_due.specs.bus_trace.specs.declared.agreements.TheConstants.{UNLIMITED_OFFSET}
+use Rattle.bus_due.specs.bus_lines.specs.Handshakes.{Handshakes}
+use Rattle.bus_due.specs.msg_grammar.specs.declared.message.MsgIn.{MsgIn}
+use Rattle.bus_due.specs.msg_grammar.specs.declared.message.MsgIn.TheVariants as to_initiator
+use Rattle.bus_due.specs.scenario.specs.declared.value.Policy.{Policy}
+use Rattle.bus_due.specs.scenario.specs.declared.value.Policy.TheVariants as policies
+use Rattle.bus_due.specs.scenario.specs.declared.value.TargetDef.{TargetDef}
+use Rattle.bus_due.specs.bus_story.specs.CarriedBytes.{CarriedBytes}
+use Rattle.bus_due.specs.bus_story.specs.Links.{Link, plain}
+use Rattle.bus_due.specs.bus_dialogue.specs.declared.exchange.Arrival.{Arrival}
+use Rattle.bus_due.specs.bus_dialogue.specs.declared.exchange.Arrival.TheVariants as arrivals
+use Rattle.bus_due.specs.bus_dialogue.specs.declared.exchange.Cause.{Cause}
+use Rattle.bus_due.specs.bus_dialogue.specs.declared.exchange.Cause.TheVariants as causes
+use Rattle.bus_due.specs.bus_dialogue.specs.declared.exchange.Leaving.{Leaving}
+use Rattle.bus_due.specs.bus_dialogue.specs.declared.exchange.Messages.{Messages}
+use Rattle.bus_due.specs.bus_dialogue.specs.declared.exchange.Next.{Next}
+use Rattle.bus_due.specs.bus_dialogue.specs.declared.exchange.Next.TheVariants as nexts
+use Rattle.bus_due.specs.bus_dialogue.specs.declared.exchange.Phase.{Phase}
+use Rattle.bus_due.specs.bus_dialogue.specs.declared.exchange.Phase.TheVariants as phases
+use Rattle.bus_due.specs.bus_dialogue.specs.declared.exchange.Plan.{Plan}
+use Rattle.bus_due.specs.bus_dialogue.specs.declared.exchange.Task.{Task}
+use Rattle.bus_due.specs.bus_dialogue.specs.Arrivals.{policy_of, is_never}
+use Rattle.bus_due.specs.bus_dialogue.specs.DataRuns.{runs_in_all}
+use Rattle.bus_due.specs.bus_dialogue.specs.Exchange.{one_message, no_messages}
+use Rattle.bus_due.specs.bus_dialogue.specs.NextPhase.{Serving, bus_free, phase_entry, message_in_entry, with_task, recovery, recovery_limit, pointer_restoration, next_data_phase, request_or_command, after_offer, message_repetition, message_out_leaving, after_messages, disconnection, after_arrival, command_leaving, disconnect_messages, after_run, data_in_leaving, data_out_leaving, phase_leaving}
+use Rattle.bus_due.specs.bus_dialogue.specs.PhaseBytes.{one_if}
+use Rattle.bus_due.specs.bus_dialogue.specs.Words.{reply_to, request_by, is_naming, target_answer}
 use Rattle.bus_books.specs.Giving.{OnMessage, OnMessages}
 use Rattle.bus_books.specs.Knowing.{IsNoName}
 use Rattle.trace_laws.specs.DataPointers.{is_marked, IsAt, OnUndo, IsPlainIn, IsUndisturbed, IsClosing, PointersIn, calm, restores, saves, saved, disconnects, closes, PointersRefused, still_calm, restores_again, saves_again, disconnects_again, closes_again, IsSettled, IsInRun, PointersAsked, PointersOf}

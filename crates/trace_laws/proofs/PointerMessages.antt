@@ -1,19 +1,19 @@
 -- What the messages that cross make of the data pointers (6.6.13, 6.6.19, 6.6.20).
 use Rattle.std.proofs.Common.{ℕ, ◌≡◌, ◌⊎◌, inl, inr, ◌+◌, ◌<◌, Bool, true, false, ◌∙◌, length, Option, Some, None, refl, sym, ap, subst, arith, true≢false}
 use Rattle.std.proofs.lemmas.Option.{same_Some}
-use Rattle.msg_grammar.specs.declared.message.MsgIn.{MsgIn}
-use Rattle.msg_grammar.specs.declared.message.MsgIn.TheVariants as to_initiator
-use Rattle.msg_grammar.specs.declared.message.MsgOut.{MsgOut}
-use Rattle.msg_grammar.specs.declared.message.MsgOut.TheVariants as to_target
-use Rattle.scenario.specs.declared.value.Policy.{Policy}
-use Rattle.bus_story.specs.CarriedBytes.{CarriedBytes, with_restored_pointers, carried_after_message}
-use Rattle.bus_story.specs.Links.{Link, plain, last_in, last_out}
-use Rattle.bus_story.specs.TraceHistory.{is_parity_error}
-use Rattle.bus_dialogue.specs.declared.exchange.Messages.{Messages}
-use Rattle.bus_dialogue.specs.declared.exchange.Next.{Next}
-use Rattle.bus_dialogue.specs.declared.exchange.Next.TheVariants as nexts
-use Rattle.bus_dialogue.specs.Exchange.{one_message, two_messages, bytes_of_messages}
-use Rattle.bus_dialogue.specs.Words.{is_name}
+use Rattle.bus_due.specs.msg_grammar.specs.declared.message.MsgIn.{MsgIn}
+use Rattle.bus_due.specs.msg_grammar.specs.declared.message.MsgIn.TheVariants as to_initiator
+use Rattle.bus_due.specs.msg_grammar.specs.declared.message.MsgOut.{MsgOut}
+use Rattle.bus_due.specs.msg_grammar.specs.declared.message.MsgOut.TheVariants as to_target
+use Rattle.bus_due.specs.scenario.specs.declared.value.Policy.{Policy}
+use Rattle.bus_due.specs.bus_story.specs.CarriedBytes.{CarriedBytes, with_restored_pointers, carried_after_message}
+use Rattle.bus_due.specs.bus_story.specs.Links.{Link, plain, last_in, last_out}
+use Rattle.bus_due.specs.bus_story.specs.TraceHistory.{is_parity_error}
+use Rattle.bus_due.specs.bus_dialogue.specs.declared.exchange.Messages.{Messages}
+use Rattle.bus_due.specs.bus_dialogue.specs.declared.exchange.Next.{Next}
+use Rattle.bus_due.specs.bus_dialogue.specs.declared.exchange.Next.TheVariants as nexts
+use Rattle.bus_due.specs.bus_dialogue.specs.Exchange.{one_message, two_messages, bytes_of_messages}
+use Rattle.bus_due.specs.bus_dialogue.specs.Words.{is_name}
 use Rattle.bus_books.specs.Giving.{OnMessage, OnMessages}
 use Rattle.bus_books.specs.Knowing.{IsNoName}
 use Rattle.trace_laws.specs.DataPointers.{is_marked, IsAt, OnUndo, IsPlainIn, IsUndisturbed, IsOfStatus, IsCalm, PointersIn, calm, restores, saves, saved, disconnects, closes, PointersRefused, still_calm, restores_again, saves_again, disconnects_again, closes_again, IsSettled}

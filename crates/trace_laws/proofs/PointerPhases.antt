@@ -2,31 +2,31 @@
 use Rattle.std.proofs.Common.{ℕ, ◌≡◌, ◌⊎◌, inl, inr, ◌+◌, ◌*◌, Bool, true, false, not, ◌&&◌, ◌∙◌, Option, Some, None, refl, sym, ap, subst, arith, true≢false}
 use Rattle.std.specs.Prelude.{if◌then◌else◌, is_some, ◌==◌, ◌-◌}
 use Rattle.std.proofs.lemmas.Option.{same_Some}
-use Rattle.bus_trace.specs.LineSet.{LineSet}
-use Rattle.bus_trace.specs.declared.Row.{Row}
-use Rattle.bus_trace.specs.declared.changes.Change.{Change}
-use Rattle.bus_trace.specs.declared.connection.Connection.{Connection}
-use Rattle.bus_trace.specs.Terms.{is_fault, receiver_in}
-use Rattle.bus_trace.specs.Phases.{changes_phase, is_message_out, is_message_in}
-use Rattle.bus_lines.specs.Handshakes.{Handshakes, no_handshakes}
-use Rattle.scenario.specs.Value.{ScenarioValue}
-use Rattle.disk_array.specs.Processes.{Process}
-use Rattle.bus_story.specs.CarriedBytes.{Area, CarriedBytes, is_status_phase}
-use Rattle.bus_story.specs.Items.{Item, process}
-use Rattle.bus_story.specs.Links.{Link}
-use Rattle.bus_dialogue.specs.declared.exchange.Cause.{Cause}
-use Rattle.bus_dialogue.specs.declared.exchange.Cause.TheVariants as causes
-use Rattle.bus_dialogue.specs.declared.exchange.Hearing.{Hearing}
-use Rattle.bus_dialogue.specs.declared.exchange.Leaving.{Leaving}
-use Rattle.bus_dialogue.specs.declared.exchange.Messages.{Messages}
-use Rattle.bus_dialogue.specs.declared.exchange.Next.TheVariants as nexts
-use Rattle.bus_dialogue.specs.declared.exchange.Phase.{Phase}
-use Rattle.bus_dialogue.specs.declared.exchange.Phase.TheVariants as phases
-use Rattle.bus_dialogue.specs.declared.exchange.Plan.{Plan}
-use Rattle.bus_dialogue.specs.Exchange.{bytes_of_messages, from_byte, plan_anew}
-use Rattle.bus_dialogue.specs.NextPhase.{Serving, phase_of, phase_leaving, leaving_by, message_out_leaving}
-use Rattle.bus_dialogue.specs.PhaseBytes.{one_if}
-use Rattle.bus_dialogue.specs.Planning.{cause_after, plan_in_message_out, plan_in_phase}
+use Rattle.bus_due.specs.bus_trace.specs.LineSet.{LineSet}
+use Rattle.bus_due.specs.bus_trace.specs.declared.Row.{Row}
+use Rattle.bus_due.specs.bus_trace.specs.declared.changes.Change.{Change}
+use Rattle.bus_due.specs.bus_trace.specs.declared.connection.Connection.{Connection}
+use Rattle.bus_due.specs.bus_trace.specs.Terms.{is_fault, receiver_in}
+use Rattle.bus_due.specs.bus_trace.specs.Phases.{changes_phase, is_message_out, is_message_in}
+use Rattle.bus_due.specs.bus_lines.specs.Handshakes.{Handshakes, no_handshakes}
+use Rattle.bus_due.specs.scenario.specs.Value.{ScenarioValue}
+use Rattle.bus_due.specs.disk_array.specs.Processes.{Process}
+use Rattle.bus_due.specs.bus_story.specs.CarriedBytes.{Area, CarriedBytes, is_status_phase}
+use Rattle.bus_due.specs.bus_story.specs.Items.{Item, process}
+use Rattle.bus_due.specs.bus_story.specs.Links.{Link}
+use Rattle.bus_due.specs.bus_dialogue.specs.declared.exchange.Cause.{Cause}
+use Rattle.bus_due.specs.bus_dialogue.specs.declared.exchange.Cause.TheVariants as causes
+use Rattle.bus_due.specs.bus_dialogue.specs.declared.exchange.Hearing.{Hearing}
+use Rattle.bus_due.specs.bus_dialogue.specs.declared.exchange.Leaving.{Leaving}
+use Rattle.bus_due.specs.bus_dialogue.specs.declared.exchange.Messages.{Messages}
+use Rattle.bus_due.specs.bus_dialogue.specs.declared.exchange.Next.TheVariants as nexts
+use Rattle.bus_due.specs.bus_dialogue.specs.declared.exchange.Phase.{Phase}
+use Rattle.bus_due.specs.bus_dialogue.specs.declared.exchange.Phase.TheVariants as phases
+use Rattle.bus_due.specs.bus_dialogue.specs.declared.exchange.Plan.{Plan}
+use Rattle.bus_due.specs.bus_dialogue.specs.Exchange.{bytes_of_messages, from_byte, plan_anew}
+use Rattle.bus_due.specs.bus_dialogue.specs.NextPhase.{Serving, phase_of, phase_leaving, leaving_by, message_out_leaving}
+use Rattle.bus_due.specs.bus_dialogue.specs.PhaseBytes.{one_if}
+use Rattle.bus_due.specs.bus_dialogue.specs.Planning.{cause_after, plan_in_message_out, plan_in_phase}
 use Rattle.bus_due.specs.LastingState.{progress_in}
 use Rattle.bus_due.specs.RunState.{RunState, bus_of, carried_here, item_of, process_served}
 use Rattle.bus_due.specs.RunSteps.{run_state_after}
@@ -45,8 +45,8 @@ use Rattle.trace_laws.proofs.PointerRows.{Meets, in_lines, phase_by}
 use Rattle.trace_laws.proofs.PointerTurns.{refused_from, TurnsBy, start_after, Turned, turned_is}
 use Rattle.trace_laws.proofs.TalkTurns.{from_named}
 use Rattle.trace_laws.proofs.TellFacts.{front_length}
-use Rattle.bus_base.proofs.Tests.{wrong'}
-use Rattle.scsi_device.specs.Writes.{is_data_in}
+use Rattle.bus_due.specs.bus_base.proofs.Tests.{wrong'}
+use Rattle.target_units.specs.scsi_device.specs.Writes.{is_data_in}
 
 -- ---- lines
 
@@ -194,7 +194,7 @@ no_offer s k row n c q meets b ep e cause = go (meets.refuses b e cause)
     last : k.story.bus_state.dialogue.is_last ≡ true
     last = (meets.of.leaves (ap changes_phase meets.of.row_is.change_is ∙ ep)).out e
 
-    go : (k.exchange.plan.next ≡ nexts.Command) ⊎ (k.exchange.speech.words ≡ Rattle.bus_dialogue.specs.Words.parity_error) → (k.exchange.plan.next ≡ nexts.Command) ⊎ (is_some k.exchange.plan.said.offer ≡ false)
+    go : (k.exchange.plan.next ≡ nexts.Command) ⊎ (k.exchange.speech.words ≡ Rattle.bus_due.specs.bus_dialogue.specs.Words.parity_error) → (k.exchange.plan.next ≡ nexts.Command) ⊎ (is_some k.exchange.plan.said.offer ≡ false)
     go (inl z) = inl z
     go (inr z) = inr (refusal_offers k.exchange.speech k.exchange.plan k.story.bus_state.dialogue z (meets.speaks.in_message_out b out).heard last)
 
@@ -315,7 +315,7 @@ unnamed_turns s k row n c q l meets t ep el none known to h = go h.phase
 
     go : (phase_of (bus_of k) ≡ phases.MessageIn) ⊎ ((phase_of (bus_of k) ≡ phases.MessageOut) × (k.exchange.plan.cause ≡ causes.InMessage)) → ServedPointers s j q
     go (inl e) =
-        let leads : leaving s k n.target ≡ Rattle.bus_dialogue.specs.NextPhase.phase_entry phases.MessageOut = leaving_is phases.MessageIn e ∙ ap (λ (x : Bool). if x then Rattle.bus_dialogue.specs.NextPhase.phase_entry phases.MessageOut else Rattle.bus_dialogue.specs.NextPhase.after_messages (serving_of s k n.target) k.exchange.plan.next) (attention e) in
+        let leads : leaving s k n.target ≡ Rattle.bus_due.specs.bus_dialogue.specs.NextPhase.phase_entry phases.MessageOut = leaving_is phases.MessageIn e ∙ ap (λ (x : Bool). if x then Rattle.bus_due.specs.bus_dialogue.specs.NextPhase.phase_entry phases.MessageOut else Rattle.bus_due.specs.bus_dialogue.specs.NextPhase.after_messages (serving_of s k n.target) k.exchange.plan.next) (attention e) in
         let out : phase_of c.after ≡ phases.MessageOut = sym (same_Some phases.MessageOut (phase_of c.after) (sym (ap (λ (x : Leaving). x.to) leads) ∙ to)) in
         let before : is_message_in c.before ≡ true = ap is_message_in (sym meets.of.row_is.bus_is) ∙ in_cause (bus_of k) (λ m. (meets.of.phase m).0) e in
         made (plan_in_message_out w k.exchange.plan) (t.plan_is ∙ plan_out w (leaving s k n.target) k.exchange.plan (out_is c.after known ∙ ap is_out_phase out) b)

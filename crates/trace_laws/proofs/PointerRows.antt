@@ -1,36 +1,36 @@
 -- The data pointers of the process that is served, after a row with which its connection goes on in the same phase.
 use Rattle.std.proofs.Common.{ℕ, ◌≡◌, ◌+◌, ◌*◌, ◌<◌, ◌^◌, Bool, true, false, not, ◌&&◌, ◌∙◌, List, [], ◌∷◌, ◌++◌, Option, Some, None, refl, sym, ap, subst, arith}
 use Rattle.std.specs.Prelude.{if◌then◌else◌, is_some, ◌%◌}
-use Rattle.bus_base.specs.Faults.{counted_on}
-use Rattle.bus_trace.specs.LineSet.{LineSet}
-use Rattle.bus_trace.specs.declared.Row.{Row}
-use Rattle.bus_trace.specs.declared.changes.Change.{Change}
-use Rattle.bus_trace.specs.declared.connection.Connection.{Connection}
-use Rattle.bus_trace.specs.Changes.{rises}
-use Rattle.bus_trace.specs.Terms.{is_fault, receiver_in}
-use Rattle.bus_trace.specs.Phases.{changes_phase, is_data, is_message_out, is_message_in}
-use Rattle.bus_lines.specs.Handshakes.{Handshakes, no_handshakes, handshakes_on, handshakes_after, asked_if, answered_if, strikes_if}
-use Rattle.bus_phases.specs.Dialogue.{fresh_bytes}
-use Rattle.msg_grammar.specs.declared.message.MsgIn.{MsgIn}
-use Rattle.msg_grammar.specs.declared.message.MsgOut.{MsgOut}
-use Rattle.msg_grammar.specs.Messages.{got_in, got_out}
-use Rattle.scenario.specs.declared.value.Policy.{Policy}
-use Rattle.scenario.specs.Value.{ScenarioValue}
-use Rattle.disk_array.specs.Processes.{Process}
-use Rattle.bus_story.specs.BusState.{RowReading, whole_in, whole_out, message_in, message_out}
-use Rattle.bus_story.specs.CarriedBytes.{Area, CarriedBytes, carried_of, carried_after_byte}
-use Rattle.bus_story.specs.HistoryEvents.{link_events}
-use Rattle.bus_story.specs.Items.{process}
-use Rattle.bus_story.specs.Links.{Link}
-use Rattle.bus_story.specs.Story.{Story, story_after_events}
-use Rattle.bus_story.specs.TraceHistory.{story_after_out, story_after_in, story_after_byte, story_after_fault, story_in_connection}
-use Rattle.bus_dialogue.specs.declared.exchange.Hearing.{Hearing}
-use Rattle.bus_dialogue.specs.declared.exchange.Phase.{Phase}
-use Rattle.bus_dialogue.specs.declared.exchange.Phase.TheVariants as phases
-use Rattle.bus_dialogue.specs.declared.exchange.Plan.{Plan}
-use Rattle.bus_dialogue.specs.Exchange.{Exchange, plan_after_message, struck_plan}
-use Rattle.bus_dialogue.specs.NextPhase.{phase_of}
-use Rattle.bus_dialogue.specs.Planning.{plan_with_byte}
+use Rattle.bus_due.specs.bus_base.specs.Faults.{counted_on}
+use Rattle.bus_due.specs.bus_trace.specs.LineSet.{LineSet}
+use Rattle.bus_due.specs.bus_trace.specs.declared.Row.{Row}
+use Rattle.bus_due.specs.bus_trace.specs.declared.changes.Change.{Change}
+use Rattle.bus_due.specs.bus_trace.specs.declared.connection.Connection.{Connection}
+use Rattle.bus_due.specs.bus_trace.specs.Changes.{rises}
+use Rattle.bus_due.specs.bus_trace.specs.Terms.{is_fault, receiver_in}
+use Rattle.bus_due.specs.bus_trace.specs.Phases.{changes_phase, is_data, is_message_out, is_message_in}
+use Rattle.bus_due.specs.bus_lines.specs.Handshakes.{Handshakes, no_handshakes, handshakes_on, handshakes_after, asked_if, answered_if, strikes_if}
+use Rattle.bus_due.specs.bus_phases.specs.Dialogue.{fresh_bytes}
+use Rattle.bus_due.specs.msg_grammar.specs.declared.message.MsgIn.{MsgIn}
+use Rattle.bus_due.specs.msg_grammar.specs.declared.message.MsgOut.{MsgOut}
+use Rattle.bus_due.specs.msg_grammar.specs.Messages.{got_in, got_out}
+use Rattle.bus_due.specs.scenario.specs.declared.value.Policy.{Policy}
+use Rattle.bus_due.specs.scenario.specs.Value.{ScenarioValue}
+use Rattle.bus_due.specs.disk_array.specs.Processes.{Process}
+use Rattle.bus_due.specs.bus_story.specs.BusState.{RowReading, whole_in, whole_out, message_in, message_out}
+use Rattle.bus_due.specs.bus_story.specs.CarriedBytes.{Area, CarriedBytes, carried_of, carried_after_byte}
+use Rattle.bus_due.specs.bus_story.specs.HistoryEvents.{link_events}
+use Rattle.bus_due.specs.bus_story.specs.Items.{process}
+use Rattle.bus_due.specs.bus_story.specs.Links.{Link}
+use Rattle.bus_due.specs.bus_story.specs.Story.{Story, story_after_events}
+use Rattle.bus_due.specs.bus_story.specs.TraceHistory.{story_after_out, story_after_in, story_after_byte, story_after_fault, story_in_connection}
+use Rattle.bus_due.specs.bus_dialogue.specs.declared.exchange.Hearing.{Hearing}
+use Rattle.bus_due.specs.bus_dialogue.specs.declared.exchange.Phase.{Phase}
+use Rattle.bus_due.specs.bus_dialogue.specs.declared.exchange.Phase.TheVariants as phases
+use Rattle.bus_due.specs.bus_dialogue.specs.declared.exchange.Plan.{Plan}
+use Rattle.bus_due.specs.bus_dialogue.specs.Exchange.{Exchange, plan_after_message, struck_plan}
+use Rattle.bus_due.specs.bus_dialogue.specs.NextPhase.{phase_of}
+use Rattle.bus_due.specs.bus_dialogue.specs.Planning.{plan_with_byte}
 use Rattle.bus_due.specs.LastingState.{ProcessProgress, progress_in}
 use Rattle.bus_due.specs.RunState.{RunState, bus_of, carried_here}
 use Rattle.bus_due.specs.RunSteps.{run_state_after, progress_after, leaving_of}
@@ -42,7 +42,7 @@ use Rattle.bus_books.specs.Rows.{IsRowIn, reading_in}
 use Rattle.bus_books.specs.Speaking.{Speaks}
 use Rattle.bus_books.specs.Traces.{GoesOn}
 use Rattle.bus_books.proofs.Gives.{requests_rise, requests_stay}
-use Rattle.bus_lines.proofs.Early.{struck_same}
+use Rattle.bus_due.specs.bus_lines.proofs.Early.{struck_same}
 use Rattle.bus_books.proofs.InConnection.{InConnection, in_connection, reading_is, same_phase_is}
 use Rattle.bus_books.proofs.Knows.{link_after}
 use Rattle.link_laws.proofs.PulseSteps.{count_more}
@@ -53,9 +53,9 @@ use Rattle.trace_laws.proofs.PointerStories.{SamePointers, same_on, events_same,
 use Rattle.trace_laws.proofs.PointerKept.{SamePlan, AreCountedSo, counted_same, pointers_as, by_as, unnamed_as}
 use Rattle.trace_laws.proofs.PointerStorySteps.{fault_story, byte_same, byte_moves, byte_story}
 use Rattle.trace_laws.proofs.PhaseLines.{data_in_lines, not_message_out, not_message_in}
-use Rattle.bus_base.proofs.Tests.{wrong'}
-use Rattle.bus_story.proofs.StorySteps.{byte_link, fault_link}
-use Rattle.scsi_device.specs.Writes.{is_data_out}
+use Rattle.bus_due.specs.bus_base.proofs.Tests.{wrong'}
+use Rattle.bus_due.specs.bus_story.proofs.StorySteps.{byte_link, fault_link}
+use Rattle.target_units.specs.scsi_device.specs.Writes.{is_data_out}
 
 -- ---- what is known of the connection
 

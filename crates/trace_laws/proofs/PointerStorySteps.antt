@@ -2,31 +2,31 @@
 use Rattle.std.proofs.Common.{ℕ, ◌≡◌, Bool, true, false, ◌∙◌, [], ◌∷◌, ◌++◌, Option, Some, None, refl, sym, ap, true≢false}
 use Rattle.std.specs.Prelude.{if◌then◌else◌, is_none, ◌%◌}
 use Rattle.std.proofs.lemmas.Option.{same_Some}
-use Rattle.bus_base.specs.declared.ProcId.{ProcId}
-use Rattle.bus_trace.specs.LineSet.{LineSet}
-use Rattle.bus_trace.specs.Phases.{is_command, is_data}
-use Rattle.bus_trace.specs.declared.Kind.{Kind}
-use Rattle.bus_trace.specs.declared.Kind.TheVariants.{Drives, Fault}
-use Rattle.bus_trace.specs.declared.changes.Change.{Change}
-use Rattle.cdb_codec.specs.declared.sense.TheConstants.{PARITY_ERROR, INITIATOR_DETECTED_ERROR}
-use Rattle.msg_grammar.specs.declared.message.MsgIn.{MsgIn}
-use Rattle.msg_grammar.specs.declared.message.MsgOut.{MsgOut}
-use Rattle.scenario.specs.Value.{ScenarioValue}
-use Rattle.disk_array.specs.Processes.{same_id}
-use Rattle.bus_story.specs.BusState.{RowReading}
-use Rattle.bus_story.specs.CarriedBytes.{CarriedBytes, area_with, carried_of, with_restored_pointers, carried_after_message, carried_after_byte, carried_after_fault, is_status_phase}
-use Rattle.bus_story.specs.Items.{Item, process, abort}
-use Rattle.bus_story.specs.Links.{Link, last_in, last_out, link_after_name}
-use Rattle.bus_story.specs.HistoryEvents.{carried_if}
-use Rattle.bus_story.specs.Story.{Story}
-use Rattle.bus_story.specs.TraceHistory.{story_with_restored, story_with_carried, is_parity_error, story_after_out, carried_after_message_if, story_after_message, story_after_in, carried_after_byte_if, story_after_byte, carried_after_fault_if, story_after_fault}
+use Rattle.bus_due.specs.bus_base.specs.declared.ProcId.{ProcId}
+use Rattle.bus_due.specs.bus_trace.specs.LineSet.{LineSet}
+use Rattle.bus_due.specs.bus_trace.specs.Phases.{is_command, is_data}
+use Rattle.bus_due.specs.bus_trace.specs.declared.Kind.{Kind}
+use Rattle.bus_due.specs.bus_trace.specs.declared.Kind.TheVariants.{Drives, Fault}
+use Rattle.bus_due.specs.bus_trace.specs.declared.changes.Change.{Change}
+use Rattle.bus_due.specs.cdb_codec.specs.declared.sense.TheConstants.{PARITY_ERROR, INITIATOR_DETECTED_ERROR}
+use Rattle.bus_due.specs.msg_grammar.specs.declared.message.MsgIn.{MsgIn}
+use Rattle.bus_due.specs.msg_grammar.specs.declared.message.MsgOut.{MsgOut}
+use Rattle.bus_due.specs.scenario.specs.Value.{ScenarioValue}
+use Rattle.bus_due.specs.disk_array.specs.Processes.{same_id}
+use Rattle.bus_due.specs.bus_story.specs.BusState.{RowReading}
+use Rattle.bus_due.specs.bus_story.specs.CarriedBytes.{CarriedBytes, area_with, carried_of, with_restored_pointers, carried_after_message, carried_after_byte, carried_after_fault, is_status_phase}
+use Rattle.bus_due.specs.bus_story.specs.Items.{Item, process, abort}
+use Rattle.bus_due.specs.bus_story.specs.Links.{Link, last_in, last_out, link_after_name}
+use Rattle.bus_due.specs.bus_story.specs.HistoryEvents.{carried_if}
+use Rattle.bus_due.specs.bus_story.specs.Story.{Story}
+use Rattle.bus_due.specs.bus_story.specs.TraceHistory.{story_with_restored, story_with_carried, is_parity_error, story_after_out, carried_after_message_if, story_after_message, story_after_in, carried_after_byte_if, story_after_byte, carried_after_fault_if, story_after_fault}
 use Rattle.bus_books.proofs.Lookups.{put_own, put_other}
 use Rattle.trace_laws.specs.DataPointers.{OnUndo}
 use Rattle.trace_laws.proofs.Impossible.{none_some}
 use Rattle.trace_laws.proofs.PointerStories.{SamePointers, same_self, put_same}
 use Rattle.trace_laws.proofs.PointerMessages.{or_undone}
-use Rattle.bus_story.proofs.StorySteps.{carried_link, message_id}
-use Rattle.bus_story.proofs.CarriedLists.{carried_id, carried_with}
+use Rattle.bus_due.specs.bus_story.proofs.StorySteps.{carried_link, message_id}
+use Rattle.bus_due.specs.bus_story.proofs.CarriedLists.{carried_id, carried_with}
 
 -- ---- a fault
 

@@ -1,36 +1,36 @@
 -- What a row with which the phase changes makes of what is kept of the process that is served.
 use Rattle.std.proofs.Common.{ℕ, ◌≡◌, ◌⊎◌, inl, inr, ◌+◌, ◌*◌, ◌≤◌, Bool, true, false, ◌&&◌, ◌||◌, ◌∙◌, List, [], ◌∷◌, length, Option, Some, None, refl, sym, ap, subst, arith, true≢false}
 use Rattle.std.specs.Prelude.{if◌then◌else◌, is_some, nat_lt, ◌==◌, ◌-◌}
-use Rattle.bus_base.specs.declared.ProcId.{ProcId}
-use Rattle.bus_trace.specs.Changes.{rises}
-use Rattle.bus_trace.specs.declared.Kind.{Kind}
-use Rattle.bus_trace.specs.declared.Kind.TheVariants.{Drives, Fault}
-use Rattle.bus_trace.specs.declared.Row.{Row}
-use Rattle.bus_trace.specs.declared.changes.Change.{Change}
-use Rattle.bus_trace.specs.declared.connection.Connection.{Connection}
-use Rattle.bus_trace.specs.Terms.{is_fault, receiver_in}
-use Rattle.bus_trace.specs.Phases.{changes_phase}
-use Rattle.bus_lines.specs.Handshakes.{no_handshakes, handshakes_after, answered_if, asked_if}
-use Rattle.msg_grammar.specs.declared.message.MsgIn.{MsgIn}
-use Rattle.msg_grammar.specs.declared.message.MsgIn.TheVariants as to_initiator
-use Rattle.scenario.specs.declared.value.Policy.{Policy}
-use Rattle.scenario.specs.Value.{ScenarioValue}
-use Rattle.disk_array.specs.Processes.{Process}
-use Rattle.bus_story.specs.BusState.{RowReading}
-use Rattle.bus_story.specs.CarriedBytes.{CarriedBytes, carried_of, is_status_phase}
-use Rattle.bus_story.specs.HistoryEvents.{carried_if, link_events, phase_events, is_completion, end_events}
-use Rattle.bus_story.specs.Items.{Item, process}
-use Rattle.bus_story.specs.Links.{Link}
-use Rattle.bus_story.specs.Story.{Story, story_after_events}
-use Rattle.bus_story.specs.TraceHistory.{story_after_fault, story_in_connection}
-use Rattle.bus_dialogue.specs.declared.exchange.Messages.{Messages}
-use Rattle.bus_dialogue.specs.declared.exchange.Next.{Next}
-use Rattle.bus_dialogue.specs.declared.exchange.Next.TheVariants as nexts
-use Rattle.bus_dialogue.specs.declared.exchange.Task.{Task}
-use Rattle.bus_dialogue.specs.Exchange.{Exchange, one_message, bytes_of_messages, message_bytes, from_byte}
-use Rattle.bus_dialogue.specs.NextPhase.{phase_of}
-use Rattle.bus_dialogue.specs.PhaseBytes.{one_if}
-use Rattle.bus_dialogue.specs.Planning.{plan_in_phase}
+use Rattle.bus_due.specs.bus_base.specs.declared.ProcId.{ProcId}
+use Rattle.bus_due.specs.bus_trace.specs.Changes.{rises}
+use Rattle.bus_due.specs.bus_trace.specs.declared.Kind.{Kind}
+use Rattle.bus_due.specs.bus_trace.specs.declared.Kind.TheVariants.{Drives, Fault}
+use Rattle.bus_due.specs.bus_trace.specs.declared.Row.{Row}
+use Rattle.bus_due.specs.bus_trace.specs.declared.changes.Change.{Change}
+use Rattle.bus_due.specs.bus_trace.specs.declared.connection.Connection.{Connection}
+use Rattle.bus_due.specs.bus_trace.specs.Terms.{is_fault, receiver_in}
+use Rattle.bus_due.specs.bus_trace.specs.Phases.{changes_phase}
+use Rattle.bus_due.specs.bus_lines.specs.Handshakes.{no_handshakes, handshakes_after, answered_if, asked_if}
+use Rattle.bus_due.specs.msg_grammar.specs.declared.message.MsgIn.{MsgIn}
+use Rattle.bus_due.specs.msg_grammar.specs.declared.message.MsgIn.TheVariants as to_initiator
+use Rattle.bus_due.specs.scenario.specs.declared.value.Policy.{Policy}
+use Rattle.bus_due.specs.scenario.specs.Value.{ScenarioValue}
+use Rattle.bus_due.specs.disk_array.specs.Processes.{Process}
+use Rattle.bus_due.specs.bus_story.specs.BusState.{RowReading}
+use Rattle.bus_due.specs.bus_story.specs.CarriedBytes.{CarriedBytes, carried_of, is_status_phase}
+use Rattle.bus_due.specs.bus_story.specs.HistoryEvents.{carried_if, link_events, phase_events, is_completion, end_events}
+use Rattle.bus_due.specs.bus_story.specs.Items.{Item, process}
+use Rattle.bus_due.specs.bus_story.specs.Links.{Link}
+use Rattle.bus_due.specs.bus_story.specs.Story.{Story, story_after_events}
+use Rattle.bus_due.specs.bus_story.specs.TraceHistory.{story_after_fault, story_in_connection}
+use Rattle.bus_due.specs.bus_dialogue.specs.declared.exchange.Messages.{Messages}
+use Rattle.bus_due.specs.bus_dialogue.specs.declared.exchange.Next.{Next}
+use Rattle.bus_due.specs.bus_dialogue.specs.declared.exchange.Next.TheVariants as nexts
+use Rattle.bus_due.specs.bus_dialogue.specs.declared.exchange.Task.{Task}
+use Rattle.bus_due.specs.bus_dialogue.specs.Exchange.{Exchange, one_message, bytes_of_messages, message_bytes, from_byte}
+use Rattle.bus_due.specs.bus_dialogue.specs.NextPhase.{phase_of}
+use Rattle.bus_due.specs.bus_dialogue.specs.PhaseBytes.{one_if}
+use Rattle.bus_due.specs.bus_dialogue.specs.Planning.{plan_in_phase}
 use Rattle.bus_due.specs.LastingState.{ProcessProgress, progress_in, progress_with}
 use Rattle.bus_due.specs.RunState.{RunState, bus_of, carried_here, process_served}
 use Rattle.bus_due.specs.RunSteps.{run_state_after, progress_after, progress_by_leaving, leaving_of}
@@ -40,8 +40,8 @@ use Rattle.bus_books.specs.Knowing.{IsNoName}
 use Rattle.bus_books.specs.Rows.{IsRowIn, reading_in}
 use Rattle.bus_books.proofs.InConnection.{InConnection, in_connection, reading_is}
 use Rattle.bus_books.proofs.Knows.{link_after}
-use Rattle.bus_story.proofs.StorySteps.{fault_link}
-use Rattle.bus_story.proofs.CarriedLists.{carried_id}
+use Rattle.bus_due.specs.bus_story.proofs.StorySteps.{fault_link}
+use Rattle.bus_due.specs.bus_story.proofs.CarriedLists.{carried_id}
 use Rattle.bus_books.proofs.Lookups.{self_id}
 use Rattle.trace_laws.specs.DataPointers.{is_marked, OnUndo, IsPlainIn, run_policy, run_start, run_step, PointersIn, PointersRefused, IsOfStatus, IsUndisturbed, calm, restores, saves, saved, disconnects, closes, still_calm, restores_again, saves_again, disconnects_again, closes_again}
 use Rattle.trace_laws.proofs.PointerStories.{SamePointers, same_on, events_same, status_marks, story_row}

@@ -1,28 +1,28 @@
 -- The data pointers of a process that is not served stay where they are, whatever the row does.
 use Rattle.std.proofs.Common.{ℕ, ◌≡◌, ◌⊎◌, inl, inr, ◌*◌, Bool, true, false, not, ◌&&◌, ◌∙◌, List, ◌∷◌, Option, Some, None, refl, sym, ap, subst, true≢false}
 use Rattle.std.specs.Prelude.{if◌then◌else◌, is_some, is_none, nat_lt}
-use Rattle.bus_base.specs.declared.ProcId.{ProcId}
-use Rattle.bus_trace.specs.declared.Row.{Row}
-use Rattle.bus_trace.specs.declared.changes.Change.{Change}
-use Rattle.bus_trace.specs.declared.connection.Connection.{Connection}
-use Rattle.bus_trace.specs.declared.selection.Call.{Call}
-use Rattle.bus_trace.specs.declared.selection.Calling.{Calling}
-use Rattle.bus_trace.specs.Changes.{falls}
-use Rattle.bus_trace.specs.Phases.{changes_phase}
-use Rattle.bus_trace.specs.Terms.{receiver_in}
-use Rattle.msg_grammar.specs.declared.message.MsgIn.{MsgIn}
-use Rattle.msg_grammar.specs.declared.message.MsgOut.{MsgOut}
-use Rattle.scenario.specs.Value.{ScenarioValue}
-use Rattle.disk_array.specs.Processes.{Process, process_of, same_id}
-use Rattle.disk_array.proofs.SoundArrays.{id_is}
-use Rattle.bus_story.specs.BusState.{RowReading, row_reading}
-use Rattle.bus_story.specs.CarriedBytes.{Area, CarriedBytes, carried_of, with_restored_pointers}
-use Rattle.bus_story.specs.HistoryEvents.{row_events_by, link_events}
-use Rattle.bus_story.specs.Items.{Item, process, abort, has_item}
-use Rattle.bus_story.specs.Links.{Link, link_of, link_after_name}
-use Rattle.bus_story.specs.Story.{Story, story_after_events}
-use Rattle.bus_story.specs.TraceHistory.{aim_of, is_arbitration_entry, story_with_aim, story_without_answer, is_counted, retries_of, story_with_try, story_after_calling_by, story_after_calling, story_on_free_bus, story_with_restored, story_with_sent, story_after_connection, story_after_out, story_after_in, story_after_byte, story_after_fault, story_in_connection, story_on_bus, story_by_change}
-use Rattle.bus_dialogue.specs.declared.exchange.Leaving.{Leaving}
+use Rattle.bus_due.specs.bus_base.specs.declared.ProcId.{ProcId}
+use Rattle.bus_due.specs.bus_trace.specs.declared.Row.{Row}
+use Rattle.bus_due.specs.bus_trace.specs.declared.changes.Change.{Change}
+use Rattle.bus_due.specs.bus_trace.specs.declared.connection.Connection.{Connection}
+use Rattle.bus_due.specs.bus_trace.specs.declared.selection.Call.{Call}
+use Rattle.bus_due.specs.bus_trace.specs.declared.selection.Calling.{Calling}
+use Rattle.bus_due.specs.bus_trace.specs.Changes.{falls}
+use Rattle.bus_due.specs.bus_trace.specs.Phases.{changes_phase}
+use Rattle.bus_due.specs.bus_trace.specs.Terms.{receiver_in}
+use Rattle.bus_due.specs.msg_grammar.specs.declared.message.MsgIn.{MsgIn}
+use Rattle.bus_due.specs.msg_grammar.specs.declared.message.MsgOut.{MsgOut}
+use Rattle.bus_due.specs.scenario.specs.Value.{ScenarioValue}
+use Rattle.bus_due.specs.disk_array.specs.Processes.{Process, process_of, same_id}
+use Rattle.bus_due.specs.disk_array.proofs.SoundArrays.{id_is}
+use Rattle.bus_due.specs.bus_story.specs.BusState.{RowReading, row_reading}
+use Rattle.bus_due.specs.bus_story.specs.CarriedBytes.{Area, CarriedBytes, carried_of, with_restored_pointers}
+use Rattle.bus_due.specs.bus_story.specs.HistoryEvents.{row_events_by, link_events}
+use Rattle.bus_due.specs.bus_story.specs.Items.{Item, process, abort, has_item}
+use Rattle.bus_due.specs.bus_story.specs.Links.{Link, link_of, link_after_name}
+use Rattle.bus_due.specs.bus_story.specs.Story.{Story, story_after_events}
+use Rattle.bus_due.specs.bus_story.specs.TraceHistory.{aim_of, is_arbitration_entry, story_with_aim, story_without_answer, is_counted, retries_of, story_with_try, story_after_calling_by, story_after_calling, story_on_free_bus, story_with_restored, story_with_sent, story_after_connection, story_after_out, story_after_in, story_after_byte, story_after_fault, story_in_connection, story_on_bus, story_by_change}
+use Rattle.bus_due.specs.bus_dialogue.specs.declared.exchange.Leaving.{Leaving}
 use Rattle.bus_due.specs.LastingState.{ProcessProgress, progress_in}
 use Rattle.bus_due.specs.RunState.{RunState, carried_here, process_item, process_served}
 use Rattle.bus_due.specs.RunSteps.{run_state_after, progress_after, progress_by_leaving, leaving_of}
@@ -34,8 +34,8 @@ use Rattle.trace_laws.proofs.PointerStories.{SamePointers, events_same, events_o
 use Rattle.trace_laws.proofs.PointerStorySteps.{IsNot, fault_story, byte_other, out_other, in_other}
 use Rattle.trace_laws.proofs.RowItems.{inside_sent}
 use Rattle.trace_laws.proofs.Tests.{not_unless}
-use Rattle.bus_story.proofs.StorySteps.{restored_sent, sent_carried}
-use Rattle.bus_story.proofs.CarriedLists.{carried_id}
+use Rattle.bus_due.specs.bus_story.proofs.StorySteps.{restored_sent, sent_carried}
+use Rattle.bus_due.specs.bus_story.proofs.CarriedLists.{carried_id}
 
 -- ---- what is asked of one that waits
 
@@ -85,7 +85,7 @@ free_story s b d row x = go (is_arbitration_entry b d) (falls d.change.before.se
   where
     tried : (dev : ℕ) (item : Option Item) → Freed b (story_with_try s b dev item) x
     tried dev None = freed_self b x
-    tried dev (Some item) = by (is_counted item && nat_lt (retries_of s.hosts dev) (Rattle.bus_story.specs.Items.count_item (item ∷ b.sent.tries) item)) item
+    tried dev (Some item) = by (is_counted item && nat_lt (retries_of s.hosts dev) (Rattle.bus_due.specs.bus_story.specs.Items.count_item (item ∷ b.sent.tries) item)) item
       where
         by : (q : Bool) (i : Item) → Freed b (if q then story_without_answer (record b { sent = record b.sent { tries = item ∷ b.sent.tries } }) i else record b { sent = record b.sent { tries = item ∷ b.sent.tries } }) x
         by true (process id) = record { over = λ e. over_more (process id) b.sent.over x e; carried = refl }

@@ -2,18 +2,18 @@
 use Rattle.std.proofs.Common.{ℕ, ◌≡◌, Bool, true, false, cond, List, [], ◌∷◌, Some, Ok, sym, ap, subst, ◌∙◌}
 use Rattle.std.specs.Prelude.{◌==◌, not}
 use Rattle.std.specs.List.{AllByRecursion, find}
-use Rattle.scenario.specs.declared.bounds.TheConstants.{LATENCY_LIMIT, RETRY_LIMIT, TARGET_OFFSET_LIMIT, SEEK_LIMIT, BURST_LIMIT}
-use Rattle.scenario.specs.declared.value.Policy.{Policy}
-use Rattle.scenario.specs.declared.value.Policy.TheVariants as policies
-use Rattle.scenario.specs.declared.value.TargetDef.{TargetDef}
-use Rattle.scenario.specs.Forms.{Said, target_line}
-use Rattle.scenario.specs.Lookups.{has_device}
-use Rattle.scenario.specs.Reading.{guard, within, in_8, period_in, policy_in, target_def}
-use Rattle.scenario.specs.Value.{ScenarioValue}
-use Rattle.scenario.specs.Writing.{said_policy, Obeys}
-use Rattle.scenario.proofs.Steps.{bind_ok, ok_is, within_ok, read_policy}
-use Rattle.scsi_device.proofs.LineReads.{target_by}
-use Rattle.bus_dialogue.specs.Arrivals.{policy_of}
+use Rattle.bus_due.specs.scenario.specs.declared.bounds.TheConstants.{LATENCY_LIMIT, RETRY_LIMIT, TARGET_OFFSET_LIMIT, SEEK_LIMIT, BURST_LIMIT}
+use Rattle.bus_due.specs.scenario.specs.declared.value.Policy.{Policy}
+use Rattle.bus_due.specs.scenario.specs.declared.value.Policy.TheVariants as policies
+use Rattle.bus_due.specs.scenario.specs.declared.value.TargetDef.{TargetDef}
+use Rattle.bus_due.specs.scenario.specs.Forms.{Said, target_line}
+use Rattle.bus_due.specs.scenario.specs.Lookups.{has_device}
+use Rattle.bus_due.specs.scenario.specs.Reading.{guard, within, in_8, period_in, policy_in, target_def}
+use Rattle.bus_due.specs.scenario.specs.Value.{ScenarioValue}
+use Rattle.bus_due.specs.scenario.specs.Writing.{said_policy, Obeys}
+use Rattle.bus_due.specs.scenario.proofs.Steps.{bind_ok, ok_is, within_ok, read_policy}
+use Rattle.target_units.specs.scsi_device.proofs.LineReads.{target_by}
+use Rattle.bus_due.specs.bus_dialogue.specs.Arrivals.{policy_of}
 use Rattle.bus_due.specs.Defs.{target_def_of}
 use Rattle.trace_laws.proofs.RunParts.{HasMost}
 use Rattle.trace_laws.proofs.EachLine.{Any, each_line}

@@ -3,23 +3,23 @@
 use Rattle.std.proofs.Common.{ℕ, ◌≡◌, Bool, true, false, not, ◌&&◌, ◌||◌, ◌∙◌, List, [], ◌∷◌, ◌++◌, Option, Some, None, refl, sym, ap}
 use Rattle.std.specs.Prelude.{if◌then◌else◌, ◌==◌, is_some}
 use Rattle.std.proofs.lemmas.Option.{same_Some}
-use Rattle.bus_base.specs.declared.ProcId.{ProcId}
-use Rattle.scenario.specs.Value.{ScenarioValue}
-use Rattle.disk_array.specs.Execution.{Reply}
-use Rattle.disk_array.specs.Order.{choice, without_process}
-use Rattle.disk_array.specs.Processes.{Process, process_of, same_id}
-use Rattle.disk_array.specs.SoundArray.{AllOwn, AllOwnUnits, IsOwnRunning}
-use Rattle.disk_array.specs.Steps as Steps
-use Rattle.disk_array.specs.Steps.{running_if, running_in, running_process}
-use Rattle.disk_array.specs.Units.{Array, Nexus, RunningProcess, UnitState, has_no_current, is_held, settled_array, unit_after_choice, unit_state_at, units_after_choice, with_current, with_unit, without_reply}
-use Rattle.disk_array.specs.Seats.{waits_in}
+use Rattle.bus_due.specs.bus_base.specs.declared.ProcId.{ProcId}
+use Rattle.bus_due.specs.scenario.specs.Value.{ScenarioValue}
+use Rattle.bus_due.specs.disk_array.specs.Execution.{Reply}
+use Rattle.bus_due.specs.disk_array.specs.Order.{choice, without_process}
+use Rattle.bus_due.specs.disk_array.specs.Processes.{Process, process_of, same_id}
+use Rattle.bus_due.specs.disk_array.specs.SoundArray.{AllOwn, AllOwnUnits, IsOwnRunning}
+use Rattle.bus_due.specs.disk_array.specs.Steps as Steps
+use Rattle.bus_due.specs.disk_array.specs.Steps.{running_if, running_in, running_process}
+use Rattle.bus_due.specs.disk_array.specs.Units.{Array, Nexus, RunningProcess, UnitState, has_no_current, is_held, settled_array, unit_after_choice, unit_state_at, units_after_choice, with_current, with_unit, without_reply}
+use Rattle.bus_due.specs.disk_array.specs.Seats.{waits_in}
 use Rattle.bus_books.proofs.Lookups.{id_is}
 use Rattle.std.proofs.lemmas.Bool.{or_right, or_left}
-use Rattle.bus_base.proofs.Tests.{wrong, either_stays}
+use Rattle.bus_due.specs.bus_base.proofs.Tests.{wrong, either_stays}
 use Rattle.trace_laws.specs.Places.{IsAtRest, is_in_queue, is_queued}
 use Rattle.trace_laws.proofs.ArrivingProcesses.{found_at, no_guest, queued}
 use Rattle.trace_laws.proofs.Impossible.{none_some}
-use Rattle.disk_array.proofs.SeatReplies.{last_waits}
+use Rattle.bus_due.specs.disk_array.proofs.SeatReplies.{last_waits}
 
 -- ---- it waits
 

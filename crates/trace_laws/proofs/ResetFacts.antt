@@ -1,20 +1,20 @@
 -- A connection of a prompt trace that still stands under RST.
 use Rattle.std.proofs.Common.{inr, ◌≡◌, Bool, true, false, not, ◌&&◌, ◌||◌, ◌∙◌, List, [], ◌∷◌, Option, Some, None, refl, sym, ap}
 use Rattle.std.specs.Prelude.{if◌then◌else◌}
-use Rattle.bus_trace.specs.LineSet.{LineSet, same}
-use Rattle.bus_trace.specs.declared.Row.{Row}
-use Rattle.bus_trace.specs.declared.changes.Change.{Change}
-use Rattle.bus_trace.specs.declared.connection.Connection.{Connection}
-use Rattle.bus_trace.specs.Changes.{change_of, falls, same_phase}
-use Rattle.bus_trace.specs.Phases.{changes_phase, is_data}
-use Rattle.bus_trace.specs.Terms.{call, connection, connection_of, connection_after}
-use Rattle.bus_trace.specs.Trace.{bus}
-use Rattle.bus_trace.proofs.Sets.{same_self}
-use Rattle.scenario.specs.Value.{ScenarioValue}
-use Rattle.scenario.specs.Writing.{Obeys}
-use Rattle.bus_story.specs.BusState.{RowReading, row_reading}
-use Rattle.bus_dialogue.specs.declared.exchange.Phase.TheVariants as phases
-use Rattle.bus_dialogue.specs.NextPhase.{phase_of}
+use Rattle.bus_due.specs.bus_trace.specs.LineSet.{LineSet, same}
+use Rattle.bus_due.specs.bus_trace.specs.declared.Row.{Row}
+use Rattle.bus_due.specs.bus_trace.specs.declared.changes.Change.{Change}
+use Rattle.bus_due.specs.bus_trace.specs.declared.connection.Connection.{Connection}
+use Rattle.bus_due.specs.bus_trace.specs.Changes.{change_of, falls, same_phase}
+use Rattle.bus_due.specs.bus_trace.specs.Phases.{changes_phase, is_data}
+use Rattle.bus_due.specs.bus_trace.specs.Terms.{call, connection, connection_of, connection_after}
+use Rattle.bus_due.specs.bus_trace.specs.Trace.{bus}
+use Rattle.bus_due.specs.bus_trace.proofs.Sets.{same_self}
+use Rattle.bus_due.specs.scenario.specs.Value.{ScenarioValue}
+use Rattle.bus_due.specs.scenario.specs.Writing.{Obeys}
+use Rattle.bus_due.specs.bus_story.specs.BusState.{RowReading, row_reading}
+use Rattle.bus_due.specs.bus_dialogue.specs.declared.exchange.Phase.TheVariants as phases
+use Rattle.bus_due.specs.bus_dialogue.specs.NextPhase.{phase_of}
 use Rattle.bus_due.specs.Least.{IsLeast}
 use Rattle.bus_due.specs.Next.{due, IsPrompt}
 use Rattle.bus_due.specs.Plain.{IsPlain}
@@ -22,11 +22,11 @@ use Rattle.bus_due.specs.RunState.{RunState, bus_of, process_item, process_serve
 use Rattle.bus_due.specs.RunSteps.{run_state, exchange_after, served_after, leaving_of}
 use Rattle.bus_due.specs.Tasks.{is_writing}
 use Rattle.bus_due.proofs.Plains.{run_state_plain}
-use Rattle.scsi_device.proofs.FitLines.{obeys_fits, seats_are}
-use Rattle.scsi_device.specs.Writes.{is_data_in}
-use Rattle.bus_laws.proofs.Apart.{change_plain}
-use Rattle.bus_laws.proofs.Prompt.{least_is}
-use Rattle.bus_laws.proofs.Together.{by_reset, by_calm, reset_or_calm}
+use Rattle.target_units.specs.scsi_device.proofs.FitLines.{obeys_fits, seats_are}
+use Rattle.target_units.specs.scsi_device.specs.Writes.{is_data_in}
+use Rattle.link_laws.specs.bus_laws.proofs.Apart.{change_plain}
+use Rattle.link_laws.specs.bus_laws.proofs.Prompt.{least_is}
+use Rattle.link_laws.specs.bus_laws.proofs.Together.{by_reset, by_calm, reset_or_calm}
 use Rattle.link_laws.specs.LinkStages.{AnyStage, apart, linked, LinkStage}
 use Rattle.trace_laws.specs.ResetLines.{OfTarget, ResetFacts}
 use Rattle.trace_laws.specs.WriteFacts.{ReadsUnderRst}
@@ -41,7 +41,7 @@ use Rattle.trace_laws.proofs.LinkRows.{LinkRow, link_row}
 use Rattle.trace_laws.proofs.Plans.{is_directed, writes_of}
 use Rattle.trace_laws.proofs.ResetRows.{IsReleasing, PhaseIs, releasing, of_stage, of_target_next, data_kept}
 use Rattle.trace_laws.proofs.WriteRows.{in_lines}
-use Rattle.bus_base.proofs.Tests.{wrong, wrong'}
+use Rattle.bus_due.specs.bus_base.proofs.Tests.{wrong, wrong'}
 use Rattle.link_laws.proofs.Traces.{link_calm}
 
 pub resets_start : (s : ScenarioValue) → ResetFacts s []

@@ -4,30 +4,30 @@ use Rattle.std.proofs.Common.{inl, inr, ℕ, ◌≡◌, ◌≢◌, ◌+◌, ◌�
 use Rattle.std.specs.Prelude.{if◌then◌else◌}
 use Rattle.std.proofs.lemmas.Bool.{cases_eq}
 use Rattle.std.proofs.lemmas.Option.{none-some}
-use Rattle.bus_trace.specs.LineSet.{LineSet, none, same, same_set}
-use Rattle.bus_trace.specs.declared.Row.{Row}
-use Rattle.bus_trace.specs.declared.connection.Connection.{Connection}
-use Rattle.bus_trace.specs.Trace.{bus, drives, line_times}
-use Rattle.bus_rules.specs.Reset.{only_rst}
-use Rattle.scenario.specs.Value.{ScenarioValue}
-use Rattle.bus_reactions.specs.declared.due.Due.{Due}
-use Rattle.bus_reactions.specs.Reactions.{due_at, earlier_due}
-use Rattle.bus_reactions.specs.Linking.{bus_clear}
+use Rattle.bus_due.specs.bus_trace.specs.LineSet.{LineSet, none, same, same_set}
+use Rattle.bus_due.specs.bus_trace.specs.declared.Row.{Row}
+use Rattle.bus_due.specs.bus_trace.specs.declared.connection.Connection.{Connection}
+use Rattle.bus_due.specs.bus_trace.specs.Trace.{bus, drives, line_times}
+use Rattle.bus_due.specs.bus_rules.specs.Reset.{only_rst}
+use Rattle.bus_due.specs.scenario.specs.Value.{ScenarioValue}
+use Rattle.bus_due.specs.bus_reactions.specs.declared.due.Due.{Due}
+use Rattle.bus_due.specs.bus_reactions.specs.Reactions.{due_at, earlier_due}
+use Rattle.bus_due.specs.bus_reactions.specs.Linking.{bus_clear}
 use Rattle.bus_due.specs.Least.{IsLeast}
 use Rattle.bus_due.specs.Next.{due}
 use Rattle.bus_due.specs.Own.{own_of}
-use Rattle.bus_laws.specs.Ends.{EndLines, Linked}
-use Rattle.bus_laws.specs.Reactions.{own_time, device_with, reset_due}
-use Rattle.bus_laws.specs.Rows.{row_of_lines}
-use Rattle.bus_laws.specs.Stages.{HoldsReset, IsUnderRst, quiet, holds, lingers, UnderRst, Standing}
-use Rattle.bus_laws.proofs.Dues.{is_at, due_in_reset}
-use Rattle.bus_laws.proofs.FromFree.{row_is}
-use Rattle.bus_laws.proofs.Resets.{one_of, due_calm, due_holding, due_there, own_reset_is}
-use Rattle.bus_laws.proofs.Rows.{drives_own, drives_other}
+use Rattle.link_laws.specs.bus_laws.specs.Ends.{EndLines, Linked}
+use Rattle.link_laws.specs.bus_laws.specs.Reactions.{own_time, device_with, reset_due}
+use Rattle.link_laws.specs.bus_laws.specs.Rows.{row_of_lines}
+use Rattle.link_laws.specs.bus_laws.specs.Stages.{HoldsReset, IsUnderRst, quiet, holds, lingers, UnderRst, Standing}
+use Rattle.link_laws.specs.bus_laws.proofs.Dues.{is_at, due_in_reset}
+use Rattle.link_laws.specs.bus_laws.proofs.FromFree.{row_is}
+use Rattle.link_laws.specs.bus_laws.proofs.Resets.{one_of, due_calm, due_holding, due_there, own_reset_is}
+use Rattle.link_laws.specs.bus_laws.proofs.Rows.{drives_own, drives_other}
 use Rattle.trace_laws.specs.ResetLines.{HasNoPhase, OfTarget}
 use Rattle.link_laws.specs.LinkStages.{LinkStage, when_selected, when_settling, when_turning, when_offering, when_shaking, when_pulsing}
 use Rattle.trace_laws.proofs.CutConnections.{one_drives}
-use Rattle.bus_base.proofs.Tests.{wrong}
+use Rattle.bus_due.specs.bus_base.proofs.Tests.{wrong}
 
 -- ---- a row under RST
 

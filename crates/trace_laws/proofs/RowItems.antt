@@ -2,38 +2,38 @@
 use Rattle.std.proofs.Common.{inl, inr, ℕ, ◌≡◌, ◌⊎◌, Bool, true, false, not, ◌&&◌, ◌∙◌, List, [], ◌∷◌, Option, Some, None, refl, sym, ap, subst}
 use Rattle.std.specs.Prelude.{if◌then◌else◌, is_some, is_none, slice_index, ⊤}
 use Rattle.std.specs.List.{list_any}
-use Rattle.bus_base.specs.declared.ProcId.{ProcId}
-use Rattle.bus_base.specs.declared.Event.{Event}
-use Rattle.bus_base.specs.declared.Event.TheVariants as events
-use Rattle.bus_trace.specs.LineSet.{LineSet}
-use Rattle.bus_trace.specs.declared.Row.{Row}
-use Rattle.bus_trace.specs.declared.Kind.{Kind}
-use Rattle.bus_trace.specs.declared.Kind.TheVariants.{Drives, Fault}
-use Rattle.bus_trace.specs.declared.changes.Change.{Change}
-use Rattle.bus_trace.specs.declared.connection.Connection.{Connection}
-use Rattle.bus_trace.specs.Changes.{rises}
-use Rattle.bus_trace.specs.Terms.{receiver_in}
-use Rattle.bus_trace.specs.Phases.{changes_phase, is_command}
-use Rattle.msg_grammar.specs.declared.message.MsgIn.{MsgIn}
-use Rattle.msg_grammar.specs.declared.message.MsgOut.{MsgOut}
-use Rattle.scenario.specs.Value.{ScenarioValue}
-use Rattle.disk_array.specs.ArrayHistory.{array_after}
-use Rattle.bus_story.specs.BusState.{RowReading, row_reading, message_out, message_in}
-use Rattle.bus_story.specs.CarriedBytes.{CarriedBytes, carried_of, is_whole_block, is_status_phase}
-use Rattle.bus_story.specs.Items.{Item, process, has_item}
-use Rattle.bus_story.specs.Links.{Link, last_out, last_in, link_after_name}
-use Rattle.bus_story.specs.HistoryEvents.{carried_if, queue_events, is_refuse, status_event, status_events, phase_events, is_completion, end_events, connection_events, link_events, row_events_by}
-use Rattle.bus_story.specs.Story.{Story, story_after_event, story_after_events}
-use Rattle.bus_story.specs.TraceHistory.{story_with_restored, story_with_carried, is_parity_error, story_after_out, story_after_message, story_after_in, carried_after_byte_if, story_after_byte, carried_after_fault_if, story_after_fault, story_in_connection, story_on_bus, story_by_change}
+use Rattle.bus_due.specs.bus_base.specs.declared.ProcId.{ProcId}
+use Rattle.bus_due.specs.bus_base.specs.declared.Event.{Event}
+use Rattle.bus_due.specs.bus_base.specs.declared.Event.TheVariants as events
+use Rattle.bus_due.specs.bus_trace.specs.LineSet.{LineSet}
+use Rattle.bus_due.specs.bus_trace.specs.declared.Row.{Row}
+use Rattle.bus_due.specs.bus_trace.specs.declared.Kind.{Kind}
+use Rattle.bus_due.specs.bus_trace.specs.declared.Kind.TheVariants.{Drives, Fault}
+use Rattle.bus_due.specs.bus_trace.specs.declared.changes.Change.{Change}
+use Rattle.bus_due.specs.bus_trace.specs.declared.connection.Connection.{Connection}
+use Rattle.bus_due.specs.bus_trace.specs.Changes.{rises}
+use Rattle.bus_due.specs.bus_trace.specs.Terms.{receiver_in}
+use Rattle.bus_due.specs.bus_trace.specs.Phases.{changes_phase, is_command}
+use Rattle.bus_due.specs.msg_grammar.specs.declared.message.MsgIn.{MsgIn}
+use Rattle.bus_due.specs.msg_grammar.specs.declared.message.MsgOut.{MsgOut}
+use Rattle.bus_due.specs.scenario.specs.Value.{ScenarioValue}
+use Rattle.bus_due.specs.disk_array.specs.ArrayHistory.{array_after}
+use Rattle.bus_due.specs.bus_story.specs.BusState.{RowReading, row_reading, message_out, message_in}
+use Rattle.bus_due.specs.bus_story.specs.CarriedBytes.{CarriedBytes, carried_of, is_whole_block, is_status_phase}
+use Rattle.bus_due.specs.bus_story.specs.Items.{Item, process, has_item}
+use Rattle.bus_due.specs.bus_story.specs.Links.{Link, last_out, last_in, link_after_name}
+use Rattle.bus_due.specs.bus_story.specs.HistoryEvents.{carried_if, queue_events, is_refuse, status_event, status_events, phase_events, is_completion, end_events, connection_events, link_events, row_events_by}
+use Rattle.bus_due.specs.bus_story.specs.Story.{Story, story_after_event, story_after_events}
+use Rattle.bus_due.specs.bus_story.specs.TraceHistory.{story_with_restored, story_with_carried, is_parity_error, story_after_out, story_after_message, story_after_in, carried_after_byte_if, story_after_byte, carried_after_fault_if, story_after_fault, story_in_connection, story_on_bus, story_by_change}
 use Rattle.bus_due.specs.RunState.{RunState}
 use Rattle.bus_due.specs.RunSteps.{run_state_after}
 use Rattle.bus_books.specs.Rows.{IsRowIn, reading_in}
 use Rattle.bus_books.proofs.InConnection.{reading_is}
 use Rattle.bus_books.proofs.Knows.{link_after}
 use Rattle.trace_laws.proofs.OverItems.{Grows, grows_same, grows_on, events_grow, ends_over}
-use Rattle.bus_base.proofs.Tests.{wrong, wrong'}
-use Rattle.bus_story.proofs.StorySteps.{restored_sent, carried_link}
-use Rattle.bus_story.proofs.CarriedLists.{carried_id}
+use Rattle.bus_due.specs.bus_base.proofs.Tests.{wrong, wrong'}
+use Rattle.bus_due.specs.bus_story.proofs.StorySteps.{restored_sent, carried_link}
+use Rattle.bus_due.specs.bus_story.proofs.CarriedLists.{carried_id}
 
 -- ---- a row of a connection leaves what is sent and over, but for its events
 

@@ -2,17 +2,17 @@
 use Rattle.std.proofs.Common.{ℕ, ◌≡◌, Bool, true, false, not, ◌&&◌, ◌==◌, ◌∙◌, List, [], ◌∷◌, Option, Some, None, refl, sym, ap}
 use Rattle.std.specs.Prelude.{if◌then◌else◌, ◌++◌}
 use Rattle.std.proofs.lemmas.Option.{same_Some}
-use Rattle.disk_array.specs.Contents.{Contents}
-use Rattle.disk_array.specs.Execution.{CommandContext, execution}
-use Rattle.disk_array.specs.Order.{choice}
-use Rattle.disk_array.specs.Processes.{Process}
-use Rattle.disk_array.specs.Steps.{context_at}
-use Rattle.disk_array.specs.Units.{UnitState, Nexus, Array, unit_state_at, with_unit, with_current, has_no_current, is_held, unit_after_choice, units_after_choice, settled_array, nexus_of}
+use Rattle.bus_due.specs.disk_array.specs.Contents.{Contents}
+use Rattle.bus_due.specs.disk_array.specs.Execution.{CommandContext, execution}
+use Rattle.bus_due.specs.disk_array.specs.Order.{choice}
+use Rattle.bus_due.specs.disk_array.specs.Processes.{Process}
+use Rattle.bus_due.specs.disk_array.specs.Steps.{context_at}
+use Rattle.bus_due.specs.disk_array.specs.Units.{UnitState, Nexus, Array, unit_state_at, with_unit, with_current, has_no_current, is_held, unit_after_choice, units_after_choice, settled_array, nexus_of}
 use Rattle.bus_due.specs.Tasks.{moved_count, reply_now, size_of}
 use Rattle.trace_laws.proofs.Impossible.{none_some}
-use Rattle.bus_base.proofs.Tests.{eq_self}
-use Rattle.disk_array.proofs.SeatSteps.{choice_target, choice_unit}
-use Rattle.disk_array.proofs.SeatLookups.{found_target, found_unit}
+use Rattle.bus_due.specs.bus_base.proofs.Tests.{eq_self}
+use Rattle.bus_due.specs.disk_array.proofs.SeatSteps.{choice_target, choice_unit}
+use Rattle.bus_due.specs.disk_array.proofs.SeatLookups.{found_target, found_unit}
 
 -- ---- the unit
 

@@ -1,31 +1,31 @@
 -- Of a prompt trace: as a byte of DATA OUT crosses, it is one of the run; and all are answered as the phase is left.
 use Rattle.std.proofs.Common.{ℕ, ◌≡◌, ◌+◌, ◌≤◌, ◌<◌, Bool, true, false, not, ◌&&◌, ◌∙◌, List, ◌∷◌, length, Option, Some, None, refl, sym, ap, subst, arith, true≢false}
 use Rattle.std.specs.Prelude.{if◌then◌else◌, is_some, nat_lt, ◌==◌}
-use Rattle.bus_trace.proofs.Buses.{bus_on}
-use Rattle.bus_trace.specs.LineSet.{LineSet}
-use Rattle.bus_trace.specs.declared.Row.{Row}
-use Rattle.bus_trace.specs.declared.changes.Change.{Change}
-use Rattle.bus_trace.specs.declared.connection.Connection.{Connection}
-use Rattle.bus_trace.specs.Changes.{change_of, rises}
-use Rattle.bus_trace.specs.Phases.{changes_phase, is_data}
-use Rattle.bus_trace.specs.Terms.{connection, receiver_in, receiver_of}
-use Rattle.bus_trace.specs.Trace.{bus, drives}
-use Rattle.bus_rules.specs.Reset.{only_rst}
-use Rattle.bus_lines.specs.Handshakes.{Handshakes, handshakes}
-use Rattle.cdb_codec.specs.declared.status.TheConstants.{GOOD}
-use Rattle.scenario.specs.Value.{ScenarioValue}
-use Rattle.scenario.specs.Writing.{Obeys}
-use Rattle.disk_array.specs.Execution.{Reply}
-use Rattle.disk_array.specs.Processes.{Process}
-use Rattle.bus_story.specs.BusState.{row_reading}
-use Rattle.bus_dialogue.specs.declared.exchange.Phase.TheVariants as phases
-use Rattle.bus_dialogue.specs.declared.exchange.Task.{Task}
-use Rattle.bus_dialogue.specs.Arrivals.{policy_of}
-use Rattle.bus_dialogue.specs.DataRuns.{run_at, run_length}
-use Rattle.bus_dialogue.specs.Ends.{is_pulsed_phase}
-use Rattle.bus_dialogue.specs.Hearing.{begun}
-use Rattle.bus_dialogue.specs.NextPhase.{phase_of}
-use Rattle.bus_dialogue.specs.PhaseBytes.{run_length_if, follows_in}
+use Rattle.bus_due.specs.bus_trace.proofs.Buses.{bus_on}
+use Rattle.bus_due.specs.bus_trace.specs.LineSet.{LineSet}
+use Rattle.bus_due.specs.bus_trace.specs.declared.Row.{Row}
+use Rattle.bus_due.specs.bus_trace.specs.declared.changes.Change.{Change}
+use Rattle.bus_due.specs.bus_trace.specs.declared.connection.Connection.{Connection}
+use Rattle.bus_due.specs.bus_trace.specs.Changes.{change_of, rises}
+use Rattle.bus_due.specs.bus_trace.specs.Phases.{changes_phase, is_data}
+use Rattle.bus_due.specs.bus_trace.specs.Terms.{connection, receiver_in, receiver_of}
+use Rattle.bus_due.specs.bus_trace.specs.Trace.{bus, drives}
+use Rattle.bus_due.specs.bus_rules.specs.Reset.{only_rst}
+use Rattle.bus_due.specs.bus_lines.specs.Handshakes.{Handshakes, handshakes}
+use Rattle.bus_due.specs.cdb_codec.specs.declared.status.TheConstants.{GOOD}
+use Rattle.bus_due.specs.scenario.specs.Value.{ScenarioValue}
+use Rattle.bus_due.specs.scenario.specs.Writing.{Obeys}
+use Rattle.bus_due.specs.disk_array.specs.Execution.{Reply}
+use Rattle.bus_due.specs.disk_array.specs.Processes.{Process}
+use Rattle.bus_due.specs.bus_story.specs.BusState.{row_reading}
+use Rattle.bus_due.specs.bus_dialogue.specs.declared.exchange.Phase.TheVariants as phases
+use Rattle.bus_due.specs.bus_dialogue.specs.declared.exchange.Task.{Task}
+use Rattle.bus_due.specs.bus_dialogue.specs.Arrivals.{policy_of}
+use Rattle.bus_due.specs.bus_dialogue.specs.DataRuns.{run_at, run_length}
+use Rattle.bus_due.specs.bus_dialogue.specs.Ends.{is_pulsed_phase}
+use Rattle.bus_due.specs.bus_dialogue.specs.Hearing.{begun}
+use Rattle.bus_due.specs.bus_dialogue.specs.NextPhase.{phase_of}
+use Rattle.bus_due.specs.bus_dialogue.specs.PhaseBytes.{run_length_if, follows_in}
 use Rattle.bus_due.specs.Defs.{target_def_of}
 use Rattle.bus_due.specs.Least.{IsLeast}
 use Rattle.bus_due.specs.Next.{due, IsPrompt}
@@ -36,12 +36,12 @@ use Rattle.bus_due.specs.Sights.{serving_of, offering_of}
 use Rattle.bus_due.specs.Tasks.{is_writing, task_if, moved_count, reply_now}
 use Rattle.bus_due.proofs.Plains.{run_state_plain}
 use Rattle.bus_books.specs.Reactions.{IsOver}
-use Rattle.bus_laws.specs.Reactions.{unreset_due}
-use Rattle.bus_laws.specs.Rows.{row_of_lines}
-use Rattle.bus_laws.proofs.Apart.{change_plain}
-use Rattle.bus_laws.proofs.Prompt.{least_is}
-use Rattle.bus_laws.proofs.Rows.{drives_own}
-use Rattle.bus_laws.proofs.Together.{by_reset, by_calm, reset_or_calm}
+use Rattle.link_laws.specs.bus_laws.specs.Reactions.{unreset_due}
+use Rattle.link_laws.specs.bus_laws.specs.Rows.{row_of_lines}
+use Rattle.link_laws.specs.bus_laws.proofs.Apart.{change_plain}
+use Rattle.link_laws.specs.bus_laws.proofs.Prompt.{least_is}
+use Rattle.link_laws.specs.bus_laws.proofs.Rows.{drives_own}
+use Rattle.link_laws.specs.bus_laws.proofs.Together.{by_reset, by_calm, reset_or_calm}
 use Rattle.link_laws.specs.Pulses.{Pulsing, run_count}
 use Rattle.link_laws.specs.LinkStages.{LinkStage, when_selected, when_settling, when_turning, when_offering, when_shaking, when_pulsing}
 use Rattle.link_laws.proofs.EndDues.{mover_is}
@@ -60,7 +60,7 @@ use Rattle.trace_laws.proofs.RunSteps.{link_step, pulsed_as, no_in}
 use Rattle.trace_laws.proofs.Tests.{risen}
 use Rattle.std.proofs.Math.Nat.{le_antisymm}
 use Rattle.std.proofs.lemmas.Bool.{ltb-false}
-use Rattle.bus_base.proofs.Tests.{wrong, wrong'}
+use Rattle.bus_due.specs.bus_base.proofs.Tests.{wrong, wrong'}
 
 -- ---- what the row does with REQ and ACK
 
@@ -203,7 +203,7 @@ run_moved s p row n o prompt was facts counted con calm off after q known crosse
     here = ap phase_of (sym pl.bus) ∙ phase
 
     task : Task
-    task = Rattle.bus_due.specs.Tasks.task_with (Rattle.bus_due.specs.RunState.array_of s k) (Rattle.bus_due.specs.LastingState.progress_in k.progress q.id) q (carried_here k q.id) (reply_now (Rattle.bus_due.specs.RunState.array_of s k) q) (Rattle.disk_array.specs.ArrayHistory.reply_in (Rattle.bus_due.specs.RunState.array_of s k).replies q.id)
+    task = Rattle.bus_due.specs.Tasks.task_with (Rattle.bus_due.specs.RunState.array_of s k) (Rattle.bus_due.specs.LastingState.progress_in k.progress q.id) q (carried_here k q.id) (reply_now (Rattle.bus_due.specs.RunState.array_of s k) q) (Rattle.bus_due.specs.disk_array.specs.ArrayHistory.reply_in (Rattle.bus_due.specs.RunState.array_of s k).replies q.id)
 
     target : q.target ≡ n.target
     target = (facts.served n q (pl.connection ∙ con) (ap (λ (l : LineSet). l.rst) pl.bus ∙ calm) served w).target_is

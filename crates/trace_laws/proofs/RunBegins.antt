@@ -3,38 +3,38 @@ use Rattle.std.proofs.Common.{ℕ, ◌≡◌, ◌⊎◌, inl, inr, Bool, true, f
 use Rattle.std.specs.Prelude.{if◌then◌else◌, is_some, nat_lt, ◌-◌}
 use Rattle.std.specs.List.{list_any}
 use Rattle.std.proofs.lemmas.Option.{same_Some}
-use Rattle.bus_base.specs.declared.Event.{Event}
-use Rattle.bus_base.specs.declared.Event.TheVariants as events
+use Rattle.bus_due.specs.bus_base.specs.declared.Event.{Event}
+use Rattle.bus_due.specs.bus_base.specs.declared.Event.TheVariants as events
 use Rattle.std.proofs.lemmas.Bool.Decides.{nat_tests}
 use Rattle.std.proofs.lemmas.Bool.{not-false}
-use Rattle.cdb_codec.specs.Cdb.{command_of}
-use Rattle.disk_array.specs.Execution.{is_request_sense}
-use Rattle.disk_array.specs.Steps.{step, settled_array_if, accept_step, accept_step_at, queue_step, with_guest, process_count}
-use Rattle.disk_array.specs.Units.{Array, UnitState, unit_state_at, with_unit}
-use Rattle.bus_dialogue.specs.declared.exchange.Arrival.{Arrival}
-use Rattle.bus_dialogue.specs.declared.exchange.Arrival.TheVariants as arrivals
-use Rattle.bus_dialogue.specs.declared.exchange.Room.{Room}
-use Rattle.bus_trace.specs.LineSet.{LineSet}
-use Rattle.bus_trace.specs.declared.Row.{Row}
-use Rattle.bus_trace.specs.declared.connection.Connection.{Connection}
-use Rattle.bus_trace.specs.Changes.{rises}
-use Rattle.bus_trace.specs.Phases.{changes_phase, is_command}
-use Rattle.scenario.specs.declared.value.Policy.{Policy}
-use Rattle.scenario.specs.Value.{ScenarioValue}
-use Rattle.disk_array.specs.ArrayHistory.{array_after, array_step}
-use Rattle.disk_array.specs.Order.{count_in, range_in}
-use Rattle.disk_array.specs.Processes.{Process, process_of}
-use Rattle.bus_story.specs.BusState.{RowReading}
-use Rattle.bus_story.specs.CarriedBytes.{CarriedBytes, is_whole_block, is_status_phase}
-use Rattle.bus_story.specs.HistoryEvents.{row_events_by, link_events, connection_events, bus_free_events, phase_events, queue_event, queue_events, is_refuse, status_event, is_completion, end_events, carried_if}
-use Rattle.bus_story.specs.Links.{Link}
-use Rattle.bus_story.specs.Story.{Story}
-use Rattle.bus_dialogue.specs.declared.exchange.Leaving.{Leaving}
-use Rattle.bus_dialogue.specs.declared.exchange.Phase.TheVariants as phases
-use Rattle.bus_dialogue.specs.declared.exchange.Task.{Task}
-use Rattle.bus_dialogue.specs.Arrivals.{policy_of, is_never, arrival_by}
-use Rattle.bus_dialogue.specs.DataRuns.{run_in, run_length, runs_in_all}
-use Rattle.bus_dialogue.specs.NextPhase.{phase_of, leaving_by, phase_leaving}
+use Rattle.bus_due.specs.cdb_codec.specs.Cdb.{command_of}
+use Rattle.bus_due.specs.disk_array.specs.Execution.{is_request_sense}
+use Rattle.bus_due.specs.disk_array.specs.Steps.{step, settled_array_if, accept_step, accept_step_at, queue_step, with_guest, process_count}
+use Rattle.bus_due.specs.disk_array.specs.Units.{Array, UnitState, unit_state_at, with_unit}
+use Rattle.bus_due.specs.bus_dialogue.specs.declared.exchange.Arrival.{Arrival}
+use Rattle.bus_due.specs.bus_dialogue.specs.declared.exchange.Arrival.TheVariants as arrivals
+use Rattle.bus_due.specs.bus_dialogue.specs.declared.exchange.Room.{Room}
+use Rattle.bus_due.specs.bus_trace.specs.LineSet.{LineSet}
+use Rattle.bus_due.specs.bus_trace.specs.declared.Row.{Row}
+use Rattle.bus_due.specs.bus_trace.specs.declared.connection.Connection.{Connection}
+use Rattle.bus_due.specs.bus_trace.specs.Changes.{rises}
+use Rattle.bus_due.specs.bus_trace.specs.Phases.{changes_phase, is_command}
+use Rattle.bus_due.specs.scenario.specs.declared.value.Policy.{Policy}
+use Rattle.bus_due.specs.scenario.specs.Value.{ScenarioValue}
+use Rattle.bus_due.specs.disk_array.specs.ArrayHistory.{array_after, array_step}
+use Rattle.bus_due.specs.disk_array.specs.Order.{count_in, range_in}
+use Rattle.bus_due.specs.disk_array.specs.Processes.{Process, process_of}
+use Rattle.bus_due.specs.bus_story.specs.BusState.{RowReading}
+use Rattle.bus_due.specs.bus_story.specs.CarriedBytes.{CarriedBytes, is_whole_block, is_status_phase}
+use Rattle.bus_due.specs.bus_story.specs.HistoryEvents.{row_events_by, link_events, connection_events, bus_free_events, phase_events, queue_event, queue_events, is_refuse, status_event, is_completion, end_events, carried_if}
+use Rattle.bus_due.specs.bus_story.specs.Links.{Link}
+use Rattle.bus_due.specs.bus_story.specs.Story.{Story}
+use Rattle.bus_due.specs.bus_dialogue.specs.declared.exchange.Leaving.{Leaving}
+use Rattle.bus_due.specs.bus_dialogue.specs.declared.exchange.Phase.TheVariants as phases
+use Rattle.bus_due.specs.bus_dialogue.specs.declared.exchange.Task.{Task}
+use Rattle.bus_due.specs.bus_dialogue.specs.Arrivals.{policy_of, is_never, arrival_by}
+use Rattle.bus_due.specs.bus_dialogue.specs.DataRuns.{run_in, run_length, runs_in_all}
+use Rattle.bus_due.specs.bus_dialogue.specs.NextPhase.{phase_of, leaving_by, phase_leaving}
 use Rattle.bus_due.specs.Defs.{target_def_of}
 use Rattle.bus_due.specs.LastingState.{progress_in}
 use Rattle.bus_due.specs.RunState.{RunState, or_start, array_of, bus_of, process_served}
@@ -48,7 +48,7 @@ use Rattle.trace_laws.proofs.RunEntries.{IsRunEntry, enters_run}
 use Rattle.trace_laws.proofs.RunFacts.{task_here, none_in_all, write_no_sense}
 use Rattle.trace_laws.proofs.RunFits.{blocks_named}
 use Rattle.trace_laws.proofs.RunParts.{RunsFit}
-use Rattle.bus_base.proofs.Tests.{wrong'}
+use Rattle.bus_due.specs.bus_base.proofs.Tests.{wrong'}
 
 -- ---- the row tells no event
 

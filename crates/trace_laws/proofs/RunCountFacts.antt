@@ -1,32 +1,32 @@
 -- Of a prompt trace: how many bytes of a run were asked for and answered, after each row of DATA OUT.
 use Rattle.std.proofs.Common.{ℕ, ◌≡◌, ◌+◌, ◌≤◌, ◌<◌, ◌^◌, Bool, true, false, not, ◌&&◌, ◌||◌, ◌==◌, ◌∙◌, List, [], ◌∷◌, Some, refl, sym, ap, subst, arith, true≢false}
 use Rattle.std.specs.Prelude.{if◌then◌else◌}
-use Rattle.bus_trace.specs.LineSet.{LineSet}
-use Rattle.bus_trace.specs.declared.Row.{Row}
-use Rattle.bus_trace.specs.declared.Kind.{Kind}
-use Rattle.bus_trace.specs.declared.Kind.TheVariants.{Drives, Fault}
-use Rattle.bus_trace.specs.declared.changes.Change.{Change}
-use Rattle.bus_trace.specs.declared.connection.Connection.{Connection}
-use Rattle.bus_trace.specs.Changes.{change_of, rises}
-use Rattle.bus_trace.specs.Phases.{changes_phase}
-use Rattle.bus_trace.specs.Terms.{connection, is_fault}
-use Rattle.bus_trace.specs.Trace.{bus, drives}
-use Rattle.bus_trace.proofs.Sets.{same_self}
-use Rattle.bus_lines.specs.Handshakes.{Handshakes, handshakes, no_handshakes, handshakes_after, asked_if, answered_if}
-use Rattle.scenario.specs.Value.{ScenarioValue}
-use Rattle.scenario.specs.Writing.{Obeys}
-use Rattle.scsi_device.proofs.FitLines.{obeys_fits}
-use Rattle.bus_dialogue.specs.declared.exchange.Phase.TheVariants as phases
-use Rattle.bus_dialogue.specs.Hearing.{begun, begun_after}
-use Rattle.bus_dialogue.specs.NextPhase.{phase_of}
+use Rattle.bus_due.specs.bus_trace.specs.LineSet.{LineSet}
+use Rattle.bus_due.specs.bus_trace.specs.declared.Row.{Row}
+use Rattle.bus_due.specs.bus_trace.specs.declared.Kind.{Kind}
+use Rattle.bus_due.specs.bus_trace.specs.declared.Kind.TheVariants.{Drives, Fault}
+use Rattle.bus_due.specs.bus_trace.specs.declared.changes.Change.{Change}
+use Rattle.bus_due.specs.bus_trace.specs.declared.connection.Connection.{Connection}
+use Rattle.bus_due.specs.bus_trace.specs.Changes.{change_of, rises}
+use Rattle.bus_due.specs.bus_trace.specs.Phases.{changes_phase}
+use Rattle.bus_due.specs.bus_trace.specs.Terms.{connection, is_fault}
+use Rattle.bus_due.specs.bus_trace.specs.Trace.{bus, drives}
+use Rattle.bus_due.specs.bus_trace.proofs.Sets.{same_self}
+use Rattle.bus_due.specs.bus_lines.specs.Handshakes.{Handshakes, handshakes, no_handshakes, handshakes_after, asked_if, answered_if}
+use Rattle.bus_due.specs.scenario.specs.Value.{ScenarioValue}
+use Rattle.bus_due.specs.scenario.specs.Writing.{Obeys}
+use Rattle.target_units.specs.scsi_device.proofs.FitLines.{obeys_fits}
+use Rattle.bus_due.specs.bus_dialogue.specs.declared.exchange.Phase.TheVariants as phases
+use Rattle.bus_due.specs.bus_dialogue.specs.Hearing.{begun, begun_after}
+use Rattle.bus_due.specs.bus_dialogue.specs.NextPhase.{phase_of}
 use Rattle.bus_due.specs.Next.{IsPrompt}
 use Rattle.bus_due.specs.Plain.{AreOfDevices}
 use Rattle.bus_books.specs.Rows.{IsRowIn}
 use Rattle.bus_books.proofs.InConnection.{SamePhase, same_phase_is}
 use Rattle.bus_due.specs.RunSteps.{run_state}
-use Rattle.bus_laws.specs.Ends.{BeginsConnection, by_selection, by_reselection}
-use Rattle.bus_laws.specs.Rows.{row_of_fault}
-use Rattle.bus_laws.proofs.Rows.{fault_change}
+use Rattle.link_laws.specs.bus_laws.specs.Ends.{BeginsConnection, by_selection, by_reselection}
+use Rattle.link_laws.specs.bus_laws.specs.Rows.{row_of_fault}
+use Rattle.link_laws.specs.bus_laws.proofs.Rows.{fault_change}
 use Rattle.link_laws.specs.LinkStages.{LinkStage, when_selected, when_settling, when_turning, when_offering, when_shaking, when_pulsing}
 use Rattle.link_laws.specs.Pulses.{run_count}
 use Rattle.link_laws.proofs.DataRows.{count_stays}
@@ -41,7 +41,7 @@ use Rattle.trace_laws.proofs.RunAsks.{out_step}
 use Rattle.trace_laws.proofs.RunBegun.{run_begun}
 use Rattle.trace_laws.proofs.RunCountRows.{pulses_stay, counts_stay}
 use Rattle.trace_laws.proofs.RunSteps.{no_in}
-use Rattle.bus_base.proofs.Tests.{wrong'}
+use Rattle.bus_due.specs.bus_base.proofs.Tests.{wrong'}
 
 pub counts_start : (s : ScenarioValue) → CountFacts s []
 counts_start s = record { counts = λ n e. absurd cc }

@@ -1,38 +1,38 @@
 -- What was asked for and answered of a run goes on with each row of DATA OUT.
 use Rattle.std.proofs.Common.{ℕ, ◌≡◌, ◌⊎◌, inl, inr, ◌+◌, ◌≤◌, ◌<◌, ◌^◌, Bool, true, false, not, ◌&&◌, ◌==◌, ◌∙◌, List, ◌∷◌, Option, Some, None, refl, sym, ap, subst, arith, true≢false}
 use Rattle.std.specs.Prelude.{if◌then◌else◌, is_some, nat_lt, ◌%◌}
-use Rattle.bus_base.specs.Faults.{counted_on}
-use Rattle.bus_trace.specs.LineSet.{LineSet}
-use Rattle.bus_trace.specs.declared.Row.{Row}
-use Rattle.bus_trace.specs.declared.Kind.{Kind}
-use Rattle.bus_trace.specs.declared.Kind.TheVariants.{Drives, Fault}
-use Rattle.bus_trace.specs.declared.changes.Change.{Change}
-use Rattle.bus_trace.specs.declared.connection.Connection.{Connection}
-use Rattle.bus_trace.specs.Changes.{change_of, rises}
-use Rattle.bus_trace.specs.Phases.{changes_phase}
-use Rattle.bus_trace.specs.Terms.{connection, is_fault, receiver_in}
-use Rattle.bus_trace.specs.Trace.{bus, drives}
-use Rattle.bus_phases.specs.declared.dialogue.Dialogue.{Dialogue}
-use Rattle.bus_phases.specs.Dialogue.{dialogue, byte_out, byte_in, byte_else, byte_crosses}
-use Rattle.bus_lines.specs.Handshakes.{Handshakes, handshakes, no_handshakes, handshakes_after, asked_if, answered_if, strikes_if}
-use Rattle.scenario.specs.Value.{ScenarioValue}
-use Rattle.bus_dialogue.specs.declared.exchange.Phase.TheVariants as phases
-use Rattle.bus_dialogue.specs.NextPhase.{phase_of}
+use Rattle.bus_due.specs.bus_base.specs.Faults.{counted_on}
+use Rattle.bus_due.specs.bus_trace.specs.LineSet.{LineSet}
+use Rattle.bus_due.specs.bus_trace.specs.declared.Row.{Row}
+use Rattle.bus_due.specs.bus_trace.specs.declared.Kind.{Kind}
+use Rattle.bus_due.specs.bus_trace.specs.declared.Kind.TheVariants.{Drives, Fault}
+use Rattle.bus_due.specs.bus_trace.specs.declared.changes.Change.{Change}
+use Rattle.bus_due.specs.bus_trace.specs.declared.connection.Connection.{Connection}
+use Rattle.bus_due.specs.bus_trace.specs.Changes.{change_of, rises}
+use Rattle.bus_due.specs.bus_trace.specs.Phases.{changes_phase}
+use Rattle.bus_due.specs.bus_trace.specs.Terms.{connection, is_fault, receiver_in}
+use Rattle.bus_due.specs.bus_trace.specs.Trace.{bus, drives}
+use Rattle.bus_due.specs.bus_phases.specs.declared.dialogue.Dialogue.{Dialogue}
+use Rattle.bus_due.specs.bus_phases.specs.Dialogue.{dialogue, byte_out, byte_in, byte_else, byte_crosses}
+use Rattle.bus_due.specs.bus_lines.specs.Handshakes.{Handshakes, handshakes, no_handshakes, handshakes_after, asked_if, answered_if, strikes_if}
+use Rattle.bus_due.specs.scenario.specs.Value.{ScenarioValue}
+use Rattle.bus_due.specs.bus_dialogue.specs.declared.exchange.Phase.TheVariants as phases
+use Rattle.bus_due.specs.bus_dialogue.specs.NextPhase.{phase_of}
 use Rattle.bus_due.specs.Plain.{IsPlain, AreOfDevices}
 use Rattle.bus_due.specs.RunState.{RunState}
 use Rattle.bus_due.specs.RunSteps.{run_state}
 use Rattle.bus_due.proofs.Plains.{run_state_plain}
 use Rattle.bus_books.specs.Rows.{RowKind, still, strikes, crosses, turns, IsRowIn}
 use Rattle.bus_books.proofs.InConnection.{InConnection, in_connection, dialogue_by, SamePhase, same_phase_is}
-use Rattle.bus_laws.specs.Rows.{row_of_fault}
-use Rattle.bus_laws.proofs.Rows.{fault_change}
+use Rattle.link_laws.specs.bus_laws.specs.Rows.{row_of_fault}
+use Rattle.link_laws.specs.bus_laws.proofs.Rows.{fault_change}
 use Rattle.link_laws.specs.Pulses.{run_count}
 use Rattle.link_laws.proofs.Moves.{no_rise}
 use Rattle.link_laws.proofs.PulseSteps.{count_more}
 use Rattle.trace_laws.specs.RunCounts.{AreCounted, pulses_here}
 use Rattle.trace_laws.proofs.PointerRows.{run_lines}
 use Rattle.trace_laws.proofs.RunSteps.{OutStep}
-use Rattle.bus_base.proofs.Tests.{wrong', zero_of}
+use Rattle.bus_due.specs.bus_base.proofs.Tests.{wrong', zero_of}
 
 -- ---- counts
 
@@ -138,8 +138,8 @@ fault_quiet p row e = go row.kind refl e
 data_agreement : (d : Dialogue) (c : Change) → c.before.msg ≡ false → c.before.cd ≡ false → (byte_crosses d c).heard.now.agreement ≡ d.heard.now.agreement
 data_agreement d c em ed =
     ap (λ (m : Bool). (if m && c.before.cd && not c.before.io then byte_out d (c.after.data_bits % 256) (not c.after.atn) else if m && c.before.cd && c.before.io then byte_in d (c.after.data_bits % 256) else byte_else d c.before (c.after.data_bits % 256)).heard.now.agreement) em
-    ∙ ap (λ (m : Bool). (if not c.before.msg && m && not c.before.io then record d { heard = Rattle.bus_phases.specs.Dialogue.heard_with_command d.heard (c.after.data_bits % 256); begun = true } else record d { begun = true }).heard.now.agreement) ed
-    ∙ ap (λ (b : Bool). (if b then record d { heard = Rattle.bus_phases.specs.Dialogue.heard_with_command d.heard (c.after.data_bits % 256); begun = true } else record d { begun = true }).heard.now.agreement) (none c.before.msg)
+    ∙ ap (λ (m : Bool). (if not c.before.msg && m && not c.before.io then record d { heard = Rattle.bus_due.specs.bus_phases.specs.Dialogue.heard_with_command d.heard (c.after.data_bits % 256); begun = true } else record d { begun = true }).heard.now.agreement) ed
+    ∙ ap (λ (b : Bool). (if b then record d { heard = Rattle.bus_due.specs.bus_phases.specs.Dialogue.heard_with_command d.heard (c.after.data_bits % 256); begun = true } else record d { begun = true }).heard.now.agreement) (none c.before.msg)
   where
     none : (m : Bool) → (not m && false && not c.before.io) ≡ false
     none true = refl

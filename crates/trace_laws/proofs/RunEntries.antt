@@ -1,24 +1,24 @@
 -- DATA OUT is entered from MESSAGE IN and from COMMAND alone, and for a process that writes and has made fewer runs than all (6.6.6, 6.6.20).
 use Rattle.std.proofs.Common.{◌≡◌, ◌⊎◌, inl, inr, Bool, true, false, ◌∙◌, Option, Some, None, refl, sym, ap, true≢false}
 use Rattle.std.specs.Prelude.{if◌then◌else◌, is_some, nat_lt, ◌+◌}
-use Rattle.bus_trace.specs.declared.agreements.Agreement.{Agreement}
-use Rattle.msg_grammar.specs.declared.message.MsgIn.{MsgIn}
-use Rattle.scenario.specs.declared.value.Policy.{Policy}
-use Rattle.scenario.specs.declared.value.TargetDef.{TargetDef}
-use Rattle.bus_dialogue.specs.declared.exchange.Arrival.{Arrival}
-use Rattle.bus_dialogue.specs.declared.exchange.Arrival.TheVariants as arrivals
-use Rattle.bus_dialogue.specs.declared.exchange.Cause.{Cause}
-use Rattle.bus_dialogue.specs.declared.exchange.Cause.TheVariants as causes
-use Rattle.bus_dialogue.specs.declared.exchange.Leaving.{Leaving}
-use Rattle.bus_dialogue.specs.declared.exchange.Next.{Next}
-use Rattle.bus_dialogue.specs.declared.exchange.Next.TheVariants as nexts
-use Rattle.bus_dialogue.specs.declared.exchange.Phase.{Phase}
-use Rattle.bus_dialogue.specs.declared.exchange.Phase.TheVariants as phases
-use Rattle.bus_dialogue.specs.declared.exchange.Task.{Task}
-use Rattle.bus_dialogue.specs.Arrivals.{policy_of}
-use Rattle.bus_dialogue.specs.DataRuns.{runs_in_all}
-use Rattle.bus_dialogue.specs.NextPhase.{Serving, phase_leaving, phase_entry, bus_free, with_task, recovery, recovery_limit, pointer_restoration, next_data_phase, request_or_command, after_offer, message_repetition, message_out_leaving, after_messages, after_arrival, command_leaving, disconnection, disconnect_messages, after_run, data_in_leaving, data_out_leaving}
-use Rattle.bus_dialogue.specs.Words.{request_by, is_naming}
+use Rattle.bus_due.specs.bus_trace.specs.declared.agreements.Agreement.{Agreement}
+use Rattle.bus_due.specs.msg_grammar.specs.declared.message.MsgIn.{MsgIn}
+use Rattle.bus_due.specs.scenario.specs.declared.value.Policy.{Policy}
+use Rattle.bus_due.specs.scenario.specs.declared.value.TargetDef.{TargetDef}
+use Rattle.bus_due.specs.bus_dialogue.specs.declared.exchange.Arrival.{Arrival}
+use Rattle.bus_due.specs.bus_dialogue.specs.declared.exchange.Arrival.TheVariants as arrivals
+use Rattle.bus_due.specs.bus_dialogue.specs.declared.exchange.Cause.{Cause}
+use Rattle.bus_due.specs.bus_dialogue.specs.declared.exchange.Cause.TheVariants as causes
+use Rattle.bus_due.specs.bus_dialogue.specs.declared.exchange.Leaving.{Leaving}
+use Rattle.bus_due.specs.bus_dialogue.specs.declared.exchange.Next.{Next}
+use Rattle.bus_due.specs.bus_dialogue.specs.declared.exchange.Next.TheVariants as nexts
+use Rattle.bus_due.specs.bus_dialogue.specs.declared.exchange.Phase.{Phase}
+use Rattle.bus_due.specs.bus_dialogue.specs.declared.exchange.Phase.TheVariants as phases
+use Rattle.bus_due.specs.bus_dialogue.specs.declared.exchange.Task.{Task}
+use Rattle.bus_due.specs.bus_dialogue.specs.Arrivals.{policy_of}
+use Rattle.bus_due.specs.bus_dialogue.specs.DataRuns.{runs_in_all}
+use Rattle.bus_due.specs.bus_dialogue.specs.NextPhase.{Serving, phase_leaving, phase_entry, bus_free, with_task, recovery, recovery_limit, pointer_restoration, next_data_phase, request_or_command, after_offer, message_repetition, message_out_leaving, after_messages, after_arrival, command_leaving, disconnection, disconnect_messages, after_run, data_in_leaving, data_out_leaving}
+use Rattle.bus_due.specs.bus_dialogue.specs.Words.{request_by, is_naming}
 
 -- ---- DATA OUT does not follow
 
@@ -106,7 +106,7 @@ after_command v None e arrival is to = no_run bus_free refl to
 after_command v (Some t) e arrivals.Refused is to = no_run (phase_entry phases.Status) refl to
 after_command v (Some t) e arrivals.Guest is to = enters_by v phases.Command (inr (refl, inl is)) (Some t) e to
 after_command v (Some t) e arrivals.AtOnce is to = enters_by v phases.Command (inr (refl, inr is)) (Some t) e to
-after_command v (Some t) e arrivals.Queued is to = no_run (disconnection (Rattle.bus_dialogue.specs.Exchange.one_message Rattle.msg_grammar.specs.declared.message.MsgIn.TheVariants.Disconnect)) refl to
+after_command v (Some t) e arrivals.Queued is to = no_run (disconnection (Rattle.bus_due.specs.bus_dialogue.specs.Exchange.one_message Rattle.bus_due.specs.msg_grammar.specs.declared.message.MsgIn.TheVariants.Disconnect)) refl to
 
 commands : (v : Serving) → (command_leaving v v.arrival).to ≡ Some phases.DataOut → EntersRun v phases.Command (command_leaving v v.arrival)
 commands v e = go v.plan.struck e
@@ -127,4 +127,4 @@ enters_run v true phases.DataIn e = no_run (phase_entry phases.MessageOut) refl 
 enters_run v false phases.DataIn e = no_run (data_in_leaving v) (none_with v.task (λ t. after_run (policy_of v.def) t) (λ t. none_after (policy_of v.def) t)) e
 enters_run v atn phases.DataOut e = no_run (data_out_leaving v) (none_data_out v) e
 enters_run v true phases.Status e = no_run (phase_entry phases.MessageOut) refl e
-enters_run v false phases.Status e = no_run (disconnection (Rattle.bus_dialogue.specs.Exchange.one_message Rattle.msg_grammar.specs.declared.message.MsgIn.TheVariants.CommandComplete)) refl e
+enters_run v false phases.Status e = no_run (disconnection (Rattle.bus_due.specs.bus_dialogue.specs.Exchange.one_message Rattle.bus_due.specs.msg_grammar.specs.declared.message.MsgIn.TheVariants.CommandComplete)) refl e

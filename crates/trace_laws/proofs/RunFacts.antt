@@ -3,43 +3,43 @@ use Rattle.std.proofs.Common.{ℕ, ◌≡◌, ◌⊎◌, inl, inr, ◌+◌, ◌*
 use Rattle.std.specs.Prelude.{if◌then◌else◌, is_some, nat_lt, ◌==◌}
 use Rattle.std.proofs.lemmas.Bool.Decides.{nat_tests}
 use Rattle.std.proofs.lemmas.Option.{same_Some}
-use Rattle.bus_base.specs.declared.ProcId.{ProcId}
-use Rattle.bus_trace.specs.LineSet.{LineSet}
-use Rattle.bus_trace.proofs.Buses.{bus_off}
-use Rattle.bus_trace.proofs.OneRow.{drives-other}
-use Rattle.bus_trace.specs.declared.Row.{Row}
-use Rattle.bus_trace.specs.declared.changes.Change.{Change}
-use Rattle.bus_trace.specs.declared.connection.Connection.{Connection}
-use Rattle.bus_trace.specs.Changes.{change_of, rises}
-use Rattle.bus_trace.specs.Phases.{changes_phase, is_data}
-use Rattle.bus_trace.specs.Terms.{call, connection, connection_after, receiver_of}
-use Rattle.bus_trace.specs.Trace.{bus, drives, driven_after}
-use Rattle.bus_lines.specs.Handshakes.{Handshakes, handshakes}
-use Rattle.cdb_codec.specs.Cdb.{command_of}
-use Rattle.cdb_codec.specs.declared.command.Command.{Command}
-use Rattle.cdb_codec.specs.declared.command.Command.TheVariants as commands
-use Rattle.cdb_codec.specs.declared.command.CdbFault.{CdbFault}
-use Rattle.scenario.specs.Needs.{is_write}
-use Rattle.scenario.specs.declared.value.Policy.{Policy}
-use Rattle.scenario.specs.Value.{ScenarioValue}
-use Rattle.scenario.specs.Writing.{Obeys}
-use Rattle.disk_array.specs.Execution.{is_request_sense}
-use Rattle.disk_array.specs.Order.{range_in}
-use Rattle.disk_array.specs.Processes.{Process, process_of}
-use Rattle.disk_array.specs.Units.{Array, UnitState, unit_state_at}
-use Rattle.bus_story.specs.BusState.{row_reading}
-use Rattle.bus_story.specs.Items.{process, has_item}
-use Rattle.bus_story.specs.Links.{Link}
-use Rattle.bus_dialogue.specs.declared.exchange.Arrival.{Arrival}
-use Rattle.bus_dialogue.specs.declared.exchange.Arrival.TheVariants as arrivals
-use Rattle.bus_dialogue.specs.declared.exchange.Phase.{Phase}
-use Rattle.bus_dialogue.specs.declared.exchange.Phase.TheVariants as phases
-use Rattle.bus_dialogue.specs.declared.exchange.Room.{Room}
-use Rattle.bus_dialogue.specs.declared.exchange.Task.{Task}
-use Rattle.bus_dialogue.specs.Arrivals.{policy_of, is_never, arrival_by}
-use Rattle.bus_dialogue.specs.DataRuns.{run_at, run_length, runs_in_all, runs_in}
-use Rattle.bus_dialogue.specs.Hearing.{begun}
-use Rattle.bus_dialogue.specs.NextPhase.{phase_of}
+use Rattle.bus_due.specs.bus_base.specs.declared.ProcId.{ProcId}
+use Rattle.bus_due.specs.bus_trace.specs.LineSet.{LineSet}
+use Rattle.bus_due.specs.bus_trace.proofs.Buses.{bus_off}
+use Rattle.bus_due.specs.bus_trace.proofs.OneRow.{drives-other}
+use Rattle.bus_due.specs.bus_trace.specs.declared.Row.{Row}
+use Rattle.bus_due.specs.bus_trace.specs.declared.changes.Change.{Change}
+use Rattle.bus_due.specs.bus_trace.specs.declared.connection.Connection.{Connection}
+use Rattle.bus_due.specs.bus_trace.specs.Changes.{change_of, rises}
+use Rattle.bus_due.specs.bus_trace.specs.Phases.{changes_phase, is_data}
+use Rattle.bus_due.specs.bus_trace.specs.Terms.{call, connection, connection_after, receiver_of}
+use Rattle.bus_due.specs.bus_trace.specs.Trace.{bus, drives, driven_after}
+use Rattle.bus_due.specs.bus_lines.specs.Handshakes.{Handshakes, handshakes}
+use Rattle.bus_due.specs.cdb_codec.specs.Cdb.{command_of}
+use Rattle.bus_due.specs.cdb_codec.specs.declared.command.Command.{Command}
+use Rattle.bus_due.specs.cdb_codec.specs.declared.command.Command.TheVariants as commands
+use Rattle.bus_due.specs.cdb_codec.specs.declared.command.CdbFault.{CdbFault}
+use Rattle.bus_due.specs.scenario.specs.Needs.{is_write}
+use Rattle.bus_due.specs.scenario.specs.declared.value.Policy.{Policy}
+use Rattle.bus_due.specs.scenario.specs.Value.{ScenarioValue}
+use Rattle.bus_due.specs.scenario.specs.Writing.{Obeys}
+use Rattle.bus_due.specs.disk_array.specs.Execution.{is_request_sense}
+use Rattle.bus_due.specs.disk_array.specs.Order.{range_in}
+use Rattle.bus_due.specs.disk_array.specs.Processes.{Process, process_of}
+use Rattle.bus_due.specs.disk_array.specs.Units.{Array, UnitState, unit_state_at}
+use Rattle.bus_due.specs.bus_story.specs.BusState.{row_reading}
+use Rattle.bus_due.specs.bus_story.specs.Items.{process, has_item}
+use Rattle.bus_due.specs.bus_story.specs.Links.{Link}
+use Rattle.bus_due.specs.bus_dialogue.specs.declared.exchange.Arrival.{Arrival}
+use Rattle.bus_due.specs.bus_dialogue.specs.declared.exchange.Arrival.TheVariants as arrivals
+use Rattle.bus_due.specs.bus_dialogue.specs.declared.exchange.Phase.{Phase}
+use Rattle.bus_due.specs.bus_dialogue.specs.declared.exchange.Phase.TheVariants as phases
+use Rattle.bus_due.specs.bus_dialogue.specs.declared.exchange.Room.{Room}
+use Rattle.bus_due.specs.bus_dialogue.specs.declared.exchange.Task.{Task}
+use Rattle.bus_due.specs.bus_dialogue.specs.Arrivals.{policy_of, is_never, arrival_by}
+use Rattle.bus_due.specs.bus_dialogue.specs.DataRuns.{run_at, run_length, runs_in_all, runs_in}
+use Rattle.bus_due.specs.bus_dialogue.specs.Hearing.{begun}
+use Rattle.bus_due.specs.bus_dialogue.specs.NextPhase.{phase_of}
 use Rattle.bus_due.specs.Defs.{target_def_of}
 use Rattle.bus_due.specs.LastingState.{progress_in}
 use Rattle.bus_due.specs.Next.{IsPrompt}
@@ -48,12 +48,12 @@ use Rattle.bus_due.specs.RunState.{RunState, bus_of, array_of, process_served, c
 use Rattle.bus_due.specs.RunSteps.{run_state}
 use Rattle.bus_due.specs.Sights.{arrival_at, leaving}
 use Rattle.bus_due.specs.Tasks.{blocks_in, is_writing, task_of, task_if, task_with, reply_now, arrival_of, arrival_if, room_of, size_of}
-use Rattle.disk_array.specs.ArrayHistory.{array_after, reply_in}
-use Rattle.bus_story.specs.Story.{Story}
+use Rattle.bus_due.specs.disk_array.specs.ArrayHistory.{array_after, reply_in}
+use Rattle.bus_due.specs.bus_story.specs.Story.{Story}
 use Rattle.bus_due.proofs.Plains.{run_state_plain}
 use Rattle.bus_books.specs.Rows.{IsRowIn}
-use Rattle.bus_laws.proofs.Apart.{change_plain}
-use Rattle.bus_laws.proofs.FromReset.{off_at}
+use Rattle.link_laws.specs.bus_laws.proofs.Apart.{change_plain}
+use Rattle.link_laws.specs.bus_laws.proofs.FromReset.{off_at}
 use Rattle.trace_laws.specs.DataPointers.{policy_by, run_policy, run_start, run_step, PointersIf, PointersOf, ServedPointers, unnamed, named, IsServedAnew}
 use Rattle.trace_laws.specs.Offers.{OfferFacts}
 use Rattle.trace_laws.specs.RunFacts.{IsWriter, RunsBy, RunFacts}
@@ -72,7 +72,7 @@ use Rattle.trace_laws.proofs.RunParts.{RunsFit, start_is, more_cut, more_runs}
 use Rattle.trace_laws.proofs.RunRows.{runs_first, runs_row, served_id}
 use Rattle.trace_laws.proofs.Tests.{zero_times}
 use Rattle.trace_laws.proofs.PhaseLines.{data_in_lines, is_data_phase}
-use Rattle.bus_base.proofs.Tests.{eq_self, wrong'}
+use Rattle.bus_due.specs.bus_base.proofs.Tests.{eq_self, wrong'}
 use Rattle.bus_books.specs.Accounts.{policy_for}
 
 -- ---- before any row
@@ -117,7 +117,7 @@ write_no_sense (Ok (commands.Write10 lba count)) e = refl
 
 pub no_room : (a : Array) (o : Option UnitState) → room_of a o ≡ None → size_of o ≡ 0
 no_room a None e = refl
-no_room a (Some u) e = some_none (record { full = not (nat_lt (Rattle.disk_array.specs.Steps.process_count u) u.depth); idle = Rattle.bus_due.specs.Tasks.is_idle_unit a u }) e
+no_room a (Some u) e = some_none (record { full = not (nat_lt (Rattle.bus_due.specs.disk_array.specs.Steps.process_count u) u.depth); idle = Rattle.bus_due.specs.Tasks.is_idle_unit a u }) e
 
 pub none_in_all : (policy : Policy) (t : Task) (blocks : ℕ) → RunsFit policy t → t.blocks ≡ Some blocks → t.size ≡ 0 → runs_in_all policy t ≡ 0
 none_in_all policy t blocks f is z = go (t.moved == 0) refl
@@ -399,7 +399,7 @@ active_is s k q t count f served task {phase} is on b there h = go h
     go : ServedPointers s k q → (carried_here k q.id).moved.active ≡ (run_at (policy_of (target_def_of s q.target)) t t.runs).start + count
     go (unnamed l el none h) = by h.phase
       where
-        by : (phase_of (bus_of k) ≡ phases.MessageIn) ⊎ ((phase_of (bus_of k) ≡ phases.MessageOut) × (k.exchange.plan.cause ≡ Rattle.bus_dialogue.specs.declared.exchange.Cause.TheVariants.InMessage)) → (carried_here k q.id).moved.active ≡ (run_at (policy_of (target_def_of s q.target)) t t.runs).start + count
+        by : (phase_of (bus_of k) ≡ phases.MessageIn) ⊎ ((phase_of (bus_of k) ≡ phases.MessageOut) × (k.exchange.plan.cause ≡ Rattle.bus_due.specs.bus_dialogue.specs.declared.exchange.Cause.TheVariants.InMessage)) → (carried_here k q.id).moved.active ≡ (run_at (policy_of (target_def_of s q.target)) t t.runs).start + count
         by (inl z) = wrong' (sym (ap is_data_phase (sym is ∙ z)) ∙ on)
         by (inr z) = wrong' (sym (ap is_data_phase (sym is ∙ z.0)) ∙ on)
     go (named l el own h) =

@@ -2,31 +2,31 @@
 use Rattle.std.proofs.Common.{ℕ, ◌≡◌, ◌*◌, Bool, true, false, ◌∙◌, List, length, Option, Some, None, Result, Ok, Err, refl, sym, ap, subst, true≢false}
 use Rattle.std.specs.Prelude.{if◌then◌else◌, ◌==◌}
 use Rattle.std.proofs.lemmas.Option.{same_Some}
-use Rattle.bus_base.specs.declared.Event.{Event}
-use Rattle.cdb_codec.specs.Cdb.{command_of}
-use Rattle.cdb_codec.specs.declared.command.Command.{Command}
-use Rattle.cdb_codec.specs.declared.command.Command.TheVariants as commands
-use Rattle.cdb_codec.specs.declared.command.CdbFault.{CdbFault}
-use Rattle.cdb_codec.specs.declared.status.TheConstants.{GOOD}
-use Rattle.scenario.specs.Lookups.{has_target, unit_of}
-use Rattle.scenario.specs.Needs.{is_write, moved_by, need_of, sent_of}
-use Rattle.scenario.specs.Value.{ScenarioValue}
-use Rattle.scenario.specs.Writing.{Obeys}
-use Rattle.scenario.specs.declared.value.UnitDef.{UnitDef}
-use Rattle.disk_array.specs.ArrayHistory.{array_after, reply_in}
-use Rattle.disk_array.specs.Execution.{execution}
-use Rattle.disk_array.specs.Order.{range_in, count_in}
-use Rattle.disk_array.specs.Processes.{Process, process_of}
-use Rattle.disk_array.specs.Seats.{contents_of, context_of, seat_of}
-use Rattle.disk_array.specs.Steps.{context_at}
-use Rattle.disk_array.specs.Units.{Array, UnitState, nexus_of, unit_state_at, starting_array}
+use Rattle.bus_due.specs.bus_base.specs.declared.Event.{Event}
+use Rattle.bus_due.specs.cdb_codec.specs.Cdb.{command_of}
+use Rattle.bus_due.specs.cdb_codec.specs.declared.command.Command.{Command}
+use Rattle.bus_due.specs.cdb_codec.specs.declared.command.Command.TheVariants as commands
+use Rattle.bus_due.specs.cdb_codec.specs.declared.command.CdbFault.{CdbFault}
+use Rattle.bus_due.specs.cdb_codec.specs.declared.status.TheConstants.{GOOD}
+use Rattle.bus_due.specs.scenario.specs.Lookups.{has_target, unit_of}
+use Rattle.bus_due.specs.scenario.specs.Needs.{is_write, moved_by, need_of, sent_of}
+use Rattle.bus_due.specs.scenario.specs.Value.{ScenarioValue}
+use Rattle.bus_due.specs.scenario.specs.Writing.{Obeys}
+use Rattle.bus_due.specs.scenario.specs.declared.value.UnitDef.{UnitDef}
+use Rattle.bus_due.specs.disk_array.specs.ArrayHistory.{array_after, reply_in}
+use Rattle.bus_due.specs.disk_array.specs.Execution.{execution}
+use Rattle.bus_due.specs.disk_array.specs.Order.{range_in, count_in}
+use Rattle.bus_due.specs.disk_array.specs.Processes.{Process, process_of}
+use Rattle.bus_due.specs.disk_array.specs.Seats.{contents_of, context_of, seat_of}
+use Rattle.bus_due.specs.disk_array.specs.Steps.{context_at}
+use Rattle.bus_due.specs.disk_array.specs.Units.{Array, UnitState, nexus_of, unit_state_at, starting_array}
 use Rattle.disk_unit.specs.Disk.{blocks_written}
-use Rattle.bus_dialogue.specs.declared.exchange.Task.{Task}
+use Rattle.bus_due.specs.bus_dialogue.specs.declared.exchange.Task.{Task}
 use Rattle.bus_due.specs.LastingState.{progress_in}
 use Rattle.bus_due.specs.RunState.{RunState, or_start, array_of, carried_here}
 use Rattle.bus_due.specs.Tasks.{is_writing, size_of, blocks_in, reply_now, moved_count, task_with}
-use Rattle.scsi_device.specs.Lines.{IsCommandLine}
-use Rattle.scsi_device.proofs.FitLines.{obeys_fits, command_fits}
+use Rattle.target_units.specs.scsi_device.specs.Lines.{IsCommandLine}
+use Rattle.target_units.specs.scsi_device.proofs.FitLines.{obeys_fits, command_fits}
 use Rattle.target_units.specs.Rooms.{IsOfLine, AreOfLines}
 use Rattle.target_units.proofs.Rooms.{by_line, good_range, lines_always, lines_start, sends}
 use Rattle.target_units.proofs.Starts.{start_settled}

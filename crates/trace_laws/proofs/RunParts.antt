@@ -3,15 +3,15 @@
 use Rattle.std.proofs.Common.{ℕ, zero, suc, ◌≡◌, ◌+◌, ◌*◌, ◌<◌, ◌≤◌, Bool, true, false, ◌∙◌, Option, Some, None, refl, sym, ap, subst, arith}
 use Rattle.std.specs.Prelude.{if◌then◌else◌, nat_lt, ◌==◌, ◌&&◌, ◌-◌, ◌/◌, min, ⊤}
 use Rattle.std.proofs.Math.Nat.{div-mul-le_self}
-use Rattle.scenario.specs.declared.value.Policy.{Policy}
-use Rattle.scenario.specs.declared.value.Policy.TheVariants as policies
-use Rattle.bus_dialogue.specs.declared.exchange.Task.{Task}
-use Rattle.bus_dialogue.specs.DataRuns.{run_in, runs_in, runs_in_all, run_at, run_length}
+use Rattle.bus_due.specs.scenario.specs.declared.value.Policy.{Policy}
+use Rattle.bus_due.specs.scenario.specs.declared.value.Policy.TheVariants as policies
+use Rattle.bus_due.specs.bus_dialogue.specs.declared.exchange.Task.{Task}
+use Rattle.bus_due.specs.bus_dialogue.specs.DataRuns.{run_in, runs_in, runs_in_all, run_at, run_length}
 use Rattle.trace_laws.specs.DataPointers.{policy_by, step_in}
 use Rattle.trace_laws.proofs.PointerLeavings.{MoreRuns, in_bursts, from_start}
 use Rattle.trace_laws.proofs.Tests.{some_count, mul_assoc}
 use Rattle.std.proofs.lemmas.Bool.{ltb-true}
-use Rattle.bus_base.proofs.Tests.{times_none}
+use Rattle.bus_due.specs.bus_base.proofs.Tests.{times_none}
 
 -- Runs are of one block at least.
 abbrev pub HasMost : Policy → Type 0

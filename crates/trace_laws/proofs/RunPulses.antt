@@ -2,23 +2,23 @@
 use Rattle.std.proofs.Common.{ℕ, ◌≡◌, inl, inr, ◌+◌, ◌≤◌, ◌<◌, Bool, true, false, not, ◌&&◌, ◌||◌, ◌==◌, ◌∙◌, List, ◌∷◌, length, max, Option, Some, None, refl, sym, ap, subst, arith, true≢false}
 use Rattle.std.specs.Prelude.{if◌then◌else◌, nat_lt}
 use Rattle.std.proofs.lemmas.Bool.Decides.{nat_tests}
-use Rattle.bus_trace.specs.LineSet.{LineSet}
-use Rattle.bus_trace.specs.declared.Row.{Row}
-use Rattle.bus_trace.specs.declared.changes.Change.{Change}
-use Rattle.bus_trace.specs.declared.connection.Connection.{Connection}
-use Rattle.bus_trace.specs.Changes.{change_of, rises}
-use Rattle.bus_trace.specs.Phases.{changes_phase}
-use Rattle.bus_trace.specs.Terms.{connection, receiver}
-use Rattle.bus_trace.specs.Trace.{drives, last_time, line_times, phase_time}
-use Rattle.bus_trace.proofs.Sets.{same_self}
-use Rattle.bus_phases.specs.Dialogue.{dialogue}
-use Rattle.bus_lines.specs.Handshakes.{Handshakes, handshakes}
-use Rattle.scenario.specs.Value.{ScenarioValue}
-use Rattle.bus_reactions.specs.Reactions.{due_at}
-use Rattle.bus_laws.specs.Ends.{EndLines, initiator_side, target_side, connected_bus, Linked}
-use Rattle.bus_laws.specs.Rows.{row_of_lines, row_of_fault}
-use Rattle.bus_laws.proofs.Rows.{fault_change}
-use Rattle.bus_rules.specs.Order.{is_of_device}
+use Rattle.bus_due.specs.bus_trace.specs.LineSet.{LineSet}
+use Rattle.bus_due.specs.bus_trace.specs.declared.Row.{Row}
+use Rattle.bus_due.specs.bus_trace.specs.declared.changes.Change.{Change}
+use Rattle.bus_due.specs.bus_trace.specs.declared.connection.Connection.{Connection}
+use Rattle.bus_due.specs.bus_trace.specs.Changes.{change_of, rises}
+use Rattle.bus_due.specs.bus_trace.specs.Phases.{changes_phase}
+use Rattle.bus_due.specs.bus_trace.specs.Terms.{connection, receiver}
+use Rattle.bus_due.specs.bus_trace.specs.Trace.{drives, last_time, line_times, phase_time}
+use Rattle.bus_due.specs.bus_trace.proofs.Sets.{same_self}
+use Rattle.bus_due.specs.bus_phases.specs.Dialogue.{dialogue}
+use Rattle.bus_due.specs.bus_lines.specs.Handshakes.{Handshakes, handshakes}
+use Rattle.bus_due.specs.scenario.specs.Value.{ScenarioValue}
+use Rattle.bus_due.specs.bus_reactions.specs.Reactions.{due_at}
+use Rattle.link_laws.specs.bus_laws.specs.Ends.{EndLines, initiator_side, target_side, connected_bus, Linked}
+use Rattle.link_laws.specs.bus_laws.specs.Rows.{row_of_lines, row_of_fault}
+use Rattle.link_laws.specs.bus_laws.proofs.Rows.{fault_change}
+use Rattle.bus_due.specs.bus_rules.specs.Order.{is_of_device}
 use Rattle.link_laws.specs.Phases.{ends, Settling}
 use Rattle.link_laws.specs.Pulses.{Pulsing, times_here, offset_here, run_count}
 use Rattle.link_laws.proofs.Ahead.{never}
@@ -32,7 +32,7 @@ use Rattle.trace_laws.proofs.LinkRows.{row_at}
 use Rattle.trace_laws.proofs.RunSteps.{OutStep, by_initiator_row, by_target_row, struck_row, left_row}
 use Rattle.std.proofs.lemmas.Bool.{ltb-true}
 use Rattle.std.proofs.lemmas.Option.{none-some}
-use Rattle.bus_base.proofs.Tests.{wrong', implication_parts}
+use Rattle.bus_due.specs.bus_base.proofs.Tests.{wrong', implication_parts}
 
 -- With it by pulses all requests are answered as the phase is left.
 pub record PulseStep (s : ScenarioValue) (p : List Row) (n : Connection) (c : Change) : Type 0 where

@@ -2,27 +2,27 @@
 use Rattle.std.proofs.Common.{ℕ, ◌≡◌, ◌⊎◌, inl, inr, ◌+◌, ◌*◌, ◌<◌, ◌^◌, Bool, true, false, ◌∙◌, Option, Some, None, refl, sym, ap, subst, arith, true≢false}
 use Rattle.std.specs.Prelude.{if◌then◌else◌, is_some, ◌&&◌, not}
 use Rattle.std.proofs.lemmas.Option.{same_Some}
-use Rattle.bus_base.specs.declared.ProcId.{ProcId}
-use Rattle.bus_trace.specs.LineSet.{LineSet}
-use Rattle.bus_trace.specs.declared.Row.{Row}
-use Rattle.bus_trace.specs.declared.changes.Change.{Change}
-use Rattle.bus_trace.specs.declared.connection.Connection.{Connection}
-use Rattle.bus_trace.specs.Changes.{falls}
-use Rattle.bus_trace.specs.Phases.{changes_phase}
-use Rattle.bus_trace.specs.Terms.{connection_after, connection_of, receiver_in}
-use Rattle.msg_grammar.specs.declared.message.MsgIn.{MsgIn}
-use Rattle.scenario.specs.Value.{ScenarioValue}
-use Rattle.disk_array.specs.Processes.{Process, process_of, same_id}
-use Rattle.disk_array.proofs.SoundArrays.{id_is, is_own}
-use Rattle.bus_story.specs.BusState.{RowReading, row_reading}
-use Rattle.bus_story.specs.Items.{Item, process, abort, has_item}
-use Rattle.bus_story.specs.Links.{Link, link_after_name}
-use Rattle.bus_dialogue.specs.declared.exchange.Phase.TheVariants as phases
-use Rattle.bus_dialogue.specs.NextPhase.{phase_of}
+use Rattle.bus_due.specs.bus_base.specs.declared.ProcId.{ProcId}
+use Rattle.bus_due.specs.bus_trace.specs.LineSet.{LineSet}
+use Rattle.bus_due.specs.bus_trace.specs.declared.Row.{Row}
+use Rattle.bus_due.specs.bus_trace.specs.declared.changes.Change.{Change}
+use Rattle.bus_due.specs.bus_trace.specs.declared.connection.Connection.{Connection}
+use Rattle.bus_due.specs.bus_trace.specs.Changes.{falls}
+use Rattle.bus_due.specs.bus_trace.specs.Phases.{changes_phase}
+use Rattle.bus_due.specs.bus_trace.specs.Terms.{connection_after, connection_of, receiver_in}
+use Rattle.bus_due.specs.msg_grammar.specs.declared.message.MsgIn.{MsgIn}
+use Rattle.bus_due.specs.scenario.specs.Value.{ScenarioValue}
+use Rattle.bus_due.specs.disk_array.specs.Processes.{Process, process_of, same_id}
+use Rattle.bus_due.specs.disk_array.proofs.SoundArrays.{id_is, is_own}
+use Rattle.bus_due.specs.bus_story.specs.BusState.{RowReading, row_reading}
+use Rattle.bus_due.specs.bus_story.specs.Items.{Item, process, abort, has_item}
+use Rattle.bus_due.specs.bus_story.specs.Links.{Link, link_after_name}
+use Rattle.bus_due.specs.bus_dialogue.specs.declared.exchange.Phase.TheVariants as phases
+use Rattle.bus_due.specs.bus_dialogue.specs.NextPhase.{phase_of}
 use Rattle.bus_due.specs.RunState.{RunState, bus_of, process_item, process_served, carried_here}
 use Rattle.bus_due.specs.RunSteps.{first_run_state, run_state_after, served_after, item_if}
 use Rattle.bus_due.specs.Wants.{ready_of}
-use Rattle.bus_story.specs.TraceHistory.{aim_of}
+use Rattle.bus_due.specs.bus_story.specs.TraceHistory.{aim_of}
 use Rattle.bus_due.specs.Sights.{leaving}
 use Rattle.bus_books.specs.Giving.{Gives}
 use Rattle.bus_books.specs.Knowing.{Knows}

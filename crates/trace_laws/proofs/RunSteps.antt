@@ -1,28 +1,28 @@
 -- DATA OUT: a byte is asked for while one of the run follows, and answered where it was asked for.
 use Rattle.std.proofs.Common.{ℕ, ◌≡◌, ◌⊎◌, inl, inr, ◌<◌, Bool, true, false, ◌∙◌, List, ◌∷◌, Option, Some, None, refl, sym, ap, subst, true≢false}
 use Rattle.std.specs.Prelude.{if◌then◌else◌, nat_lt}
-use Rattle.bus_trace.specs.LineSet.{LineSet}
-use Rattle.bus_trace.specs.declared.Row.{Row}
-use Rattle.bus_trace.specs.declared.changes.Change.{Change}
-use Rattle.bus_trace.specs.declared.connection.Connection.{Connection}
-use Rattle.bus_trace.specs.Changes.{change_of, rises}
-use Rattle.bus_trace.specs.Terms.{connection}
-use Rattle.bus_trace.specs.Trace.{bus, drives, last_time}
-use Rattle.bus_phases.specs.Dialogue.{dialogue}
-use Rattle.bus_lines.specs.Handshakes.{handshakes}
-use Rattle.scenario.specs.Value.{ScenarioValue}
-use Rattle.bus_dialogue.specs.declared.exchange.Leaving.{Leaving}
-use Rattle.bus_dialogue.specs.declared.exchange.Phase.{Phase}
-use Rattle.bus_dialogue.specs.declared.exchange.Phase.TheVariants as phases
-use Rattle.bus_dialogue.specs.Ends.{is_pulsed_phase}
-use Rattle.bus_dialogue.specs.Hearing.{begun}
-use Rattle.bus_dialogue.specs.NextPhase.{Serving, phase_of, phase_leaving, phase_lines}
-use Rattle.bus_dialogue.specs.PhaseBytes.{lines_by}
+use Rattle.bus_due.specs.bus_trace.specs.LineSet.{LineSet}
+use Rattle.bus_due.specs.bus_trace.specs.declared.Row.{Row}
+use Rattle.bus_due.specs.bus_trace.specs.declared.changes.Change.{Change}
+use Rattle.bus_due.specs.bus_trace.specs.declared.connection.Connection.{Connection}
+use Rattle.bus_due.specs.bus_trace.specs.Changes.{change_of, rises}
+use Rattle.bus_due.specs.bus_trace.specs.Terms.{connection}
+use Rattle.bus_due.specs.bus_trace.specs.Trace.{bus, drives, last_time}
+use Rattle.bus_due.specs.bus_phases.specs.Dialogue.{dialogue}
+use Rattle.bus_due.specs.bus_lines.specs.Handshakes.{handshakes}
+use Rattle.bus_due.specs.scenario.specs.Value.{ScenarioValue}
+use Rattle.bus_due.specs.bus_dialogue.specs.declared.exchange.Leaving.{Leaving}
+use Rattle.bus_due.specs.bus_dialogue.specs.declared.exchange.Phase.{Phase}
+use Rattle.bus_due.specs.bus_dialogue.specs.declared.exchange.Phase.TheVariants as phases
+use Rattle.bus_due.specs.bus_dialogue.specs.Ends.{is_pulsed_phase}
+use Rattle.bus_due.specs.bus_dialogue.specs.Hearing.{begun}
+use Rattle.bus_due.specs.bus_dialogue.specs.NextPhase.{Serving, phase_of, phase_leaving, phase_lines}
+use Rattle.bus_due.specs.bus_dialogue.specs.PhaseBytes.{lines_by}
 use Rattle.bus_due.specs.RunSteps.{run_state}
 use Rattle.bus_due.specs.Sights.{serving_at}
-use Rattle.bus_laws.specs.Ends.{EndLines, initiator_side, target_side, connected_bus, Linked}
-use Rattle.bus_laws.specs.Rows.{row_of_lines, row_of_fault, change_to}
-use Rattle.bus_laws.proofs.Rows.{fault_change}
+use Rattle.link_laws.specs.bus_laws.specs.Ends.{EndLines, initiator_side, target_side, connected_bus, Linked}
+use Rattle.link_laws.specs.bus_laws.specs.Rows.{row_of_lines, row_of_fault, change_to}
+use Rattle.link_laws.specs.bus_laws.proofs.Rows.{fault_change}
 use Rattle.link_laws.specs.Phases.{ends}
 use Rattle.link_laws.specs.Pulses.{run_count}
 use Rattle.link_laws.proofs.EndDues.{offering_with}
@@ -36,7 +36,7 @@ use Rattle.trace_laws.proofs.LinkRows.{LinkRow, is_pulsed, is_unasked}
 use Rattle.trace_laws.proofs.PointerRows.{run_lines}
 use Rattle.trace_laws.proofs.Turns.{freed_connection}
 use Rattle.std.proofs.lemmas.Bool.{ltb-true}
-use Rattle.bus_base.proofs.Tests.{wrong'}
+use Rattle.bus_due.specs.bus_base.proofs.Tests.{wrong'}
 
 -- What a row does with REQ and ACK in DATA OUT.
 pub record OutStep (s : ScenarioValue) (p : List Row) (n : Connection) (c : Change) : Type 0 where

@@ -2,35 +2,35 @@
 use Rattle.std.proofs.Common.{ℕ, ◌≡◌, ◌⊎◌, inl, inr, ◌<◌, ◌+◌, Bool, true, false, ◌&&◌, ◌==◌, ◌∙◌, List, [], ◌∷◌, Option, Some, None, refl, sym, ap, subst, arith}
 use Rattle.std.specs.Prelude.{if◌then◌else◌, is_some, nat_lt}
 use Rattle.std.proofs.lemmas.Option.{cond_some, same_Some}
-use Rattle.bus_base.specs.declared.Event.{Event}
-use Rattle.bus_base.specs.declared.ProcId.{ProcId}
-use Rattle.bus_trace.specs.LineSet.{LineSet}
-use Rattle.bus_trace.specs.declared.Row.{Row}
-use Rattle.bus_trace.specs.declared.changes.Change.{Change}
-use Rattle.bus_trace.specs.declared.connection.Connection.{Connection}
-use Rattle.bus_trace.specs.Changes.{change_of}
-use Rattle.bus_trace.specs.Phases.{changes_phase, is_message_in}
-use Rattle.bus_trace.specs.Terms.{call, connection, connection_after, is_fault, receiver_in}
-use Rattle.bus_trace.specs.Trace.{bus}
-use Rattle.scenario.specs.declared.value.Policy.{Policy}
-use Rattle.scenario.specs.Value.{ScenarioValue}
-use Rattle.scenario.specs.Writing.{Obeys}
-use Rattle.disk_array.specs.ArrayHistory.{array_step, reply_in}
-use Rattle.disk_array.specs.Execution.{Reply}
-use Rattle.disk_array.specs.Processes.{Process, process_of, same_id}
-use Rattle.disk_array.specs.Units.{Array}
-use Rattle.bus_story.specs.BusState.{RowReading, row_reading}
-use Rattle.bus_story.specs.HistoryEvents.{row_events_by}
-use Rattle.bus_dialogue.specs.declared.exchange.Leaving.{Leaving}
-use Rattle.bus_dialogue.specs.declared.exchange.Phase.{Phase}
-use Rattle.bus_dialogue.specs.declared.exchange.Phase.TheVariants as phases
-use Rattle.bus_dialogue.specs.declared.exchange.Task.{Task}
-use Rattle.bus_dialogue.specs.Arrivals.{policy_of}
-use Rattle.bus_dialogue.specs.DataRuns.{runs_in, runs_in_all}
-use Rattle.bus_dialogue.specs.NextPhase.{Serving, after_run, disconnect_messages, disconnection, phase_entry, phase_leaving, phase_of, pointer_restoration, recovery, unless_attention, with_task}
-use Rattle.bus_dialogue.specs.declared.exchange.Next.TheVariants as nexts
-use Rattle.bus_dialogue.specs.Exchange.{Exchange}
-use Rattle.bus_dialogue.specs.PhaseBytes.{one_if}
+use Rattle.bus_due.specs.bus_base.specs.declared.Event.{Event}
+use Rattle.bus_due.specs.bus_base.specs.declared.ProcId.{ProcId}
+use Rattle.bus_due.specs.bus_trace.specs.LineSet.{LineSet}
+use Rattle.bus_due.specs.bus_trace.specs.declared.Row.{Row}
+use Rattle.bus_due.specs.bus_trace.specs.declared.changes.Change.{Change}
+use Rattle.bus_due.specs.bus_trace.specs.declared.connection.Connection.{Connection}
+use Rattle.bus_due.specs.bus_trace.specs.Changes.{change_of}
+use Rattle.bus_due.specs.bus_trace.specs.Phases.{changes_phase, is_message_in}
+use Rattle.bus_due.specs.bus_trace.specs.Terms.{call, connection, connection_after, is_fault, receiver_in}
+use Rattle.bus_due.specs.bus_trace.specs.Trace.{bus}
+use Rattle.bus_due.specs.scenario.specs.declared.value.Policy.{Policy}
+use Rattle.bus_due.specs.scenario.specs.Value.{ScenarioValue}
+use Rattle.bus_due.specs.scenario.specs.Writing.{Obeys}
+use Rattle.bus_due.specs.disk_array.specs.ArrayHistory.{array_step, reply_in}
+use Rattle.bus_due.specs.disk_array.specs.Execution.{Reply}
+use Rattle.bus_due.specs.disk_array.specs.Processes.{Process, process_of, same_id}
+use Rattle.bus_due.specs.disk_array.specs.Units.{Array}
+use Rattle.bus_due.specs.bus_story.specs.BusState.{RowReading, row_reading}
+use Rattle.bus_due.specs.bus_story.specs.HistoryEvents.{row_events_by}
+use Rattle.bus_due.specs.bus_dialogue.specs.declared.exchange.Leaving.{Leaving}
+use Rattle.bus_due.specs.bus_dialogue.specs.declared.exchange.Phase.{Phase}
+use Rattle.bus_due.specs.bus_dialogue.specs.declared.exchange.Phase.TheVariants as phases
+use Rattle.bus_due.specs.bus_dialogue.specs.declared.exchange.Task.{Task}
+use Rattle.bus_due.specs.bus_dialogue.specs.Arrivals.{policy_of}
+use Rattle.bus_due.specs.bus_dialogue.specs.DataRuns.{runs_in, runs_in_all}
+use Rattle.bus_due.specs.bus_dialogue.specs.NextPhase.{Serving, after_run, disconnect_messages, disconnection, phase_entry, phase_leaving, phase_of, pointer_restoration, recovery, unless_attention, with_task}
+use Rattle.bus_due.specs.bus_dialogue.specs.declared.exchange.Next.TheVariants as nexts
+use Rattle.bus_due.specs.bus_dialogue.specs.Exchange.{Exchange}
+use Rattle.bus_due.specs.bus_dialogue.specs.PhaseBytes.{one_if}
 use Rattle.bus_due.specs.Defs.{target_def_of}
 use Rattle.bus_due.specs.LastingState.{ProcessProgress, progress_in, progress_with}
 use Rattle.bus_due.specs.Next.{IsPrompt}
@@ -40,14 +40,14 @@ use Rattle.bus_due.specs.RunSteps.{array_after_events, leaving_of, progress_afte
 use Rattle.bus_due.specs.Sights.{leaving, serving_of}
 use Rattle.bus_due.specs.Tasks.{task_if}
 use Rattle.bus_due.proofs.Plains.{run_state_plain}
-use Rattle.scsi_device.proofs.Finds.{none_is}
+use Rattle.target_units.specs.scsi_device.proofs.Finds.{none_is}
 use Rattle.bus_books.specs.Hearing.{is_in_phase}
 use Rattle.bus_books.specs.Rows.{RowKind, still, strikes, crosses, turns}
 use Rattle.bus_books.specs.Traces.{GoesOn, RowOf, apart, begins, goes_on, ends, under_reset}
 use Rattle.bus_books.proofs.InConnection.{InConnection, in_connection, reading_is}
 use Rattle.bus_books.proofs.Lookups.{id_is, self_id}
-use Rattle.bus_laws.proofs.Apart.{change_plain}
-use Rattle.bus_laws.proofs.Prompt.{least_is}
+use Rattle.link_laws.specs.bus_laws.proofs.Apart.{change_plain}
+use Rattle.link_laws.specs.bus_laws.proofs.Prompt.{least_is}
 use Rattle.trace_laws.specs.Places.{AnsweredOpen, PlaceFacts, PlacedIf}
 use Rattle.trace_laws.specs.RunFacts.{IsWriter, RunFacts, RunsBy}
 use Rattle.trace_laws.specs.RunsLeft.{HasRunLeft, RunsLeft, RunsLeftOf, run_total}
@@ -65,7 +65,7 @@ use Rattle.trace_laws.proofs.WriteRows.{runs_kept}
 use Rattle.trace_laws.proofs.WriteTurns.{progress_apart, progress_ends, progress_turns, same_progress}
 use Rattle.trace_laws.proofs.Written.{left_by}
 use Rattle.std.proofs.lemmas.Bool.{ltb-true, or_parts}
-use Rattle.bus_base.proofs.Tests.{wrong, wrong'}
+use Rattle.bus_due.specs.bus_base.proofs.Tests.{wrong, wrong'}
 use Rattle.bus_books.specs.Accounts.{policy_for}
 
 -- ---- a reply that was given stays listed

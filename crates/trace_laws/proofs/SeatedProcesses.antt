@@ -1,14 +1,14 @@
 -- The guest or current process of a number is that of its seat.
 use Rattle.std.proofs.Common.{◌≡◌, Some}
 use Rattle.std.specs.Prelude.{if◌then◌else◌, is_some}
-use Rattle.bus_base.specs.declared.ProcId.{ProcId}
-use Rattle.scenario.specs.Value.{ScenarioValue}
-use Rattle.disk_array.specs.Processes.{Process, process_of}
-use Rattle.disk_array.specs.Seats.{seat_of, running_at}
-use Rattle.disk_array.specs.SoundArray.{IsSound}
-use Rattle.disk_array.specs.Units.{Array}
-use Rattle.disk_array.specs.Steps.{running_process}
-use Rattle.disk_array.proofs.SeatOwn.{running_unit, guest_own}
+use Rattle.bus_due.specs.bus_base.specs.declared.ProcId.{ProcId}
+use Rattle.bus_due.specs.scenario.specs.Value.{ScenarioValue}
+use Rattle.bus_due.specs.disk_array.specs.Processes.{Process, process_of}
+use Rattle.bus_due.specs.disk_array.specs.Seats.{seat_of, running_at}
+use Rattle.bus_due.specs.disk_array.specs.SoundArray.{IsSound}
+use Rattle.bus_due.specs.disk_array.specs.Units.{Array}
+use Rattle.bus_due.specs.disk_array.specs.Steps.{running_process}
+use Rattle.bus_due.specs.disk_array.proofs.SeatOwn.{running_unit, guest_own}
 
 -- ---- the units
 

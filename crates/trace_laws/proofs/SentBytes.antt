@@ -2,15 +2,15 @@
 use Rattle.std.proofs.Common.{◌≡◌, Bool, true, false, ◌∙◌, length, Option, Some, None, refl, sym}
 use Rattle.std.specs.Prelude.{if◌then◌else◌}
 use Rattle.std.proofs.lemmas.Option.{same_Some}
-use Rattle.cdb_codec.specs.Cdb.{command_of}
-use Rattle.scenario.specs.Needs.{is_write, need_of, sent_of}
-use Rattle.scenario.specs.Value.{ScenarioValue}
-use Rattle.scenario.specs.Writing.{Obeys}
-use Rattle.scenario.specs.declared.value.CmdDef.{CmdDef}
-use Rattle.disk_array.specs.Processes.{Process, command_at, process_by, process_if, process_of}
+use Rattle.bus_due.specs.cdb_codec.specs.Cdb.{command_of}
+use Rattle.bus_due.specs.scenario.specs.Needs.{is_write, need_of, sent_of}
+use Rattle.bus_due.specs.scenario.specs.Value.{ScenarioValue}
+use Rattle.bus_due.specs.scenario.specs.Writing.{Obeys}
+use Rattle.bus_due.specs.scenario.specs.declared.value.CmdDef.{CmdDef}
+use Rattle.bus_due.specs.disk_array.specs.Processes.{Process, command_at, process_by, process_if, process_of}
 use Rattle.bus_due.specs.Tasks.{is_writing}
-use Rattle.scsi_device.specs.Lines.{IsCommandLine}
-use Rattle.scsi_device.proofs.FitLines.{obeys_fits, command_fits}
+use Rattle.target_units.specs.scsi_device.specs.Lines.{IsCommandLine}
+use Rattle.target_units.specs.scsi_device.proofs.FitLines.{obeys_fits, command_fits}
 use Rattle.trace_laws.proofs.Impossible.{none_some}
 
 none_to_send : (s : ScenarioValue) (c : CmdDef) → is_write (command_of c.cdb) ≡ false → sent_of s c ≡ 0

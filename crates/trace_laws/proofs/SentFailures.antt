@@ -2,29 +2,29 @@
 use Rattle.std.proofs.Common.{inl, inr, ℕ, ◌≡◌, ◌⊎◌, ◌<◌, Bool, true, false, not, ◌&&◌, ◌||◌, ◌∙◌, List, [], ◌∷◌, Option, Some, None, refl, sym, ap, subst}
 use Rattle.std.specs.Prelude.{is_some}
 use Rattle.std.proofs.lemmas.Option.{same_Some}
-use Rattle.bus_base.specs.declared.ProcId.{ProcId}
-use Rattle.bus_trace.specs.LineSet.{LineSet}
-use Rattle.bus_trace.specs.declared.Row.{Row}
-use Rattle.bus_trace.specs.declared.changes.Change.{Change}
-use Rattle.bus_trace.specs.declared.connection.Connection.{Connection}
-use Rattle.bus_trace.specs.Changes.{change_of}
-use Rattle.bus_trace.specs.Phases.{changes_phase, is_message_out}
-use Rattle.bus_trace.specs.Terms.{connection, connection_after, is_fault, receiver_in, receiver_of}
-use Rattle.bus_trace.specs.Trace.{bus}
-use Rattle.bus_lines.specs.Handshakes.{Handshakes, handshakes, no_handshakes}
-use Rattle.bus_phases.specs.declared.words.End.{End}
-use Rattle.bus_phases.specs.declared.words.End.TheVariants as sides
-use Rattle.bus_phases.specs.Dialogue.{dialogue, is_of_other}
-use Rattle.cdb_codec.specs.declared.sense.TheConstants.{INITIATOR_DETECTED_ERROR}
-use Rattle.scenario.specs.Value.{ScenarioValue}
-use Rattle.scenario.specs.Writing.{Obeys}
-use Rattle.bus_story.specs.BusState.{RowReading, row_reading}
-use Rattle.bus_story.specs.Items.{Item, process}
-use Rattle.bus_story.specs.Links.{Link}
-use Rattle.bus_dialogue.specs.declared.exchange.Phase.{Phase}
-use Rattle.bus_dialogue.specs.declared.exchange.Phase.TheVariants as phases
-use Rattle.bus_dialogue.specs.Hearing.{begun, begun_after}
-use Rattle.bus_dialogue.specs.NextPhase.{Serving, leaving_by, phase_of}
+use Rattle.bus_due.specs.bus_base.specs.declared.ProcId.{ProcId}
+use Rattle.bus_due.specs.bus_trace.specs.LineSet.{LineSet}
+use Rattle.bus_due.specs.bus_trace.specs.declared.Row.{Row}
+use Rattle.bus_due.specs.bus_trace.specs.declared.changes.Change.{Change}
+use Rattle.bus_due.specs.bus_trace.specs.declared.connection.Connection.{Connection}
+use Rattle.bus_due.specs.bus_trace.specs.Changes.{change_of}
+use Rattle.bus_due.specs.bus_trace.specs.Phases.{changes_phase, is_message_out}
+use Rattle.bus_due.specs.bus_trace.specs.Terms.{connection, connection_after, is_fault, receiver_in, receiver_of}
+use Rattle.bus_due.specs.bus_trace.specs.Trace.{bus}
+use Rattle.bus_due.specs.bus_lines.specs.Handshakes.{Handshakes, handshakes, no_handshakes}
+use Rattle.bus_due.specs.bus_phases.specs.declared.words.End.{End}
+use Rattle.bus_due.specs.bus_phases.specs.declared.words.End.TheVariants as sides
+use Rattle.bus_due.specs.bus_phases.specs.Dialogue.{dialogue, is_of_other}
+use Rattle.bus_due.specs.cdb_codec.specs.declared.sense.TheConstants.{INITIATOR_DETECTED_ERROR}
+use Rattle.bus_due.specs.scenario.specs.Value.{ScenarioValue}
+use Rattle.bus_due.specs.scenario.specs.Writing.{Obeys}
+use Rattle.bus_due.specs.bus_story.specs.BusState.{RowReading, row_reading}
+use Rattle.bus_due.specs.bus_story.specs.Items.{Item, process}
+use Rattle.bus_due.specs.bus_story.specs.Links.{Link}
+use Rattle.bus_due.specs.bus_dialogue.specs.declared.exchange.Phase.{Phase}
+use Rattle.bus_due.specs.bus_dialogue.specs.declared.exchange.Phase.TheVariants as phases
+use Rattle.bus_due.specs.bus_dialogue.specs.Hearing.{begun, begun_after}
+use Rattle.bus_due.specs.bus_dialogue.specs.NextPhase.{Serving, leaving_by, phase_of}
 use Rattle.bus_due.specs.Next.{IsPrompt}
 use Rattle.bus_due.specs.Plain.{IsPlain, AreOfDevices}
 use Rattle.bus_due.specs.RunState.{RunState, bus_of, carried_here}
@@ -34,10 +34,10 @@ use Rattle.bus_due.proofs.Plains.{run_state_plain}
 use Rattle.bus_books.specs.Knowing.{Knows}
 use Rattle.bus_books.specs.Rows.{IsRowIn, RowKind, still, strikes, crosses, turns}
 use Rattle.bus_books.proofs.InConnection.{in_connection}
-use Rattle.bus_laws.specs.Ends.{BeginsConnection, by_selection, by_reselection}
-use Rattle.bus_laws.proofs.Apart.{change_plain}
-use Rattle.bus_laws.proofs.Prompt.{least_is}
-use Rattle.ending_causes.specs.WrongParity.{is_struck_phase}
+use Rattle.link_laws.specs.bus_laws.specs.Ends.{BeginsConnection, by_selection, by_reselection}
+use Rattle.link_laws.specs.bus_laws.proofs.Apart.{change_plain}
+use Rattle.link_laws.specs.bus_laws.proofs.Prompt.{least_is}
+use Rattle.bus_books.specs.WrongParity.{is_struck_phase}
 use Rattle.trace_laws.specs.Complaints.{ComplaintFacts, ComplaintsBy, any_struck}
 use Rattle.trace_laws.specs.Failures.{FailFacts, IsClear, SentAsLeft}
 use Rattle.trace_laws.specs.ItemTalks.{awaits}
@@ -63,7 +63,7 @@ use Rattle.trace_laws.proofs.UndoneFacts.{undo_asks}
 use Rattle.trace_laws.proofs.WaitingRequests.{none_struck}
 use Rattle.trace_laws.proofs.WaitingRows.{in_row}
 use Rattle.trace_laws.proofs.PhaseLines.{data_in_lines, not_message_out, not_message_in}
-use Rattle.bus_base.proofs.Tests.{wrong, wrong'}
+use Rattle.bus_due.specs.bus_base.proofs.Tests.{wrong, wrong'}
 
 -- ---- in DATA IN
 

@@ -1,26 +1,26 @@
 -- The code of the failure of the process that is served goes on with each row of DATA IN.
 use Rattle.std.proofs.Common.{inl, ℕ, ◌≡◌, ◌<◌, Bool, true, false, ◌||◌, ◌∙◌, List, ◌∷◌, Option, Some, None, refl, sym, ap, subst}
 use Rattle.std.specs.Prelude.{if◌then◌else◌, is_some}
-use Rattle.bus_base.specs.declared.ProcId.{ProcId}
-use Rattle.bus_trace.specs.LineSet.{LineSet}
-use Rattle.bus_trace.specs.declared.Row.{Row}
-use Rattle.bus_trace.specs.declared.Kind.{Kind}
-use Rattle.bus_trace.specs.declared.Kind.TheVariants.{Drives, Fault}
-use Rattle.bus_trace.specs.declared.changes.Change.{Change}
-use Rattle.bus_trace.specs.declared.connection.Connection.{Connection}
-use Rattle.bus_trace.specs.Changes.{change_of, rises}
-use Rattle.bus_trace.specs.Phases.{changes_phase}
-use Rattle.bus_trace.specs.Terms.{connection, is_fault, receiver, receiver_in, receiver_of}
-use Rattle.bus_trace.specs.Trace.{bus}
-use Rattle.bus_trace.proofs.OneRow.{bus-fault}
-use Rattle.bus_lines.specs.Handshakes.{Handshakes, first_of, handshakes, handshakes_after, no_handshakes, strikes, strikes_if}
-use Rattle.cdb_codec.specs.declared.sense.TheConstants.{INITIATOR_DETECTED_ERROR}
-use Rattle.scenario.specs.Value.{ScenarioValue}
-use Rattle.bus_story.specs.Items.{process}
-use Rattle.bus_story.specs.Links.{Link}
-use Rattle.bus_dialogue.specs.declared.exchange.Phase.{Phase}
-use Rattle.bus_dialogue.specs.declared.exchange.Phase.TheVariants as phases
-use Rattle.bus_dialogue.specs.NextPhase.{phase_of}
+use Rattle.bus_due.specs.bus_base.specs.declared.ProcId.{ProcId}
+use Rattle.bus_due.specs.bus_trace.specs.LineSet.{LineSet}
+use Rattle.bus_due.specs.bus_trace.specs.declared.Row.{Row}
+use Rattle.bus_due.specs.bus_trace.specs.declared.Kind.{Kind}
+use Rattle.bus_due.specs.bus_trace.specs.declared.Kind.TheVariants.{Drives, Fault}
+use Rattle.bus_due.specs.bus_trace.specs.declared.changes.Change.{Change}
+use Rattle.bus_due.specs.bus_trace.specs.declared.connection.Connection.{Connection}
+use Rattle.bus_due.specs.bus_trace.specs.Changes.{change_of, rises}
+use Rattle.bus_due.specs.bus_trace.specs.Phases.{changes_phase}
+use Rattle.bus_due.specs.bus_trace.specs.Terms.{connection, is_fault, receiver, receiver_in, receiver_of}
+use Rattle.bus_due.specs.bus_trace.specs.Trace.{bus}
+use Rattle.bus_due.specs.bus_trace.proofs.OneRow.{bus-fault}
+use Rattle.bus_due.specs.bus_lines.specs.Handshakes.{Handshakes, first_of, handshakes, handshakes_after, no_handshakes, strikes, strikes_if}
+use Rattle.bus_due.specs.cdb_codec.specs.declared.sense.TheConstants.{INITIATOR_DETECTED_ERROR}
+use Rattle.bus_due.specs.scenario.specs.Value.{ScenarioValue}
+use Rattle.bus_due.specs.bus_story.specs.Items.{process}
+use Rattle.bus_due.specs.bus_story.specs.Links.{Link}
+use Rattle.bus_due.specs.bus_dialogue.specs.declared.exchange.Phase.{Phase}
+use Rattle.bus_due.specs.bus_dialogue.specs.declared.exchange.Phase.TheVariants as phases
+use Rattle.bus_due.specs.bus_dialogue.specs.NextPhase.{phase_of}
 use Rattle.bus_due.specs.Plain.{IsPlain, AreOfDevices}
 use Rattle.bus_due.specs.RunState.{RunState, carried_here}
 use Rattle.bus_due.specs.RunSteps.{run_state}
@@ -40,7 +40,7 @@ use Rattle.trace_laws.proofs.LinkRows.{LinkRow}
 use Rattle.trace_laws.proofs.RunCountRows.{data_pulses_stay}
 use Rattle.trace_laws.proofs.WaitingRequests.{InStep, asked_waits, first_struck, hands_after, last_struck, struck_on, waits_on, waits_struck}
 use Rattle.trace_laws.proofs.PhaseLines.{data_in_lines, not_message_out, not_message_in}
-use Rattle.bus_base.proofs.Tests.{wrong, wrong', or_true}
+use Rattle.bus_due.specs.bus_base.proofs.Tests.{wrong, wrong', or_true}
 
 -- A row of DATA IN in which the phase stays; the initiator knows the process.
 pub record DataRow (s : ScenarioValue) (p : List Row) (row : Row) (n : Connection) : Type 0 where

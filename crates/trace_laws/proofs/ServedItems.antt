@@ -3,34 +3,34 @@ use Rattle.std.proofs.Common.{ℕ, ◌≡◌, ◌<◌, Bool, true, false, not, �
 use Rattle.std.specs.Prelude.{if◌then◌else◌, is_some}
 use Rattle.std.proofs.lemmas.Bool.{and_parts}
 use Rattle.std.proofs.lemmas.Option.{same_Some}
-use Rattle.bus_base.specs.declared.AbortKind.{AbortKind}
-use Rattle.bus_trace.specs.LineSet.{LineSet, union}
-use Rattle.bus_trace.proofs.Sets.{same_set-eq}
-use Rattle.bus_trace.specs.declared.Row.{Row}
-use Rattle.bus_trace.specs.declared.changes.Change.{Change}
-use Rattle.bus_trace.specs.declared.connection.Connection.{Connection}
-use Rattle.bus_trace.specs.declared.selection.Call.{Call}
-use Rattle.bus_trace.specs.declared.selection.Calling.{Calling}
-use Rattle.bus_trace.specs.Changes.{change_of, falls}
-use Rattle.bus_trace.specs.Phases.{changes_phase, is_message_out}
-use Rattle.bus_trace.specs.Terms.{is_fault, call, connected, connected_of, connection, connection_of, connection_after, receiver_in}
-use Rattle.bus_trace.specs.Trace.{bus}
-use Rattle.bus_rules.specs.Reset.{only_rst}
-use Rattle.scenario.specs.declared.value.AbortDef.{AbortDef}
-use Rattle.scenario.specs.Value.{ScenarioValue}
-use Rattle.scenario.specs.Writing.{Obeys}
-use Rattle.bus_story.specs.BusState.{row_reading, message_out}
-use Rattle.bus_story.specs.HistoryEvents.{abort_line_at}
-use Rattle.bus_story.specs.Items.{Item, abort}
-use Rattle.bus_story.specs.TraceHistory.{aim_of}
-use Rattle.bus_dialogue.specs.declared.exchange.Cause.{Cause}
-use Rattle.bus_dialogue.specs.declared.exchange.Cause.TheVariants as causes
-use Rattle.bus_dialogue.specs.declared.exchange.Leaving.{Leaving}
-use Rattle.bus_dialogue.specs.declared.exchange.Phase.{Phase}
-use Rattle.bus_dialogue.specs.declared.exchange.Phase.TheVariants as phases
-use Rattle.bus_dialogue.specs.Exchange.{Exchange, plan_anew}
-use Rattle.bus_dialogue.specs.NextPhase.{Serving, phase_of, phase_leaving, leaving_by, bus_free, after_offer}
-use Rattle.bus_dialogue.specs.Planning.{plan_in_message_out}
+use Rattle.bus_due.specs.bus_base.specs.declared.AbortKind.{AbortKind}
+use Rattle.bus_due.specs.bus_trace.specs.LineSet.{LineSet, union}
+use Rattle.bus_due.specs.bus_trace.proofs.Sets.{same_set-eq}
+use Rattle.bus_due.specs.bus_trace.specs.declared.Row.{Row}
+use Rattle.bus_due.specs.bus_trace.specs.declared.changes.Change.{Change}
+use Rattle.bus_due.specs.bus_trace.specs.declared.connection.Connection.{Connection}
+use Rattle.bus_due.specs.bus_trace.specs.declared.selection.Call.{Call}
+use Rattle.bus_due.specs.bus_trace.specs.declared.selection.Calling.{Calling}
+use Rattle.bus_due.specs.bus_trace.specs.Changes.{change_of, falls}
+use Rattle.bus_due.specs.bus_trace.specs.Phases.{changes_phase, is_message_out}
+use Rattle.bus_due.specs.bus_trace.specs.Terms.{is_fault, call, connected, connected_of, connection, connection_of, connection_after, receiver_in}
+use Rattle.bus_due.specs.bus_trace.specs.Trace.{bus}
+use Rattle.bus_due.specs.bus_rules.specs.Reset.{only_rst}
+use Rattle.bus_due.specs.scenario.specs.declared.value.AbortDef.{AbortDef}
+use Rattle.bus_due.specs.scenario.specs.Value.{ScenarioValue}
+use Rattle.bus_due.specs.scenario.specs.Writing.{Obeys}
+use Rattle.bus_due.specs.bus_story.specs.BusState.{row_reading, message_out}
+use Rattle.bus_due.specs.bus_story.specs.HistoryEvents.{abort_line_at}
+use Rattle.bus_due.specs.bus_story.specs.Items.{Item, abort}
+use Rattle.bus_due.specs.bus_story.specs.TraceHistory.{aim_of}
+use Rattle.bus_due.specs.bus_dialogue.specs.declared.exchange.Cause.{Cause}
+use Rattle.bus_due.specs.bus_dialogue.specs.declared.exchange.Cause.TheVariants as causes
+use Rattle.bus_due.specs.bus_dialogue.specs.declared.exchange.Leaving.{Leaving}
+use Rattle.bus_due.specs.bus_dialogue.specs.declared.exchange.Phase.{Phase}
+use Rattle.bus_due.specs.bus_dialogue.specs.declared.exchange.Phase.TheVariants as phases
+use Rattle.bus_due.specs.bus_dialogue.specs.Exchange.{Exchange, plan_anew}
+use Rattle.bus_due.specs.bus_dialogue.specs.NextPhase.{Serving, phase_of, phase_leaving, leaving_by, bus_free, after_offer}
+use Rattle.bus_due.specs.bus_dialogue.specs.Planning.{plan_in_message_out}
 use Rattle.bus_due.specs.Faithful.{is_unit, is_kind, is_item_named, is_abort_named}
 use Rattle.bus_due.specs.Next.{IsPrompt}
 use Rattle.bus_due.specs.Plain.{IsPlain, AreOfDevices}
@@ -39,17 +39,17 @@ use Rattle.bus_due.specs.RunSteps.{run_state, run_state_after, item_if, served_a
 use Rattle.bus_due.specs.Sights.{serving_of, leaving, hearing_of}
 use Rattle.bus_due.specs.Wants.{ready_of, initiator_if, target_of, abort_target}
 use Rattle.bus_due.proofs.Plains.{run_state_plain}
-use Rattle.scsi_device.specs.Lines.{AreUnits}
-use Rattle.scsi_device.proofs.FitLines.{obeys_fits, units_are}
+use Rattle.target_units.specs.scsi_device.specs.Lines.{AreUnits}
+use Rattle.target_units.specs.scsi_device.proofs.FitLines.{obeys_fits, units_are}
 use Rattle.bus_books.specs.Items.{IsItem, is_process, is_abort}
 use Rattle.bus_books.specs.Rows.{RowKind, still, strikes, crosses, turns, reading_in}
 use Rattle.bus_books.specs.Speaking.{Speaks}
 use Rattle.bus_books.specs.Traces.{GoesOn, Begins}
 use Rattle.bus_books.proofs.Aims.{aims_are}
 use Rattle.bus_books.proofs.InConnection.{InConnection, in_connection}
-use Rattle.bus_laws.specs.Stages.{BusStage}
-use Rattle.bus_laws.proofs.Apart.{change_plain}
-use Rattle.bus_laws.proofs.Prompt.{least_is}
+use Rattle.link_laws.specs.bus_laws.specs.Stages.{BusStage}
+use Rattle.link_laws.specs.bus_laws.proofs.Apart.{change_plain}
+use Rattle.link_laws.specs.bus_laws.proofs.Prompt.{least_is}
 use Rattle.link_laws.specs.LinkStages.{AnyStage, apart, linked}
 use Rattle.trace_laws.specs.Tells.{IsServed, of_process, of_abort, ServedFacts}
 use Rattle.trace_laws.proofs.Called.{IsDueCall, IsCalled, callee_at, by_answer}
@@ -62,8 +62,8 @@ use Rattle.trace_laws.proofs.PhaseLines.{out_phase}
 use Rattle.trace_laws.proofs.TellRows.{is_heard}
 use Rattle.trace_laws.proofs.UnderRst.{quiet_at_end}
 use Rattle.trace_laws.proofs.UndoneAnswers.{plan_stays, same_phase_of}
-use Rattle.bus_base.proofs.Tests.{wrong, wrong'}
-use Rattle.disk_array.specs.Seats.{is_initiator}
+use Rattle.bus_due.specs.bus_base.proofs.Tests.{wrong, wrong'}
+use Rattle.bus_due.specs.disk_array.specs.Seats.{is_initiator}
 
 -- ---- whom an initiator has called
 
@@ -156,10 +156,10 @@ served_begins s p row n o prompt was nx alone after calm begun = go n.reselected
 frees : (v : Serving) (attention : Bool) (phase : Phase) → phase ≡ phases.MessageOut → v.plan.cause ≡ causes.Selected → is_some v.plan.said.aborts ≡ true → (phase_leaving v attention phase).to ≡ None
 frees v attention phase e c heard =
     ap (λ (p : Phase). (phase_leaving v attention p).to) e
-    ∙ ap (λ (x : Cause). (Rattle.bus_dialogue.specs.NextPhase.message_out_leaving v x).to) c
+    ∙ ap (λ (x : Cause). (Rattle.bus_due.specs.bus_dialogue.specs.NextPhase.message_out_leaving v x).to) c
     ∙ ap (λ (q : Bool). (if q then bus_free else after_offer v.def v.plan.negotiates v.plan.said.offer).to) heard
 
-abort_heard : (s : ScenarioValue) (said : Rattle.bus_dialogue.specs.declared.exchange.Said.Said) (m : ℕ) (a : AbortDef) → abort_line_at s.aborts m ≡ Some a → is_item_named s said (Some (abort m)) ≡ true → is_some said.aborts ≡ true
+abort_heard : (s : ScenarioValue) (said : Rattle.bus_due.specs.bus_dialogue.specs.declared.exchange.Said.Said) (m : ℕ) (a : AbortDef) → abort_line_at s.aborts m ≡ Some a → is_item_named s said (Some (abort m)) ≡ true → is_some said.aborts ≡ true
 abort_heard s said m a line named = go said.aborts (and_parts (is_unit said.unit a.unit) (is_kind said.aborts a.what) (sym (ap (is_abort_named said) line) ∙ named)).1
   where
     go : (x : Option AbortKind) → is_kind x a.what ≡ true → is_some x ≡ true

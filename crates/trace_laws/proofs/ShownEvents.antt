@@ -2,25 +2,25 @@
 use Rattle.std.proofs.Common.{inl, inr, ℕ, ◌≡◌, ◌⊎◌, ◌<◌, Bool, true, false, not, ◌&&◌, ◌==◌, ◌∙◌, List, [], ◌∷◌, slice_index, Option, Some, None, refl, sym, ap}
 use Rattle.std.specs.Prelude.{if◌then◌else◌, is_some}
 use Rattle.std.specs.List.{list_any}
-use Rattle.bus_base.specs.declared.Event.{Event}
-use Rattle.bus_base.specs.declared.Event.TheVariants as events
-use Rattle.bus_base.specs.declared.ProcId.{ProcId}
-use Rattle.bus_trace.specs.declared.Row.{Row}
-use Rattle.bus_trace.specs.declared.changes.Change.{Change}
-use Rattle.bus_trace.specs.declared.connection.Connection.{Connection}
-use Rattle.bus_trace.specs.Changes.{rises}
-use Rattle.bus_trace.specs.Phases.{is_command}
-use Rattle.cdb_codec.specs.declared.status.TheConstants.{GOOD}
-use Rattle.scenario.specs.declared.value.AbortDef.{AbortDef}
-use Rattle.scenario.specs.Value.{ScenarioValue}
-use Rattle.disk_array.specs.ArrayHistory.{array_after}
-use Rattle.bus_story.specs.BusState.{RowReading}
-use Rattle.bus_story.specs.CarriedBytes.{CarriedBytes, carried_of, is_status_phase, is_whole_block}
-use Rattle.bus_story.specs.HistoryEvents.{abort_line_at, abort_line_events, bus_free_events, carried_if, connection_events, end_events, is_refuse, item_loss_events, link_events, phase_events, queue_event, queue_events, row_events_by, status_event}
-use Rattle.bus_story.specs.Items.{Item, process, abort}
-use Rattle.bus_story.specs.Links.{Link, LastMessage, plain, complete, disconnect, abortive}
-use Rattle.bus_story.specs.Story.{Story}
-use Rattle.bus_story.proofs.CarriedLists.{carried_id}
+use Rattle.bus_due.specs.bus_base.specs.declared.Event.{Event}
+use Rattle.bus_due.specs.bus_base.specs.declared.Event.TheVariants as events
+use Rattle.bus_due.specs.bus_base.specs.declared.ProcId.{ProcId}
+use Rattle.bus_due.specs.bus_trace.specs.declared.Row.{Row}
+use Rattle.bus_due.specs.bus_trace.specs.declared.changes.Change.{Change}
+use Rattle.bus_due.specs.bus_trace.specs.declared.connection.Connection.{Connection}
+use Rattle.bus_due.specs.bus_trace.specs.Changes.{rises}
+use Rattle.bus_due.specs.bus_trace.specs.Phases.{is_command}
+use Rattle.bus_due.specs.cdb_codec.specs.declared.status.TheConstants.{GOOD}
+use Rattle.bus_due.specs.scenario.specs.declared.value.AbortDef.{AbortDef}
+use Rattle.bus_due.specs.scenario.specs.Value.{ScenarioValue}
+use Rattle.bus_due.specs.disk_array.specs.ArrayHistory.{array_after}
+use Rattle.bus_due.specs.bus_story.specs.BusState.{RowReading}
+use Rattle.bus_due.specs.bus_story.specs.CarriedBytes.{CarriedBytes, carried_of, is_status_phase, is_whole_block}
+use Rattle.bus_due.specs.bus_story.specs.HistoryEvents.{abort_line_at, abort_line_events, bus_free_events, carried_if, connection_events, end_events, is_refuse, item_loss_events, link_events, phase_events, queue_event, queue_events, row_events_by, status_event}
+use Rattle.bus_due.specs.bus_story.specs.Items.{Item, process, abort}
+use Rattle.bus_due.specs.bus_story.specs.Links.{Link, LastMessage, plain, complete, disconnect, abortive}
+use Rattle.bus_due.specs.bus_story.specs.Story.{Story}
+use Rattle.bus_due.specs.bus_story.proofs.CarriedLists.{carried_id}
 use Rattle.bus_due.specs.RunState.{RunState}
 use Rattle.trace_laws.specs.Attendance.{AreShown, IsShown, accepts, refuses, runs, fails, ends, loses, aborts}
 
@@ -102,7 +102,7 @@ stop_shown s k n known l h between = go l.last
     lost (Some (process id)) (inl e) = (loses id (sym e), tt)
     lost (Some (process id)) (inr e) = absurd cc
 
-    stopped : (item : Option Item) → Of k item → AreShown k n known (Rattle.bus_story.specs.HistoryEvents.item_abort_events s item)
+    stopped : (item : Option Item) → Of k item → AreShown k n known (Rattle.bus_due.specs.bus_story.specs.HistoryEvents.item_abort_events s item)
     stopped None w = tt
     stopped (Some (process id)) w = tt
     stopped (Some (abort m)) (inl e) = line_shown k n known (abort_line_at s.aborts m) (λ a f. between m a (sym e) f)

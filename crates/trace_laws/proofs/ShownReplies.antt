@@ -1,38 +1,38 @@
 -- The plain disk array has a reply of a process exactly where the rows have shown one.
 use Rattle.std.proofs.Common.{ℕ, ◌≡◌, Bool, true, false, ◌||◌, ◌+◌, ◌%◌, ◌∙◌, List, [], ◌∷◌, ◌++◌, Option, Some, None, refl, sym, ap}
 use Rattle.std.specs.Prelude.{if◌then◌else◌, is_some, is_none}
-use Rattle.bus_base.specs.declared.Event.{Event}
-use Rattle.bus_base.specs.declared.Event.TheVariants as events
-use Rattle.bus_base.specs.declared.ProcId.{ProcId}
-use Rattle.bus_trace.specs.LineSet.{LineSet}
-use Rattle.bus_trace.specs.declared.Row.{Row}
-use Rattle.bus_trace.specs.declared.Kind.{Kind}
-use Rattle.bus_trace.specs.declared.Kind.TheVariants.{Drives, Fault}
-use Rattle.bus_trace.specs.declared.changes.Change.{Change}
-use Rattle.bus_trace.specs.declared.connection.Connection.{Connection}
-use Rattle.bus_trace.specs.Phases.{is_command, is_data}
-use Rattle.msg_grammar.specs.declared.message.MsgIn.{MsgIn}
-use Rattle.msg_grammar.specs.declared.message.MsgIn.TheVariants as to_initiator
-use Rattle.msg_grammar.specs.declared.message.MsgOut.{MsgOut}
-use Rattle.scenario.specs.Value.{ScenarioValue}
-use Rattle.disk_array.specs.ArrayHistory.{array_step, reply_in}
-use Rattle.disk_array.specs.Processes.{same_id}
-use Rattle.disk_array.specs.Units.{Array}
-use Rattle.bus_story.specs.BusState.{RowReading, row_reading}
-use Rattle.bus_story.specs.CarriedBytes.{CarriedBytes, carried_of, with_carried, with_restored_pointers, carried_after_message, carried_after_byte, carried_after_fault, is_status_phase}
-use Rattle.bus_story.specs.HistoryEvents.{carried_if, row_events_by}
-use Rattle.bus_story.specs.Items.{Item, process, abort}
-use Rattle.bus_story.specs.Links.{Link, last_out, last_in, link_after_name}
-use Rattle.bus_story.specs.Story.{Story, by_abort, by_reset, is_aborted, is_sense_stopped, marked_refused, marked_shown, story_after_event, story_after_events}
-use Rattle.bus_story.specs.TraceHistory.{aim_of, story_on_free_bus, story_with_restored, story_with_sent, story_after_connection, story_with_carried, is_parity_error, story_after_out, carried_after_message_if, story_after_message, story_after_in, carried_after_byte_if, story_after_byte, carried_after_fault_if, story_after_fault, story_in_connection, story_on_bus, story_by_change}
-use Rattle.bus_story.proofs.StorySteps.{free_carried, ends_carried, check_carried}
-use Rattle.bus_story.proofs.CarriedLists.{carried_id, carried_with}
+use Rattle.bus_due.specs.bus_base.specs.declared.Event.{Event}
+use Rattle.bus_due.specs.bus_base.specs.declared.Event.TheVariants as events
+use Rattle.bus_due.specs.bus_base.specs.declared.ProcId.{ProcId}
+use Rattle.bus_due.specs.bus_trace.specs.LineSet.{LineSet}
+use Rattle.bus_due.specs.bus_trace.specs.declared.Row.{Row}
+use Rattle.bus_due.specs.bus_trace.specs.declared.Kind.{Kind}
+use Rattle.bus_due.specs.bus_trace.specs.declared.Kind.TheVariants.{Drives, Fault}
+use Rattle.bus_due.specs.bus_trace.specs.declared.changes.Change.{Change}
+use Rattle.bus_due.specs.bus_trace.specs.declared.connection.Connection.{Connection}
+use Rattle.bus_due.specs.bus_trace.specs.Phases.{is_command, is_data}
+use Rattle.bus_due.specs.msg_grammar.specs.declared.message.MsgIn.{MsgIn}
+use Rattle.bus_due.specs.msg_grammar.specs.declared.message.MsgIn.TheVariants as to_initiator
+use Rattle.bus_due.specs.msg_grammar.specs.declared.message.MsgOut.{MsgOut}
+use Rattle.bus_due.specs.scenario.specs.Value.{ScenarioValue}
+use Rattle.bus_due.specs.disk_array.specs.ArrayHistory.{array_step, reply_in}
+use Rattle.bus_due.specs.disk_array.specs.Processes.{same_id}
+use Rattle.bus_due.specs.disk_array.specs.Units.{Array}
+use Rattle.bus_due.specs.bus_story.specs.BusState.{RowReading, row_reading}
+use Rattle.bus_due.specs.bus_story.specs.CarriedBytes.{CarriedBytes, carried_of, with_carried, with_restored_pointers, carried_after_message, carried_after_byte, carried_after_fault, is_status_phase}
+use Rattle.bus_due.specs.bus_story.specs.HistoryEvents.{carried_if, row_events_by}
+use Rattle.bus_due.specs.bus_story.specs.Items.{Item, process, abort}
+use Rattle.bus_due.specs.bus_story.specs.Links.{Link, last_out, last_in, link_after_name}
+use Rattle.bus_due.specs.bus_story.specs.Story.{Story, by_abort, by_reset, is_aborted, is_sense_stopped, marked_refused, marked_shown, story_after_event, story_after_events}
+use Rattle.bus_due.specs.bus_story.specs.TraceHistory.{aim_of, story_on_free_bus, story_with_restored, story_with_sent, story_after_connection, story_with_carried, is_parity_error, story_after_out, carried_after_message_if, story_after_message, story_after_in, carried_after_byte_if, story_after_byte, carried_after_fault_if, story_after_fault, story_in_connection, story_on_bus, story_by_change}
+use Rattle.bus_due.specs.bus_story.proofs.StorySteps.{free_carried, ends_carried, check_carried}
+use Rattle.bus_due.specs.bus_story.proofs.CarriedLists.{carried_id, carried_with}
 use Rattle.bus_due.specs.RunState.{RunState, or_start}
 use Rattle.bus_due.specs.RunSteps.{array_after_events, run_state_after}
 use Rattle.bus_books.proofs.Lookups.{id_is}
 use Rattle.trace_laws.specs.Tells.{AreRepliesShown, UndoesAnswers}
 use Rattle.trace_laws.proofs.ListedReplies.{replies_to, listed_on}
-use Rattle.bus_base.proofs.Tests.{or_true}
+use Rattle.bus_due.specs.bus_base.proofs.Tests.{or_true}
 use Rattle.trace_laws.specs.DataPointers.{is_marked}
 
 -- Whether it has an answer, of all processes.
@@ -101,14 +101,14 @@ with_restored b (Some (abort k)) = unchanged b.carried
 begun_keeps : (b : Story) (n : Connection) → Keeps b (story_after_connection b n)
 begun_keeps b n = go n.reselected (aim_of b.aims n.initiator)
   where
-    sent : (item : Option Item) → (story_with_sent (record b { link = Some (Rattle.bus_story.specs.Links.link_of n (aim_of b.aims n.initiator)) }) item).carried ≡ b.carried
+    sent : (item : Option Item) → (story_with_sent (record b { link = Some (Rattle.bus_due.specs.bus_story.specs.Links.link_of n (aim_of b.aims n.initiator)) }) item).carried ≡ b.carried
     sent None = refl
     sent (Some item) = refl
 
-    go : (q : Bool) (item : Option Item) → Keeps b (if q then record b { link = Some (Rattle.bus_story.specs.Links.link_of n None) } else story_with_restored (story_with_sent (record b { link = Some (Rattle.bus_story.specs.Links.link_of n (aim_of b.aims n.initiator)) }) item) item)
+    go : (q : Bool) (item : Option Item) → Keeps b (if q then record b { link = Some (Rattle.bus_due.specs.bus_story.specs.Links.link_of n None) } else story_with_restored (story_with_sent (record b { link = Some (Rattle.bus_due.specs.bus_story.specs.Links.link_of n (aim_of b.aims n.initiator)) }) item) item)
     go true item id = refl
     go false item id =
-        with_restored (story_with_sent (record b { link = Some (Rattle.bus_story.specs.Links.link_of n (aim_of b.aims n.initiator)) }) item) item id
+        with_restored (story_with_sent (record b { link = Some (Rattle.bus_due.specs.bus_story.specs.Links.link_of n (aim_of b.aims n.initiator)) }) item) item id
         ∙ ap (λ (x : List CarriedBytes). is_marked (carried_of x id)) (sent item)
 
 free_keeps : (s : ScenarioValue) (b : Story) (d : RowReading) (row : Row) → Keeps b (story_on_free_bus s b d row)
@@ -155,8 +155,8 @@ heard_keeps s b l m = go (is_none l.item)
 byte_answer : (c : CarriedBytes) (l : LineSet) (byte : ℕ) → (is_marked (carried_after_byte c l byte) ≡ is_marked c) × ((carried_after_byte c l byte).id ≡ c.id)
 byte_answer c l byte = go (is_command l) (is_data l) (is_status_phase l)
   where
-    go : (q r t : Bool) → (is_marked (if q then record c { command = Rattle.bus_story.specs.CarriedBytes.area_with c.command byte; block = c.block ++ byte ∷ [] } else if r then record c { moved = Rattle.bus_story.specs.CarriedBytes.area_with c.moved byte } else if t then record c { status = Rattle.bus_story.specs.CarriedBytes.area_with c.status byte } else c) ≡ is_marked c)
-        × ((if q then record c { command = Rattle.bus_story.specs.CarriedBytes.area_with c.command byte; block = c.block ++ byte ∷ [] } else if r then record c { moved = Rattle.bus_story.specs.CarriedBytes.area_with c.moved byte } else if t then record c { status = Rattle.bus_story.specs.CarriedBytes.area_with c.status byte } else c).id ≡ c.id)
+    go : (q r t : Bool) → (is_marked (if q then record c { command = Rattle.bus_due.specs.bus_story.specs.CarriedBytes.area_with c.command byte; block = c.block ++ byte ∷ [] } else if r then record c { moved = Rattle.bus_due.specs.bus_story.specs.CarriedBytes.area_with c.moved byte } else if t then record c { status = Rattle.bus_due.specs.bus_story.specs.CarriedBytes.area_with c.status byte } else c) ≡ is_marked c)
+        × ((if q then record c { command = Rattle.bus_due.specs.bus_story.specs.CarriedBytes.area_with c.command byte; block = c.block ++ byte ∷ [] } else if r then record c { moved = Rattle.bus_due.specs.bus_story.specs.CarriedBytes.area_with c.moved byte } else if t then record c { status = Rattle.bus_due.specs.bus_story.specs.CarriedBytes.area_with c.status byte } else c).id ≡ c.id)
     go true r t = (refl, refl)
     go false true t = (refl, refl)
     go false false true = (refl, refl)
@@ -177,10 +177,10 @@ fault_answer : (c : CarriedBytes) (l : LineSet) → (is_marked (carried_after_fa
 fault_answer c l = go (is_command l) (is_data l)
   where
     code : Option ℕ
-    code = Some (if l.io then Rattle.cdb_codec.specs.declared.sense.TheConstants.INITIATOR_DETECTED_ERROR else Rattle.cdb_codec.specs.declared.sense.TheConstants.PARITY_ERROR)
+    code = Some (if l.io then Rattle.bus_due.specs.cdb_codec.specs.declared.sense.TheConstants.INITIATOR_DETECTED_ERROR else Rattle.bus_due.specs.cdb_codec.specs.declared.sense.TheConstants.PARITY_ERROR)
 
-    go : (q r : Bool) → (is_marked (if q then record c { struck = true; failure = Some Rattle.cdb_codec.specs.declared.sense.TheConstants.PARITY_ERROR } else if r then record c { failure = code } else c) ≡ is_marked c)
-        × ((if q then record c { struck = true; failure = Some Rattle.cdb_codec.specs.declared.sense.TheConstants.PARITY_ERROR } else if r then record c { failure = code } else c).id ≡ c.id)
+    go : (q r : Bool) → (is_marked (if q then record c { struck = true; failure = Some Rattle.bus_due.specs.cdb_codec.specs.declared.sense.TheConstants.PARITY_ERROR } else if r then record c { failure = code } else c) ≡ is_marked c)
+        × ((if q then record c { struck = true; failure = Some Rattle.bus_due.specs.cdb_codec.specs.declared.sense.TheConstants.PARITY_ERROR } else if r then record c { failure = code } else c).id ≡ c.id)
     go true r = (refl, refl)
     go false true = (refl, refl)
     go false false = (refl, refl)

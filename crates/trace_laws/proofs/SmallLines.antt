@@ -1,23 +1,23 @@
 -- The numbers that the lines of a scenario name in messages are bytes, where it obeys the rules of its text.
 use Rattle.std.proofs.Common.{ℕ, ◌≡◌, ◌<◌, Some, Ok, sym, ap, subst, ◌∙◌, arith}
 use Rattle.std.specs.Prelude.{◌==◌, ◌||◌, not, nat_le}
-use Rattle.bus_base.specs.declared.AbortKind.{AbortKind}
-use Rattle.bus_base.specs.declared.AbortKind.TheVariants as kills
-use Rattle.scenario.specs.declared.bounds.TheConstants.{LATENCY_LIMIT, OPEN_LIMIT, RETRY_LIMIT, HOST_OFFSET_LIMIT, TARGET_OFFSET_LIMIT, SEEK_LIMIT, LAG_LIMIT, FACTOR_LIMIT, LEAST_FACTOR, TAG_LIMIT}
-use Rattle.scenario.specs.declared.value.AbortDef.{AbortDef}
-use Rattle.scenario.specs.declared.value.CmdDef.{CmdDef}
-use Rattle.scenario.specs.declared.value.HostDef.{HostDef}
-use Rattle.scenario.specs.declared.value.Tag.{Tag}
-use Rattle.scenario.specs.declared.value.Tag.TheVariants as tags
-use Rattle.scenario.specs.declared.value.TargetDef.{TargetDef}
-use Rattle.scenario.specs.Forms.{Said, CmdSaid, initiator_line, target_line, abort_line}
-use Rattle.scenario.specs.Lookups.{has_device}
-use Rattle.scenario.specs.Reading.{guard, within, in_8, time_in, period_in, policy_in, tag_in, what_in, is_block, are_ends, has_abort_room, host_def, target_def, cmd_def, abort_def}
-use Rattle.scenario.specs.Value.{ScenarioValue}
-use Rattle.scenario.specs.Writing.{said_tag, said_what, Obeys}
-use Rattle.scenario.proofs.Steps.{bind_ok, ok_is, within_ok, read_tag, read_what}
+use Rattle.bus_due.specs.bus_base.specs.declared.AbortKind.{AbortKind}
+use Rattle.bus_due.specs.bus_base.specs.declared.AbortKind.TheVariants as kills
+use Rattle.bus_due.specs.scenario.specs.declared.bounds.TheConstants.{LATENCY_LIMIT, OPEN_LIMIT, RETRY_LIMIT, HOST_OFFSET_LIMIT, TARGET_OFFSET_LIMIT, SEEK_LIMIT, LAG_LIMIT, FACTOR_LIMIT, LEAST_FACTOR, TAG_LIMIT}
+use Rattle.bus_due.specs.scenario.specs.declared.value.AbortDef.{AbortDef}
+use Rattle.bus_due.specs.scenario.specs.declared.value.CmdDef.{CmdDef}
+use Rattle.bus_due.specs.scenario.specs.declared.value.HostDef.{HostDef}
+use Rattle.bus_due.specs.scenario.specs.declared.value.Tag.{Tag}
+use Rattle.bus_due.specs.scenario.specs.declared.value.Tag.TheVariants as tags
+use Rattle.bus_due.specs.scenario.specs.declared.value.TargetDef.{TargetDef}
+use Rattle.bus_due.specs.scenario.specs.Forms.{Said, CmdSaid, initiator_line, target_line, abort_line}
+use Rattle.bus_due.specs.scenario.specs.Lookups.{has_device}
+use Rattle.bus_due.specs.scenario.specs.Reading.{guard, within, in_8, time_in, period_in, policy_in, tag_in, what_in, is_block, are_ends, has_abort_room, host_def, target_def, cmd_def, abort_def}
+use Rattle.bus_due.specs.scenario.specs.Value.{ScenarioValue}
+use Rattle.bus_due.specs.scenario.specs.Writing.{said_tag, said_what, Obeys}
+use Rattle.bus_due.specs.scenario.proofs.Steps.{bind_ok, ok_is, within_ok, read_tag, read_what}
 use Rattle.text_words.specs.Words.{Number}
-use Rattle.scsi_device.proofs.LineReads.{host_by, target_by, abort_by}
+use Rattle.target_units.specs.scsi_device.proofs.LineReads.{host_by, target_by, abort_by}
 use Rattle.trace_laws.proofs.EachLine.{IsOfAll, each_line}
 
 abbrev pub IsSmall : ℕ → ℕ → Type 0

@@ -3,45 +3,45 @@ use Rattle.std.proofs.Common.{ℕ, zero, suc, ◌≡◌, ◌<◌, ◌+◌, ◌%�
 use Rattle.std.specs.Prelude.{if◌then◌else◌, is_some, max, min, nat_lt, ◌==◌}
 use Rattle.std.specs.List.{AllByRecursion}
 use Rattle.std.proofs.lemmas.Option.{same_Some}
-use Rattle.bus_base.specs.declared.AbortKind.{AbortKind}
-use Rattle.bus_base.specs.declared.AbortKind.TheVariants as kills
-use Rattle.bus_base.specs.declared.ProcId.{ProcId}
-use Rattle.bus_trace.specs.Phases.{changes_phase, is_message_out, is_message_in, is_command}
-use Rattle.bus_trace.specs.Terms.{receiver_of}
-use Rattle.bus_trace.specs.declared.agreements.Agreement.{Agreement}
-use Rattle.bus_trace.specs.declared.changes.Change.{Change}
-use Rattle.bus_trace.specs.declared.connection.Connection.{Connection}
-use Rattle.msg_grammar.specs.Grammar.{Begins}
-use Rattle.msg_grammar.specs.Messages.{form_out, form_in, msg_out_of, msg_in_of, got_out, got_in, out_bytes, in_bytes}
-use Rattle.msg_grammar.specs.declared.message.Got.{Got}
-use Rattle.msg_grammar.specs.declared.message.Got.TheVariants.{Whole, More, Unknown}
-use Rattle.msg_grammar.specs.declared.message.MsgOut.{MsgOut}
-use Rattle.msg_grammar.specs.declared.message.MsgOut.TheVariants as to_target
-use Rattle.msg_grammar.specs.declared.message.MsgIn.{MsgIn}
-use Rattle.msg_grammar.specs.declared.message.MsgIn.TheVariants as to_initiator
-use Rattle.msg_grammar.proofs.Exact.{whole}
-use Rattle.msg_grammar.proofs.Spells.{out_one, in_one}
-use Rattle.bus_phases.specs.Half.{left_of}
-use Rattle.bus_phases.specs.Dialogue.{fresh_bytes, byte_out, byte_in, byte_else, phase_begins, dialogue_after}
-use Rattle.bus_phases.specs.declared.dialogue.Dialogue.{Dialogue}
+use Rattle.bus_due.specs.bus_base.specs.declared.AbortKind.{AbortKind}
+use Rattle.bus_due.specs.bus_base.specs.declared.AbortKind.TheVariants as kills
+use Rattle.bus_due.specs.bus_base.specs.declared.ProcId.{ProcId}
+use Rattle.bus_due.specs.bus_trace.specs.Phases.{changes_phase, is_message_out, is_message_in, is_command}
+use Rattle.bus_due.specs.bus_trace.specs.Terms.{receiver_of}
+use Rattle.bus_due.specs.bus_trace.specs.declared.agreements.Agreement.{Agreement}
+use Rattle.bus_due.specs.bus_trace.specs.declared.changes.Change.{Change}
+use Rattle.bus_due.specs.bus_trace.specs.declared.connection.Connection.{Connection}
+use Rattle.bus_due.specs.msg_grammar.specs.Grammar.{Begins}
+use Rattle.bus_due.specs.msg_grammar.specs.Messages.{form_out, form_in, msg_out_of, msg_in_of, got_out, got_in, out_bytes, in_bytes}
+use Rattle.bus_due.specs.msg_grammar.specs.declared.message.Got.{Got}
+use Rattle.bus_due.specs.msg_grammar.specs.declared.message.Got.TheVariants.{Whole, More, Unknown}
+use Rattle.bus_due.specs.msg_grammar.specs.declared.message.MsgOut.{MsgOut}
+use Rattle.bus_due.specs.msg_grammar.specs.declared.message.MsgOut.TheVariants as to_target
+use Rattle.bus_due.specs.msg_grammar.specs.declared.message.MsgIn.{MsgIn}
+use Rattle.bus_due.specs.msg_grammar.specs.declared.message.MsgIn.TheVariants as to_initiator
+use Rattle.bus_due.specs.msg_grammar.proofs.Exact.{whole}
+use Rattle.bus_due.specs.msg_grammar.proofs.Spells.{out_one, in_one}
+use Rattle.bus_due.specs.bus_phases.specs.Half.{left_of}
+use Rattle.bus_due.specs.bus_phases.specs.Dialogue.{fresh_bytes, byte_out, byte_in, byte_else, phase_begins, dialogue_after}
+use Rattle.bus_due.specs.bus_phases.specs.declared.dialogue.Dialogue.{Dialogue}
 use Rattle.text_words.specs.Spelling.{AreBytes}
-use Rattle.scenario.specs.declared.value.AbortDef.{AbortDef}
-use Rattle.scenario.specs.declared.value.CmdDef.{CmdDef}
-use Rattle.scenario.specs.declared.value.HostDef.{HostDef}
-use Rattle.scenario.specs.declared.value.Tag.{Tag}
-use Rattle.scenario.specs.declared.value.Tag.TheVariants as tags
-use Rattle.scenario.specs.declared.value.TargetDef.{TargetDef}
-use Rattle.scenario.specs.Value.{ScenarioValue}
-use Rattle.disk_array.specs.Processes.{Process, command_at, process_by, process_if, process_of}
-use Rattle.bus_story.specs.BusState.{whole_out, whole_in, message_out, message_in}
-use Rattle.bus_story.specs.HistoryEvents.{abort_line_at}
-use Rattle.bus_story.specs.Items.{Item, process, abort}
-use Rattle.bus_dialogue.specs.declared.exchange.Hearing.{Hearing}
-use Rattle.bus_dialogue.specs.Exchange.{Speech, request_after, speech_after_byte}
-use Rattle.bus_dialogue.specs.Speaking.{words_after, speech_after}
-use Rattle.bus_dialogue.specs.Words.{agreement_answer, host_answer, target_answer, offer_if, tag_bytes, abort_bytes, process_opening, abort_opening, answer_bytes}
+use Rattle.bus_due.specs.scenario.specs.declared.value.AbortDef.{AbortDef}
+use Rattle.bus_due.specs.scenario.specs.declared.value.CmdDef.{CmdDef}
+use Rattle.bus_due.specs.scenario.specs.declared.value.HostDef.{HostDef}
+use Rattle.bus_due.specs.scenario.specs.declared.value.Tag.{Tag}
+use Rattle.bus_due.specs.scenario.specs.declared.value.Tag.TheVariants as tags
+use Rattle.bus_due.specs.scenario.specs.declared.value.TargetDef.{TargetDef}
+use Rattle.bus_due.specs.scenario.specs.Value.{ScenarioValue}
+use Rattle.bus_due.specs.disk_array.specs.Processes.{Process, command_at, process_by, process_if, process_of}
+use Rattle.bus_due.specs.bus_story.specs.BusState.{whole_out, whole_in, message_out, message_in}
+use Rattle.bus_due.specs.bus_story.specs.HistoryEvents.{abort_line_at}
+use Rattle.bus_due.specs.bus_story.specs.Items.{Item, process, abort}
+use Rattle.bus_due.specs.bus_dialogue.specs.declared.exchange.Hearing.{Hearing}
+use Rattle.bus_due.specs.bus_dialogue.specs.Exchange.{Speech, request_after, speech_after_byte}
+use Rattle.bus_due.specs.bus_dialogue.specs.Speaking.{words_after, speech_after}
+use Rattle.bus_due.specs.bus_dialogue.specs.Words.{agreement_answer, host_answer, target_answer, offer_if, tag_bytes, abort_bytes, process_opening, abort_opening, answer_bytes}
 use Rattle.bus_due.specs.Defs.{host_of, target_def_of, opening}
-use Rattle.scsi_device.proofs.Finds.{found_holds}
+use Rattle.target_units.specs.scsi_device.proofs.Finds.{found_holds}
 use Rattle.trace_laws.proofs.Impossible.{none_some}
 use Rattle.trace_laws.proofs.SmallLines.{IsSmall, IsSmallTag, IsSmallKind, IsSmallHost, IsSmallTarget, IsSmallCommand, IsSmallAbort, HasSmallLines}
 
@@ -110,7 +110,7 @@ halves_after d (Some m) (Some n) agreed c h = go (is_some (receiver_of (Some m) 
     b : ℕ
     b = c.after.data_bits % 256
 
-    other : (q : Bool) → HasByteHalves (if q then record d { heard = Rattle.bus_phases.specs.Dialogue.heard_with_command d.heard b; begun = true } else record d { begun = true })
+    other : (q : Bool) → HasByteHalves (if q then record d { heard = Rattle.bus_due.specs.bus_phases.specs.Dialogue.heard_with_command d.heard b; begun = true } else record d { begun = true })
     other true = record { half = h.half; fresh = h.fresh }
     other false = record { half = h.half; fresh = h.fresh }
 
@@ -122,7 +122,7 @@ halves_after d (Some m) (Some n) agreed c h = go (is_some (receiver_of (Some m) 
     crossing false true = record { half = left_small (got_in (d.half ++ b ∷ [])) (d.half ++ b ∷ []) (byte_more d.half c.after.data_bits h.half); fresh = h.fresh }
     crossing false false = other (is_command c.before)
 
-    go : (q r : Bool) → HasByteHalves (if q then Rattle.bus_phases.specs.Dialogue.byte_crosses d c else if r then phase_begins d else d)
+    go : (q r : Bool) → HasByteHalves (if q then Rattle.bus_due.specs.bus_phases.specs.Dialogue.byte_crosses d c else if r then phase_begins d else d)
     go true r = crossing (is_message_out c.before) (is_message_in c.before)
     go false true = record { half = tt; fresh = tt }
     go false false = h
@@ -287,7 +287,7 @@ words_on o w p f g h = go (changes_phase w.change) w.crosses
     byte true = record { words = h.words; asked = h.asked }
     byte false = record { words = h.words; asked = request_small p.asked w.into h.asked g }
 
-    go : (q r : Bool) → HasByteWords (if q then Rattle.bus_dialogue.specs.Speaking.speech_in_phase o w p else if r then Rattle.bus_dialogue.specs.Speaking.speech_with_byte w p else p)
+    go : (q r : Bool) → HasByteWords (if q then Rattle.bus_due.specs.bus_dialogue.specs.Speaking.speech_in_phase o w p else if r then Rattle.bus_due.specs.bus_dialogue.specs.Speaking.speech_with_byte w p else p)
     go true r = phase (is_message_out w.change.after && w.begun)
     go false true = byte (is_message_out w.change.before)
     go false false = h

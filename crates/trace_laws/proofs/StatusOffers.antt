@@ -2,32 +2,32 @@
 use Rattle.std.proofs.Common.{ℕ, ◌≡◌, Bool, true, false, not, ◌&&◌, ◌==◌, ◌%◌, ◌∙◌, List, ◌∷◌, Option, Some, None, refl, sym, ap, subst, arith}
 use Rattle.std.specs.Int.RustNames.{count_ones}
 use Rattle.std.proofs.lemmas.Bool.Decides.{nat_tests}
-use Rattle.bus_base.specs.declared.ProcId.{ProcId}
-use Rattle.bus_trace.specs.LineSet.{LineSet, none}
-use Rattle.bus_trace.specs.declared.Row.{Row}
-use Rattle.bus_trace.specs.declared.connection.Connection.{Connection}
-use Rattle.bus_trace.specs.Changes.{rises}
-use Rattle.bus_trace.specs.Trace.{bus, last_time}
-use Rattle.bus_lines.specs.Handshakes.{Handshakes, handshakes, strikes_if}
-use Rattle.scenario.specs.Value.{ScenarioValue}
-use Rattle.disk_array.specs.ArrayHistory.{reply_in}
-use Rattle.disk_array.specs.Execution.{Reply}
-use Rattle.bus_story.specs.CarriedBytes.{is_status_phase}
-use Rattle.bus_story.specs.Items.{process}
-use Rattle.bus_reactions.specs.Target.{byte_bits}
-use Rattle.bus_dialogue.specs.declared.exchange.Leaving.{Leaving}
-use Rattle.bus_dialogue.specs.declared.exchange.Phase.{Phase}
-use Rattle.bus_dialogue.specs.declared.exchange.Phase.TheVariants as phases
-use Rattle.bus_dialogue.specs.Hearing.{begun}
-use Rattle.bus_dialogue.specs.NextPhase.{Serving, phase_of, phase_leaving}
-use Rattle.bus_dialogue.specs.PhaseBytes.{status_byte, lines_by}
+use Rattle.bus_due.specs.bus_base.specs.declared.ProcId.{ProcId}
+use Rattle.bus_due.specs.bus_trace.specs.LineSet.{LineSet, none}
+use Rattle.bus_due.specs.bus_trace.specs.declared.Row.{Row}
+use Rattle.bus_due.specs.bus_trace.specs.declared.connection.Connection.{Connection}
+use Rattle.bus_due.specs.bus_trace.specs.Changes.{rises}
+use Rattle.bus_due.specs.bus_trace.specs.Trace.{bus, last_time}
+use Rattle.bus_due.specs.bus_lines.specs.Handshakes.{Handshakes, handshakes, strikes_if}
+use Rattle.bus_due.specs.scenario.specs.Value.{ScenarioValue}
+use Rattle.bus_due.specs.disk_array.specs.ArrayHistory.{reply_in}
+use Rattle.bus_due.specs.disk_array.specs.Execution.{Reply}
+use Rattle.bus_due.specs.bus_story.specs.CarriedBytes.{is_status_phase}
+use Rattle.bus_due.specs.bus_story.specs.Items.{process}
+use Rattle.bus_due.specs.bus_reactions.specs.Target.{byte_bits}
+use Rattle.bus_due.specs.bus_dialogue.specs.declared.exchange.Leaving.{Leaving}
+use Rattle.bus_due.specs.bus_dialogue.specs.declared.exchange.Phase.{Phase}
+use Rattle.bus_due.specs.bus_dialogue.specs.declared.exchange.Phase.TheVariants as phases
+use Rattle.bus_due.specs.bus_dialogue.specs.Hearing.{begun}
+use Rattle.bus_due.specs.bus_dialogue.specs.NextPhase.{Serving, phase_of, phase_leaving}
+use Rattle.bus_due.specs.bus_dialogue.specs.PhaseBytes.{status_byte, lines_by}
 use Rattle.bus_due.specs.RunState.{array_of}
 use Rattle.bus_due.specs.RunSteps.{run_state}
 use Rattle.bus_due.specs.Sights.{serving_at}
 use Rattle.bus_due.specs.Tasks.{task_of}
-use Rattle.bus_laws.specs.Rows.{row_of_lines, row_of_fault}
-use Rattle.bus_laws.specs.Ends.{EndLines, target_side, connected_bus, Linked}
-use Rattle.bus_laws.proofs.Rows.{drives_own}
+use Rattle.link_laws.specs.bus_laws.specs.Rows.{row_of_lines, row_of_fault}
+use Rattle.link_laws.specs.bus_laws.specs.Ends.{EndLines, target_side, connected_bus, Linked}
+use Rattle.link_laws.specs.bus_laws.proofs.Rows.{drives_own}
 use Rattle.link_laws.specs.Phases.{ends}
 use Rattle.link_laws.proofs.EndDues.{offering_with}
 use Rattle.link_laws.proofs.Faults.{linked_fault}
@@ -42,7 +42,7 @@ use Rattle.trace_laws.proofs.Kept.{requests_stay}
 use Rattle.trace_laws.proofs.LinkRows as rows
 use Rattle.trace_laws.proofs.LinkRows.{LinkRow, is_unasked}
 use Rattle.trace_laws.proofs.Turns.{freed_connection}
-use Rattle.bus_base.proofs.Tests.{wrong, wrong', not_first}
+use Rattle.bus_due.specs.bus_base.proofs.Tests.{wrong, wrong', not_first}
 
 -- ---- what is driven
 

@@ -1,13 +1,13 @@
 -- Any row of a connection, resets apart: what the two ends drive after it.
 use Rattle.std.proofs.Common.{◌≡◌, ◌≤◌, true, false, List, ◌∷◌, sym, subst}
-use Rattle.bus_trace.specs.declared.Row.{Row}
-use Rattle.bus_trace.specs.declared.connection.Connection.{Connection}
-use Rattle.bus_trace.specs.Trace.{last_time}
-use Rattle.bus_dialogue.specs.Hearing.{begun}
-use Rattle.scenario.specs.Value.{ScenarioValue}
+use Rattle.bus_due.specs.bus_trace.specs.declared.Row.{Row}
+use Rattle.bus_due.specs.bus_trace.specs.declared.connection.Connection.{Connection}
+use Rattle.bus_due.specs.bus_trace.specs.Trace.{last_time}
+use Rattle.bus_due.specs.bus_dialogue.specs.Hearing.{begun}
+use Rattle.bus_due.specs.scenario.specs.Value.{ScenarioValue}
 use Rattle.bus_due.specs.Plain.{AreOfDevices}
-use Rattle.bus_laws.specs.Stages.{CalmStanding}
-use Rattle.bus_laws.specs.Ends.{EndLines, Linked}
+use Rattle.link_laws.specs.bus_laws.specs.Stages.{CalmStanding}
+use Rattle.link_laws.specs.bus_laws.specs.Ends.{EndLines, Linked}
 use Rattle.trace_laws.proofs.Driven.{Driven, AfterDriven, same_ends}
 use Rattle.trace_laws.proofs.InPhase.{Values, after_hands, after_releases, after_offers, after_asks, after_answers, after_ends_ack_in, after_ends_req, after_gives, after_sends, after_ends_ack_out, after_pulse_of_initiator, after_pulse_of_target}
 use Rattle.trace_laws.proofs.LinkRows.{LinkRow, opens, strikes, hands, releases, answers, ends_ack_in, gives, sends, ends_ack_out, answers_pulse, ends_ack_pulse, drives_pulsed, sends_pulse, offers, asks_first, ends_req, asks_next, leaves, ends_req_pulse, changes_pulsed, asks_pulse}

@@ -3,27 +3,27 @@ use Rattle.std.proofs.Common.{ℕ, ◌≡◌, ◌⊎◌, inl, inr, Bool, true, f
 use Rattle.std.specs.Prelude.{if◌then◌else◌, is_some}
 use Rattle.std.proofs.lemmas.Bool.Decides.{nat_tests}
 use Rattle.std.proofs.lemmas.Option.{same_Some}
-use Rattle.bus_trace.specs.LineSet.{LineSet}
-use Rattle.bus_trace.specs.declared.Row.{Row}
-use Rattle.bus_trace.specs.declared.changes.Change.{Change}
-use Rattle.bus_trace.specs.declared.connection.Connection.{Connection}
-use Rattle.bus_trace.specs.Changes.{change_of, rises}
-use Rattle.bus_trace.specs.Terms.{call, connection, connection_after, receiver, receiver_in, receiver_of}
-use Rattle.bus_trace.specs.Trace.{bus, drives}
-use Rattle.bus_trace.proofs.Sets.{same_self}
-use Rattle.bus_phases.specs.declared.dialogue.Dialogue.{Dialogue}
-use Rattle.bus_phases.specs.Dialogue.{dialogue, byte_crosses, phase_begins}
-use Rattle.bus_rules.specs.Order.{is_of_device}
-use Rattle.scenario.specs.Value.{ScenarioValue}
-use Rattle.bus_dialogue.specs.Hearing.{begun}
-use Rattle.bus_laws.specs.Rows.{row_of_fault, change_to}
-use Rattle.bus_laws.specs.Ends.{EndLines, connected_bus, Linked}
-use Rattle.bus_laws.proofs.Rows.{fault_change}
+use Rattle.bus_due.specs.bus_trace.specs.LineSet.{LineSet}
+use Rattle.bus_due.specs.bus_trace.specs.declared.Row.{Row}
+use Rattle.bus_due.specs.bus_trace.specs.declared.changes.Change.{Change}
+use Rattle.bus_due.specs.bus_trace.specs.declared.connection.Connection.{Connection}
+use Rattle.bus_due.specs.bus_trace.specs.Changes.{change_of, rises}
+use Rattle.bus_due.specs.bus_trace.specs.Terms.{call, connection, connection_after, receiver, receiver_in, receiver_of}
+use Rattle.bus_due.specs.bus_trace.specs.Trace.{bus, drives}
+use Rattle.bus_due.specs.bus_trace.proofs.Sets.{same_self}
+use Rattle.bus_due.specs.bus_phases.specs.declared.dialogue.Dialogue.{Dialogue}
+use Rattle.bus_due.specs.bus_phases.specs.Dialogue.{dialogue, byte_crosses, phase_begins}
+use Rattle.bus_due.specs.bus_rules.specs.Order.{is_of_device}
+use Rattle.bus_due.specs.scenario.specs.Value.{ScenarioValue}
+use Rattle.bus_due.specs.bus_dialogue.specs.Hearing.{begun}
+use Rattle.link_laws.specs.bus_laws.specs.Rows.{row_of_fault, change_to}
+use Rattle.link_laws.specs.bus_laws.specs.Ends.{EndLines, connected_bus, Linked}
+use Rattle.link_laws.specs.bus_laws.proofs.Rows.{fault_change}
 use Rattle.link_laws.proofs.Faults.{linked_fault}
 use Rattle.link_laws.proofs.Moves.{terms_after, no_rise}
 use Rattle.trace_laws.proofs.Driven.{Driven, AfterDriven, goes_on, no_third}
 use Rattle.trace_laws.proofs.Tests.{none_both}
-use Rattle.bus_base.proofs.Tests.{wrong, wrong'}
+use Rattle.bus_due.specs.bus_base.proofs.Tests.{wrong, wrong'}
 
 is_same : (a b : ℕ) → (a == b) ≡ true → b ≡ a
 is_same a b e = grind (arith, nat_tests)

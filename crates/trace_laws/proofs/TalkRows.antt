@@ -2,40 +2,40 @@
 use Rattle.std.proofs.Common.{inl, inr, ℕ, ◌≡◌, ◌⊎◌, Bool, true, false, not, ◌&&◌, ◌∙◌, Option, Some, None, refl, sym, ap, subst}
 use Rattle.std.specs.Prelude.{if◌then◌else◌, is_some}
 use Rattle.std.proofs.lemmas.Option.{same_Some}
-use Rattle.bus_base.specs.declared.ProcId.{ProcId}
-use Rattle.bus_trace.specs.LineSet.{LineSet}
-use Rattle.bus_trace.specs.declared.Row.{Row}
-use Rattle.bus_trace.specs.declared.changes.Change.{Change}
-use Rattle.bus_trace.specs.declared.connection.Connection.{Connection}
-use Rattle.bus_trace.specs.Changes.{rises}
-use Rattle.bus_trace.specs.Phases.{changes_phase, is_message_in, is_message_out}
-use Rattle.bus_trace.specs.Terms.{is_fault, receiver_in}
-use Rattle.bus_lines.specs.Handshakes.{Handshakes, no_handshakes, handshakes_after, asked_if, answered_if}
-use Rattle.scenario.specs.Value.{ScenarioValue}
-use Rattle.bus_story.specs.Items.{Item, process, has_item, Sent}
-use Rattle.bus_story.specs.Links.{Link}
-use Rattle.bus_story.specs.HistoryEvents.{is_complete, is_completion}
-use Rattle.bus_dialogue.specs.declared.exchange.Plan.{Plan}
-use Rattle.bus_dialogue.specs.Exchange.{Exchange, struck_plan}
-use Rattle.bus_dialogue.specs.NextPhase.{phase_of}
+use Rattle.bus_due.specs.bus_base.specs.declared.ProcId.{ProcId}
+use Rattle.bus_due.specs.bus_trace.specs.LineSet.{LineSet}
+use Rattle.bus_due.specs.bus_trace.specs.declared.Row.{Row}
+use Rattle.bus_due.specs.bus_trace.specs.declared.changes.Change.{Change}
+use Rattle.bus_due.specs.bus_trace.specs.declared.connection.Connection.{Connection}
+use Rattle.bus_due.specs.bus_trace.specs.Changes.{rises}
+use Rattle.bus_due.specs.bus_trace.specs.Phases.{changes_phase, is_message_in, is_message_out}
+use Rattle.bus_due.specs.bus_trace.specs.Terms.{is_fault, receiver_in}
+use Rattle.bus_due.specs.bus_lines.specs.Handshakes.{Handshakes, no_handshakes, handshakes_after, asked_if, answered_if}
+use Rattle.bus_due.specs.scenario.specs.Value.{ScenarioValue}
+use Rattle.bus_due.specs.bus_story.specs.Items.{Item, process, has_item, Sent}
+use Rattle.bus_due.specs.bus_story.specs.Links.{Link}
+use Rattle.bus_due.specs.bus_story.specs.HistoryEvents.{is_complete, is_completion}
+use Rattle.bus_due.specs.bus_dialogue.specs.declared.exchange.Plan.{Plan}
+use Rattle.bus_due.specs.bus_dialogue.specs.Exchange.{Exchange, struck_plan}
+use Rattle.bus_due.specs.bus_dialogue.specs.NextPhase.{phase_of}
 use Rattle.bus_due.specs.RunState.{RunState, bus_of}
 use Rattle.bus_due.specs.RunSteps.{run_state_after}
 use Rattle.bus_due.specs.Sights.{leaving}
-use Rattle.scsi_device.specs.Lines.{AreUnits}
+use Rattle.target_units.specs.scsi_device.specs.Lines.{AreUnits}
 use Rattle.bus_books.specs.Giving.{Gives}
 use Rattle.bus_books.specs.Knowing.{Knows}
 use Rattle.bus_books.specs.Rows.{IsRowIn}
 use Rattle.bus_books.specs.Speaking.{Speaks}
 use Rattle.bus_books.specs.Traces.{GoesOn}
 use Rattle.bus_books.proofs.Gives.{in_io, answered_same, in_same}
-use Rattle.bus_lines.proofs.Early.{struck_same}
+use Rattle.bus_due.specs.bus_lines.proofs.Early.{struck_same}
 use Rattle.bus_books.proofs.InConnection.{InConnection, in_connection, SamePhase, same_phase_is}
 use Rattle.trace_laws.proofs.Impossible.{none_some, some_none}
 use Rattle.trace_laws.proofs.RowItems.{OverAfter, over_after, link_still}
 use Rattle.trace_laws.proofs.TalkSteps.{Alternates, Completes, StaysPhase, stays_by}
 use Rattle.trace_laws.specs.ItemTalks.{Talk, talk_of, awaits, TalksBy, Talks}
 use Rattle.trace_laws.proofs.Tests.{all_four}
-use Rattle.bus_base.proofs.Tests.{wrong, wrong'}
+use Rattle.bus_due.specs.bus_base.proofs.Tests.{wrong, wrong'}
 use Rattle.bus_books.proofs.Speaks.{out_same}
 
 -- What is known of such a row.

@@ -1,25 +1,25 @@
 -- What holds of the process of a connection goes on with each row of it: on what is said, the lines and the link alone.
 use Rattle.std.proofs.Common.{inl, inr, ℕ, ◌≡◌, ◌⊎◌, ◌<◌, Bool, true, false, not, ◌&&◌, ◌||◌, ◌∙◌, List, length, Some, refl, sym, ap, subst, arith}
-use Rattle.bus_base.specs.declared.ProcId.{ProcId}
-use Rattle.bus_base.specs.Faults.{counted_on}
-use Rattle.bus_trace.specs.LineSet.{LineSet}
-use Rattle.bus_trace.specs.declared.connection.Connection.{Connection}
-use Rattle.bus_trace.specs.Changes.{rises, falls}
-use Rattle.bus_trace.specs.Phases.{is_message_in, is_message_out}
-use Rattle.msg_grammar.specs.declared.message.MsgIn.{MsgIn}
-use Rattle.msg_grammar.specs.declared.message.MsgIn.TheVariants as to_initiator
-use Rattle.msg_grammar.specs.declared.message.MsgOut.{MsgOut}
-use Rattle.msg_grammar.specs.declared.message.MsgOut.TheVariants as to_target
-use Rattle.msg_grammar.specs.Grammar.{is_abort}
-use Rattle.scenario.specs.Value.{ScenarioValue}
-use Rattle.disk_array.specs.Processes.{Process}
-use Rattle.bus_story.specs.Items.{Item, process, has_item, Sent}
-use Rattle.bus_story.specs.Links.{Link, last_out, last_in, link_after_name}
-use Rattle.bus_story.specs.HistoryEvents.{is_complete}
-use Rattle.bus_story.specs.Story.{Story}
-use Rattle.bus_dialogue.specs.declared.exchange.Messages.{Messages}
-use Rattle.bus_dialogue.specs.declared.exchange.Next.{Next}
-use Rattle.bus_dialogue.specs.Exchange.{bytes_of_messages}
+use Rattle.bus_due.specs.bus_base.specs.declared.ProcId.{ProcId}
+use Rattle.bus_due.specs.bus_base.specs.Faults.{counted_on}
+use Rattle.bus_due.specs.bus_trace.specs.LineSet.{LineSet}
+use Rattle.bus_due.specs.bus_trace.specs.declared.connection.Connection.{Connection}
+use Rattle.bus_due.specs.bus_trace.specs.Changes.{rises, falls}
+use Rattle.bus_due.specs.bus_trace.specs.Phases.{is_message_in, is_message_out}
+use Rattle.bus_due.specs.msg_grammar.specs.declared.message.MsgIn.{MsgIn}
+use Rattle.bus_due.specs.msg_grammar.specs.declared.message.MsgIn.TheVariants as to_initiator
+use Rattle.bus_due.specs.msg_grammar.specs.declared.message.MsgOut.{MsgOut}
+use Rattle.bus_due.specs.msg_grammar.specs.declared.message.MsgOut.TheVariants as to_target
+use Rattle.bus_due.specs.msg_grammar.specs.Grammar.{is_abort}
+use Rattle.bus_due.specs.scenario.specs.Value.{ScenarioValue}
+use Rattle.bus_due.specs.disk_array.specs.Processes.{Process}
+use Rattle.bus_due.specs.bus_story.specs.Items.{Item, process, has_item, Sent}
+use Rattle.bus_due.specs.bus_story.specs.Links.{Link, last_out, last_in, link_after_name}
+use Rattle.bus_due.specs.bus_story.specs.HistoryEvents.{is_complete}
+use Rattle.bus_due.specs.bus_story.specs.Story.{Story}
+use Rattle.bus_due.specs.bus_dialogue.specs.declared.exchange.Messages.{Messages}
+use Rattle.bus_due.specs.bus_dialogue.specs.declared.exchange.Next.{Next}
+use Rattle.bus_due.specs.bus_dialogue.specs.Exchange.{bytes_of_messages}
 use Rattle.bus_books.specs.Giving.{OnMessages}
 use Rattle.bus_books.proofs.Gives.{not_both}
 use Rattle.trace_laws.proofs.NamedSteps.{out_last}
@@ -27,7 +27,7 @@ use Rattle.trace_laws.proofs.RowItems.{heard_link}
 use Rattle.trace_laws.specs.ItemTalks.{is_complete_in, is_disconnect_in, frees_bus, plans_well, is_sense_item, is_plain, Talk, awaits, IsTaken, HasEnded, last_well, IsNameOf, IsUnnamed, HasNames, TalksBy}
 use Rattle.trace_laws.proofs.Tests.{less_apart, or_first}
 use Rattle.std.proofs.lemmas.Bool.{not-true, and_parts}
-use Rattle.bus_base.proofs.Tests.{wrong, wrong'}
+use Rattle.bus_due.specs.bus_base.proofs.Tests.{wrong, wrong'}
 
 -- ---- lines
 

@@ -2,22 +2,22 @@
 use Rattle.std.proofs.Common.{inl, ℕ, ◌≡◌, Bool, true, false, not, ◌==◌, ◌∙◌, Option, Some, None, refl, sym, ap, subst, ◌&&◌, length}
 use Rattle.std.specs.Prelude.{if◌then◌else◌, is_some, ◌-◌, nat_lt}
 use Rattle.std.proofs.lemmas.Option.{same_Some}
-use Rattle.bus_trace.specs.declared.Row.{Row}
-use Rattle.bus_trace.specs.declared.changes.Change.{Change}
-use Rattle.bus_trace.specs.declared.connection.Connection.{Connection}
-use Rattle.bus_trace.specs.Phases.{changes_phase, is_message_in, is_message_out}
-use Rattle.bus_trace.specs.Terms.{is_fault, receiver_in}
-use Rattle.scenario.specs.Value.{ScenarioValue}
-use Rattle.disk_array.specs.Processes.{Process}
-use Rattle.bus_story.specs.Links.{Link}
-use Rattle.bus_dialogue.specs.declared.exchange.Hearing.{Hearing}
-use Rattle.bus_dialogue.specs.declared.exchange.Leaving.{Leaving}
-use Rattle.bus_dialogue.specs.declared.exchange.Phase.{Phase}
-use Rattle.bus_dialogue.specs.declared.exchange.Phase.TheVariants as phases
-use Rattle.bus_dialogue.specs.declared.exchange.Plan.{Plan}
-use Rattle.bus_dialogue.specs.Exchange.{Exchange, from_byte, plan_anew, message_bytes}
-use Rattle.bus_dialogue.specs.NextPhase.{phase_of, Serving, phase_entry, phase_leaving, leaving_by, after_messages}
-use Rattle.bus_dialogue.specs.Planning.{cause_after, plan_in_phase}
+use Rattle.bus_due.specs.bus_trace.specs.declared.Row.{Row}
+use Rattle.bus_due.specs.bus_trace.specs.declared.changes.Change.{Change}
+use Rattle.bus_due.specs.bus_trace.specs.declared.connection.Connection.{Connection}
+use Rattle.bus_due.specs.bus_trace.specs.Phases.{changes_phase, is_message_in, is_message_out}
+use Rattle.bus_due.specs.bus_trace.specs.Terms.{is_fault, receiver_in}
+use Rattle.bus_due.specs.scenario.specs.Value.{ScenarioValue}
+use Rattle.bus_due.specs.disk_array.specs.Processes.{Process}
+use Rattle.bus_due.specs.bus_story.specs.Links.{Link}
+use Rattle.bus_due.specs.bus_dialogue.specs.declared.exchange.Hearing.{Hearing}
+use Rattle.bus_due.specs.bus_dialogue.specs.declared.exchange.Leaving.{Leaving}
+use Rattle.bus_due.specs.bus_dialogue.specs.declared.exchange.Phase.{Phase}
+use Rattle.bus_due.specs.bus_dialogue.specs.declared.exchange.Phase.TheVariants as phases
+use Rattle.bus_due.specs.bus_dialogue.specs.declared.exchange.Plan.{Plan}
+use Rattle.bus_due.specs.bus_dialogue.specs.Exchange.{Exchange, from_byte, plan_anew, message_bytes}
+use Rattle.bus_due.specs.bus_dialogue.specs.NextPhase.{phase_of, Serving, phase_entry, phase_leaving, leaving_by, after_messages}
+use Rattle.bus_due.specs.bus_dialogue.specs.Planning.{cause_after, plan_in_phase}
 use Rattle.bus_due.specs.RunState.{RunState, bus_of}
 use Rattle.bus_due.specs.RunSteps.{run_state_after}
 use Rattle.bus_due.specs.Sights.{hearing_of, leaving, serving_of, serving_at}
@@ -31,14 +31,14 @@ use Rattle.trace_laws.proofs.PhaseLines.{in_phase, out_phase}
 use Rattle.trace_laws.proofs.RowItems.{over_after, link_still}
 use Rattle.trace_laws.proofs.TalkSteps.{TurnsTo, turns_by}
 use Rattle.trace_laws.proofs.TalkRows.{TalkRow, stays_talk}
-use Rattle.bus_trace.specs.LineSet.{LineSet}
-use Rattle.msg_grammar.specs.declared.message.MsgIn.{MsgIn}
-use Rattle.bus_dialogue.specs.declared.exchange.Messages.{Messages}
-use Rattle.bus_dialogue.specs.declared.exchange.Next.{Next}
-use Rattle.bus_dialogue.specs.declared.exchange.Next.TheVariants as nexts
+use Rattle.bus_due.specs.bus_trace.specs.LineSet.{LineSet}
+use Rattle.bus_due.specs.msg_grammar.specs.declared.message.MsgIn.{MsgIn}
+use Rattle.bus_due.specs.bus_dialogue.specs.declared.exchange.Messages.{Messages}
+use Rattle.bus_due.specs.bus_dialogue.specs.declared.exchange.Next.{Next}
+use Rattle.bus_due.specs.bus_dialogue.specs.declared.exchange.Next.TheVariants as nexts
 use Rattle.trace_laws.proofs.TalkBytes.{in_talk, out_talk, else_talk}
 use Rattle.trace_laws.specs.ItemTalks.{plans_well, is_sense_item, frees_bus, Talk, talk_of, IsTaken, IsNameOf, TalksBy, Talks}
-use Rattle.bus_base.proofs.Tests.{wrong, wrong'}
+use Rattle.bus_due.specs.bus_base.proofs.Tests.{wrong, wrong'}
 
 -- ---- how a phase is left
 

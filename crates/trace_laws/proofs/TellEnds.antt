@@ -2,38 +2,38 @@
 use Rattle.std.proofs.Common.{inl, inr, ℕ, ◌≡◌, Bool, true, false, ◌&&◌, ◌==◌, ◌+◌, ◌∙◌, List, [], ◌∷◌, Option, Some, None, refl, sym, ap}
 use Rattle.std.specs.Prelude.{if◌then◌else◌, is_some, is_none, nat_lt}
 use Rattle.std.proofs.lemmas.Bool.{and_parts}
-use Rattle.bus_base.specs.declared.AbortKind.{AbortKind}
-use Rattle.bus_base.specs.declared.Event.TheVariants as events
-use Rattle.bus_base.specs.declared.ProcId.{ProcId}
-use Rattle.bus_trace.specs.declared.agreements.Agreement.{Agreement}
-use Rattle.bus_trace.specs.declared.connection.Connection.{Connection}
-use Rattle.bus_trace.specs.Phases.{is_message_out}
-use Rattle.msg_grammar.specs.declared.message.MsgIn.{MsgIn}
-use Rattle.msg_grammar.specs.Messages.{form_out}
-use Rattle.scenario.specs.declared.value.AbortDef.{AbortDef}
-use Rattle.scenario.specs.declared.value.HostDef.{HostDef}
-use Rattle.scenario.specs.declared.value.Policy.{Policy}
-use Rattle.scenario.specs.declared.value.TargetDef.{TargetDef}
-use Rattle.scenario.specs.Value.{ScenarioValue}
-use Rattle.disk_array.specs.Processes.{Process, process_of}
-use Rattle.bus_story.specs.HistoryEvents.{abort_line_at, abort_line_events, item_abort_events, bus_free_events}
-use Rattle.bus_story.specs.Items.{process, abort}
-use Rattle.bus_story.specs.Links.{Link, LastMessage, plain, abortive}
-use Rattle.bus_dialogue.specs.declared.exchange.Arrival.{Arrival}
-use Rattle.bus_dialogue.specs.declared.exchange.Arrival.TheVariants as arrivals
-use Rattle.bus_dialogue.specs.declared.exchange.Cause.{Cause}
-use Rattle.bus_dialogue.specs.declared.exchange.Cause.TheVariants as causes
-use Rattle.bus_dialogue.specs.declared.exchange.Leaving.{Leaving}
-use Rattle.bus_dialogue.specs.declared.exchange.Next.{Next}
-use Rattle.bus_dialogue.specs.declared.exchange.Next.TheVariants as nexts
-use Rattle.bus_dialogue.specs.declared.exchange.Phase.{Phase}
-use Rattle.bus_dialogue.specs.declared.exchange.Phase.TheVariants as phases
-use Rattle.bus_dialogue.specs.declared.exchange.Said.{Said}
-use Rattle.bus_dialogue.specs.declared.exchange.Task.{Task}
-use Rattle.bus_dialogue.specs.Arrivals.{policy_of}
-use Rattle.bus_dialogue.specs.Events.{unit_or_0, after_opening_events, connection_end_events}
-use Rattle.bus_dialogue.specs.NextPhase.{Serving, phase_leaving, bus_free, phase_entry, with_task, recovery, recovery_limit, pointer_restoration, request_or_command, after_offer, message_repetition, after_refusal, message_out_leaving, after_messages, after_arrival, after_run, command_leaving, data_out_leaving}
-use Rattle.bus_dialogue.specs.Words.{request_by, is_naming, parity_error, detected_error, answer_bytes}
+use Rattle.bus_due.specs.bus_base.specs.declared.AbortKind.{AbortKind}
+use Rattle.bus_due.specs.bus_base.specs.declared.Event.TheVariants as events
+use Rattle.bus_due.specs.bus_base.specs.declared.ProcId.{ProcId}
+use Rattle.bus_due.specs.bus_trace.specs.declared.agreements.Agreement.{Agreement}
+use Rattle.bus_due.specs.bus_trace.specs.declared.connection.Connection.{Connection}
+use Rattle.bus_due.specs.bus_trace.specs.Phases.{is_message_out}
+use Rattle.bus_due.specs.msg_grammar.specs.declared.message.MsgIn.{MsgIn}
+use Rattle.bus_due.specs.msg_grammar.specs.Messages.{form_out}
+use Rattle.bus_due.specs.scenario.specs.declared.value.AbortDef.{AbortDef}
+use Rattle.bus_due.specs.scenario.specs.declared.value.HostDef.{HostDef}
+use Rattle.bus_due.specs.scenario.specs.declared.value.Policy.{Policy}
+use Rattle.bus_due.specs.scenario.specs.declared.value.TargetDef.{TargetDef}
+use Rattle.bus_due.specs.scenario.specs.Value.{ScenarioValue}
+use Rattle.bus_due.specs.disk_array.specs.Processes.{Process, process_of}
+use Rattle.bus_due.specs.bus_story.specs.HistoryEvents.{abort_line_at, abort_line_events, item_abort_events, bus_free_events}
+use Rattle.bus_due.specs.bus_story.specs.Items.{process, abort}
+use Rattle.bus_due.specs.bus_story.specs.Links.{Link, LastMessage, plain, abortive}
+use Rattle.bus_due.specs.bus_dialogue.specs.declared.exchange.Arrival.{Arrival}
+use Rattle.bus_due.specs.bus_dialogue.specs.declared.exchange.Arrival.TheVariants as arrivals
+use Rattle.bus_due.specs.bus_dialogue.specs.declared.exchange.Cause.{Cause}
+use Rattle.bus_due.specs.bus_dialogue.specs.declared.exchange.Cause.TheVariants as causes
+use Rattle.bus_due.specs.bus_dialogue.specs.declared.exchange.Leaving.{Leaving}
+use Rattle.bus_due.specs.bus_dialogue.specs.declared.exchange.Next.{Next}
+use Rattle.bus_due.specs.bus_dialogue.specs.declared.exchange.Next.TheVariants as nexts
+use Rattle.bus_due.specs.bus_dialogue.specs.declared.exchange.Phase.{Phase}
+use Rattle.bus_due.specs.bus_dialogue.specs.declared.exchange.Phase.TheVariants as phases
+use Rattle.bus_due.specs.bus_dialogue.specs.declared.exchange.Said.{Said}
+use Rattle.bus_due.specs.bus_dialogue.specs.declared.exchange.Task.{Task}
+use Rattle.bus_due.specs.bus_dialogue.specs.Arrivals.{policy_of}
+use Rattle.bus_due.specs.bus_dialogue.specs.Events.{unit_or_0, after_opening_events, connection_end_events}
+use Rattle.bus_due.specs.bus_dialogue.specs.NextPhase.{Serving, phase_leaving, bus_free, phase_entry, with_task, recovery, recovery_limit, pointer_restoration, request_or_command, after_offer, message_repetition, after_refusal, message_out_leaving, after_messages, after_arrival, after_run, command_leaving, data_out_leaving}
+use Rattle.bus_due.specs.bus_dialogue.specs.Words.{request_by, is_naming, parity_error, detected_error, answer_bytes}
 use Rattle.bus_due.specs.Defs.{host_of}
 use Rattle.bus_due.specs.Faithful.{is_unit, is_kind, is_process_named, is_abort_named, is_item_named}
 use Rattle.bus_due.specs.RunState.{RunState, bus_of}
@@ -41,7 +41,7 @@ use Rattle.bus_due.specs.Telling.{same_events, same_kind}
 use Rattle.bus_books.specs.Listening.{Understanding, nothing_understood, understood}
 use Rattle.bus_books.specs.Speaking.{AreWordsFor, opens, refuses, answers, rejects_data, rejects_status, Speaks}
 use Rattle.trace_laws.specs.Tells.{IsClosing, LastAsked, LastIn}
-use Rattle.bus_base.proofs.Tests.{wrong, wrong', eq_self}
+use Rattle.bus_due.specs.bus_base.proofs.Tests.{wrong, wrong', eq_self}
 
 -- ---- a target that serves a process goes on but after the messages that end a connection
 
@@ -76,9 +76,9 @@ arrived_on def t arrivals.AtOnce = refl
 arrived_on def t arrivals.Queued = refl
 
 pub ran_on : (policy : Policy) (t : Task) → goes_on (after_run policy t) ≡ true
-ran_on policy t = go (nat_lt (t.runs + 1) (Rattle.bus_dialogue.specs.DataRuns.runs_in_all policy t))
+ran_on policy t = go (nat_lt (t.runs + 1) (Rattle.bus_due.specs.bus_dialogue.specs.DataRuns.runs_in_all policy t))
   where
-    go : (q : Bool) → goes_on (record (if q then Rattle.bus_dialogue.specs.NextPhase.disconnection (Rattle.bus_dialogue.specs.NextPhase.disconnect_messages policy) else phase_entry phases.Status) { done = true }) ≡ true
+    go : (q : Bool) → goes_on (record (if q then Rattle.bus_due.specs.bus_dialogue.specs.NextPhase.disconnection (Rattle.bus_due.specs.bus_dialogue.specs.NextPhase.disconnect_messages policy) else phase_entry phases.Status) { done = true }) ≡ true
     go true = refl
     go false = refl
 
@@ -116,12 +116,12 @@ lost_told s v n t id l false phases.MessageIn e item none last to = go v.plan.ne
     go nexts.Command f z = wrong z
     go nexts.Status f z = wrong z
     go nexts.FreeBus f z = closes l.last (last refl f)
-    go nexts.GoOn f z = wrong (sym (ap (λ (o : Option Task). goes_on (with_task o (λ u. phase_entry (Rattle.bus_dialogue.specs.NextPhase.next_data_phase (policy_of v.def) u u.runs)))) e) ∙ z)
+    go nexts.GoOn f z = wrong (sym (ap (λ (o : Option Task). goes_on (with_task o (λ u. phase_entry (Rattle.bus_due.specs.bus_dialogue.specs.NextPhase.next_data_phase (policy_of v.def) u u.runs)))) e) ∙ z)
 lost_told s v n t id l attention phases.MessageOut e item none last to =
     ap (λ (o : Option AbortKind). after_opening_events n v.plan.said o (Some id)) (none refl) ∙ go v.plan.cause last to
   where
     loses : l.last ≡ plain → events.Lost id ∷ [] ≡ bus_free_events s l l.last
-    loses z = (λ i. Rattle.bus_story.specs.HistoryEvents.item_loss_events (sym item i)) ∙ ap (λ (y : LastMessage). bus_free_events s l y) (sym z)
+    loses z = (λ i. Rattle.bus_due.specs.bus_story.specs.HistoryEvents.item_loss_events (sym item i)) ∙ ap (λ (y : LastMessage). bus_free_events s l y) (sym z)
 
     go : (cause : Cause) → LastAsked v.plan l.last cause → goes_on (message_out_leaving v cause) ≡ false → events.Lost id ∷ [] ≡ bus_free_events s l l.last
     go causes.Selected f z = wrong (sym (ap (λ (o : Option AbortKind). goes_on (if is_some o then bus_free else after_offer v.def v.plan.negotiates v.plan.said.offer)) (none refl) ∙ offered_on v.def v.plan.negotiates v.plan.said.offer) ∙ z)

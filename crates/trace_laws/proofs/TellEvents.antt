@@ -2,33 +2,33 @@
 use Rattle.std.proofs.Common.{ℕ, ◌≡◌, Bool, true, false, not, ◌&&◌, ◌||◌, ◌==◌, ◌∙◌, List, [], ◌∷◌, ◌++◌, length, Option, Some, None, refl, sym, ap}
 use Rattle.std.specs.Prelude.{if◌then◌else◌, is_some, nat_lt}
 use Rattle.std.specs.List.{list_any}
-use Rattle.bus_base.specs.declared.AbortKind.{AbortKind}
-use Rattle.bus_base.specs.declared.AbortKind.TheVariants as aborts
-use Rattle.bus_base.specs.declared.Event.{Event}
-use Rattle.bus_base.specs.declared.Event.TheVariants as events
-use Rattle.bus_base.specs.declared.ProcId.{ProcId}
-use Rattle.cdb_codec.specs.Cdb.{command_of, has_group_len}
-use Rattle.cdb_codec.specs.declared.sense.TheConstants.{PARITY_ERROR}
-use Rattle.scenario.specs.declared.value.Policy.{Policy}
-use Rattle.scenario.specs.Value.{ScenarioValue}
-use Rattle.disk_array.specs.ArrayHistory.{array_step}
-use Rattle.disk_array.specs.Execution.{is_request_sense}
-use Rattle.disk_array.specs.Processes.{Process, process_of}
-use Rattle.disk_array.specs.Steps.{process_count, queue_step, accept_step, accept_step_at, with_guest, settled_array_if}
-use Rattle.disk_array.specs.Units.{UnitState, Array, unit_state_at, with_unit}
-use Rattle.bus_story.specs.CarriedBytes.{CarriedBytes, is_whole_block}
-use Rattle.bus_story.specs.HistoryEvents.{is_refuse, status_event}
-use Rattle.bus_dialogue.specs.declared.exchange.Arrival.{Arrival}
-use Rattle.bus_dialogue.specs.declared.exchange.Arrival.TheVariants as arrivals
-use Rattle.bus_dialogue.specs.declared.exchange.Plan.{Plan}
-use Rattle.bus_dialogue.specs.declared.exchange.Phase.TheVariants as phases
-use Rattle.bus_dialogue.specs.Arrivals.{arrival_by, arrival_in, is_never}
-use Rattle.bus_dialogue.specs.Events.{arrival_event, arrival_events, arrival_run_events, reply_events, newest_with}
+use Rattle.bus_due.specs.bus_base.specs.declared.AbortKind.{AbortKind}
+use Rattle.bus_due.specs.bus_base.specs.declared.AbortKind.TheVariants as aborts
+use Rattle.bus_due.specs.bus_base.specs.declared.Event.{Event}
+use Rattle.bus_due.specs.bus_base.specs.declared.Event.TheVariants as events
+use Rattle.bus_due.specs.bus_base.specs.declared.ProcId.{ProcId}
+use Rattle.bus_due.specs.cdb_codec.specs.Cdb.{command_of, has_group_len}
+use Rattle.bus_due.specs.cdb_codec.specs.declared.sense.TheConstants.{PARITY_ERROR}
+use Rattle.bus_due.specs.scenario.specs.declared.value.Policy.{Policy}
+use Rattle.bus_due.specs.scenario.specs.Value.{ScenarioValue}
+use Rattle.bus_due.specs.disk_array.specs.ArrayHistory.{array_step}
+use Rattle.bus_due.specs.disk_array.specs.Execution.{is_request_sense}
+use Rattle.bus_due.specs.disk_array.specs.Processes.{Process, process_of}
+use Rattle.bus_due.specs.disk_array.specs.Steps.{process_count, queue_step, accept_step, accept_step_at, with_guest, settled_array_if}
+use Rattle.bus_due.specs.disk_array.specs.Units.{UnitState, Array, unit_state_at, with_unit}
+use Rattle.bus_due.specs.bus_story.specs.CarriedBytes.{CarriedBytes, is_whole_block}
+use Rattle.bus_due.specs.bus_story.specs.HistoryEvents.{is_refuse, status_event}
+use Rattle.bus_due.specs.bus_dialogue.specs.declared.exchange.Arrival.{Arrival}
+use Rattle.bus_due.specs.bus_dialogue.specs.declared.exchange.Arrival.TheVariants as arrivals
+use Rattle.bus_due.specs.bus_dialogue.specs.declared.exchange.Plan.{Plan}
+use Rattle.bus_due.specs.bus_dialogue.specs.declared.exchange.Phase.TheVariants as phases
+use Rattle.bus_due.specs.bus_dialogue.specs.Arrivals.{arrival_by, arrival_in, is_never}
+use Rattle.bus_due.specs.bus_dialogue.specs.Events.{arrival_event, arrival_events, arrival_run_events, reply_events, newest_with}
 use Rattle.bus_due.specs.Tasks.{room_of, arrival_if, is_idle_unit}
 use Rattle.bus_due.specs.Telling.{same_kind, same_event, same_events}
 use Rattle.bus_books.proofs.Lookups.{self_id}
 use Rattle.trace_laws.specs.Tells.{code_if}
-use Rattle.bus_base.proofs.Tests.{eq_self, suc_some}
+use Rattle.bus_due.specs.bus_base.proofs.Tests.{eq_self, suc_some}
 use Rattle.trace_laws.specs.DataPointers.{is_marked}
 
 -- ---- a list of events is itself

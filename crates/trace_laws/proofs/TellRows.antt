@@ -1,44 +1,44 @@
 -- A row of a prompt trace is truly told: the ends of its connection show the events that the row shows.
 use Rattle.std.proofs.Common.{inl, inr, ◌≡◌, ◌⊎◌, Bool, true, false, not, ◌&&◌, ◌||◌, ◌∙◌, List, [], ◌∷◌, Option, Some, None, refl, sym, ap, subst}
 use Rattle.std.specs.Prelude.{if◌then◌else◌, is_some}
-use Rattle.bus_base.specs.declared.Event.{Event}
-use Rattle.bus_base.specs.declared.Event.TheVariants as events
-use Rattle.bus_base.specs.declared.ProcId.{ProcId}
-use Rattle.bus_trace.specs.declared.Row.{Row}
-use Rattle.bus_trace.specs.declared.changes.Change.{Change}
-use Rattle.bus_trace.specs.declared.connection.Connection.{Connection}
-use Rattle.bus_trace.specs.Changes.{rises}
-use Rattle.bus_trace.specs.Phases.{changes_phase, is_command, is_message_out}
-use Rattle.bus_trace.specs.Terms.{receiver_in}
-use Rattle.bus_trace.specs.Trace.{bus}
-use Rattle.cdb_codec.specs.Cdb.{has_group_len}
-use Rattle.scenario.specs.Value.{ScenarioValue}
-use Rattle.disk_array.specs.Processes.{Process, process_of}
-use Rattle.disk_array.specs.ArrayHistory.{array_after}
-use Rattle.disk_array.specs.Units.{Array}
-use Rattle.bus_story.specs.BusState.{RowReading, row_reading}
-use Rattle.bus_story.specs.CarriedBytes.{CarriedBytes, is_status_phase}
-use Rattle.bus_story.specs.HistoryEvents.{carried_if, phase_events, is_completion, end_events, connection_events, bus_free_events, link_events, row_events_by}
-use Rattle.bus_story.specs.Items.{Item, process}
-use Rattle.bus_story.specs.Links.{Link}
-use Rattle.bus_story.specs.Story.{Story}
-use Rattle.bus_dialogue.specs.declared.exchange.Cause.{Cause}
-use Rattle.bus_dialogue.specs.declared.exchange.Cause.TheVariants as causes
-use Rattle.bus_dialogue.specs.declared.exchange.Phase.{Phase}
-use Rattle.bus_dialogue.specs.declared.exchange.Phase.TheVariants as phases
-use Rattle.bus_dialogue.specs.declared.exchange.Task.{Task}
-use Rattle.bus_dialogue.specs.Events.{newest_with, is_status_next, has_replied, reply_events, turn_events, turn_events_if, connection_end_events}
-use Rattle.bus_dialogue.specs.Hearing.{begun}
-use Rattle.bus_dialogue.specs.NextPhase.{message_out_leaving, Serving, phase_of, phase_leaving, leaving_by}
-use Rattle.bus_dialogue.specs.Words.{is_naming}
+use Rattle.bus_due.specs.bus_base.specs.declared.Event.{Event}
+use Rattle.bus_due.specs.bus_base.specs.declared.Event.TheVariants as events
+use Rattle.bus_due.specs.bus_base.specs.declared.ProcId.{ProcId}
+use Rattle.bus_due.specs.bus_trace.specs.declared.Row.{Row}
+use Rattle.bus_due.specs.bus_trace.specs.declared.changes.Change.{Change}
+use Rattle.bus_due.specs.bus_trace.specs.declared.connection.Connection.{Connection}
+use Rattle.bus_due.specs.bus_trace.specs.Changes.{rises}
+use Rattle.bus_due.specs.bus_trace.specs.Phases.{changes_phase, is_command, is_message_out}
+use Rattle.bus_due.specs.bus_trace.specs.Terms.{receiver_in}
+use Rattle.bus_due.specs.bus_trace.specs.Trace.{bus}
+use Rattle.bus_due.specs.cdb_codec.specs.Cdb.{has_group_len}
+use Rattle.bus_due.specs.scenario.specs.Value.{ScenarioValue}
+use Rattle.bus_due.specs.disk_array.specs.Processes.{Process, process_of}
+use Rattle.bus_due.specs.disk_array.specs.ArrayHistory.{array_after}
+use Rattle.bus_due.specs.disk_array.specs.Units.{Array}
+use Rattle.bus_due.specs.bus_story.specs.BusState.{RowReading, row_reading}
+use Rattle.bus_due.specs.bus_story.specs.CarriedBytes.{CarriedBytes, is_status_phase}
+use Rattle.bus_due.specs.bus_story.specs.HistoryEvents.{carried_if, phase_events, is_completion, end_events, connection_events, bus_free_events, link_events, row_events_by}
+use Rattle.bus_due.specs.bus_story.specs.Items.{Item, process}
+use Rattle.bus_due.specs.bus_story.specs.Links.{Link}
+use Rattle.bus_due.specs.bus_story.specs.Story.{Story}
+use Rattle.bus_due.specs.bus_dialogue.specs.declared.exchange.Cause.{Cause}
+use Rattle.bus_due.specs.bus_dialogue.specs.declared.exchange.Cause.TheVariants as causes
+use Rattle.bus_due.specs.bus_dialogue.specs.declared.exchange.Phase.{Phase}
+use Rattle.bus_due.specs.bus_dialogue.specs.declared.exchange.Phase.TheVariants as phases
+use Rattle.bus_due.specs.bus_dialogue.specs.declared.exchange.Task.{Task}
+use Rattle.bus_due.specs.bus_dialogue.specs.Events.{newest_with, is_status_next, has_replied, reply_events, turn_events, turn_events_if, connection_end_events}
+use Rattle.bus_due.specs.bus_dialogue.specs.Hearing.{begun}
+use Rattle.bus_due.specs.bus_dialogue.specs.NextPhase.{message_out_leaving, Serving, phase_of, phase_leaving, leaving_by}
+use Rattle.bus_due.specs.bus_dialogue.specs.Words.{is_naming}
 use Rattle.bus_due.specs.Faithful.{is_item_named, is_opening_named}
 use Rattle.bus_due.specs.RunState.{RunState, bus_of, item_of, process_item, carried_here}
 use Rattle.bus_due.specs.Sights.{serving_of, leaving}
 use Rattle.bus_due.specs.Tasks.{task_of, task_if}
 use Rattle.bus_due.specs.Telling.{same_events, id_of, target_events, initiator_events, events_of_ends, events_of_ends_in, is_true_telling}
-use Rattle.scsi_device.specs.Lines.{AreUnits}
-use Rattle.scsi_device.specs.Heard.{is_command_phase}
-use Rattle.scsi_device.proofs.PhaseLines.{command_is}
+use Rattle.target_units.specs.scsi_device.specs.Lines.{AreUnits}
+use Rattle.target_units.specs.scsi_device.specs.Heard.{is_command_phase}
+use Rattle.target_units.specs.scsi_device.proofs.PhaseLines.{command_is}
 use Rattle.bus_books.specs.Reactions.{IsOver}
 use Rattle.bus_books.specs.Rows.{IsRowIn, reading_in}
 use Rattle.bus_books.specs.Speaking.{Speaks}
@@ -53,7 +53,7 @@ use Rattle.trace_laws.proofs.TellEnds.{goes_on, lost_told, naming_goes_on, none_
 use Rattle.trace_laws.proofs.TellEvents.{same_lists, self_events}
 use Rattle.trace_laws.proofs.TellTurns.{refused, turn_told}
 use Rattle.link_laws.specs.LinkStages.{LinkStage, when_selected, when_settling, when_turning, when_offering, when_shaking, when_pulsing}
-use Rattle.bus_base.proofs.Tests.{wrong, or_true, or_false, or_other}
+use Rattle.bus_due.specs.bus_base.proofs.Tests.{wrong, or_true, or_false, or_other}
 
 -- ---- the task of a process
 
@@ -89,8 +89,8 @@ item_is_served k n l = (l.item ≡ k.served) ⊎ ((n.reselected ≡ true) × (l.
 pub no_events : (s : ScenarioValue) (b : Story) (o : Option CarriedBytes) (c : Change) → is_command c.before ≡ false → is_status_phase c.after ≡ false → phase_events s b o c ≡ []
 no_events s b None c e f = refl
 no_events s b (Some own) c e f =
-    (λ i. Rattle.bus_story.specs.HistoryEvents.status_events (Some own) c.after (if e i && Rattle.bus_story.specs.CarriedBytes.is_whole_block own then Rattle.bus_story.specs.HistoryEvents.queue_event s b.history own.id ∷ [] else []))
-    ∙ (λ i. if f i && not own.shown && not own.refused && true then Rattle.bus_story.specs.HistoryEvents.status_event own.id own.failure ∷ [] else [])
+    (λ i. Rattle.bus_due.specs.bus_story.specs.HistoryEvents.status_events (Some own) c.after (if e i && Rattle.bus_due.specs.bus_story.specs.CarriedBytes.is_whole_block own then Rattle.bus_due.specs.bus_story.specs.HistoryEvents.queue_event s b.history own.id ∷ [] else []))
+    ∙ (λ i. if f i && not own.shown && not own.refused && true then Rattle.bus_due.specs.bus_story.specs.HistoryEvents.status_event own.id own.failure ∷ [] else [])
 
 pub unbegun_lines : (s : ScenarioValue) (p : List Row) (n : Connection) → LinkStage s p n → begun p ≡ false → is_command (bus p) ≡ false
 unbegun_lines s p n (when_selected h) b = ap is_command h.linked.stands.bus_is

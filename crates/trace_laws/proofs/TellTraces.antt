@@ -1,24 +1,24 @@
 -- Each row of a prompt trace is truly told, so the trace tells what its devices show.
 use Rattle.std.proofs.Common.{inl, inr, ◌≡◌, ◌⊎◌, ◌<◌, Bool, true, false, not, ◌∙◌, List, [], ◌∷◌, Option, Some, None, refl, sym, ap}
 use Rattle.std.specs.Prelude.{if◌then◌else◌, is_some}
-use Rattle.bus_base.specs.declared.Event.TheVariants as events
-use Rattle.bus_trace.specs.LineSet.{LineSet}
-use Rattle.bus_trace.specs.declared.Row.{Row}
-use Rattle.bus_trace.specs.declared.changes.Change.{Change}
-use Rattle.bus_trace.specs.declared.connection.Connection.{Connection}
-use Rattle.bus_trace.specs.Changes.{change_of, rises}
-use Rattle.bus_trace.specs.Phases.{changes_phase, is_command}
-use Rattle.bus_trace.specs.Terms.{connection, connection_after}
-use Rattle.bus_trace.specs.Trace.{bus}
-use Rattle.scenario.specs.Value.{ScenarioValue}
-use Rattle.scenario.specs.Writing.{Obeys}
-use Rattle.disk_array.specs.ArrayHistory.{array_after}
-use Rattle.disk_array.specs.Units.{Array}
-use Rattle.bus_story.specs.BusState.{RowReading, row_reading}
-use Rattle.bus_story.specs.HistoryEvents.{carried_if, phase_events, link_events}
-use Rattle.bus_dialogue.specs.Events.{turn_events_if}
-use Rattle.bus_dialogue.specs.Hearing.{begun}
-use Rattle.bus_dialogue.specs.NextPhase.{phase_of}
+use Rattle.bus_due.specs.bus_base.specs.declared.Event.TheVariants as events
+use Rattle.bus_due.specs.bus_trace.specs.LineSet.{LineSet}
+use Rattle.bus_due.specs.bus_trace.specs.declared.Row.{Row}
+use Rattle.bus_due.specs.bus_trace.specs.declared.changes.Change.{Change}
+use Rattle.bus_due.specs.bus_trace.specs.declared.connection.Connection.{Connection}
+use Rattle.bus_due.specs.bus_trace.specs.Changes.{change_of, rises}
+use Rattle.bus_due.specs.bus_trace.specs.Phases.{changes_phase, is_command}
+use Rattle.bus_due.specs.bus_trace.specs.Terms.{connection, connection_after}
+use Rattle.bus_due.specs.bus_trace.specs.Trace.{bus}
+use Rattle.bus_due.specs.scenario.specs.Value.{ScenarioValue}
+use Rattle.bus_due.specs.scenario.specs.Writing.{Obeys}
+use Rattle.bus_due.specs.disk_array.specs.ArrayHistory.{array_after}
+use Rattle.bus_due.specs.disk_array.specs.Units.{Array}
+use Rattle.bus_due.specs.bus_story.specs.BusState.{RowReading, row_reading}
+use Rattle.bus_due.specs.bus_story.specs.HistoryEvents.{carried_if, phase_events, link_events}
+use Rattle.bus_due.specs.bus_dialogue.specs.Events.{turn_events_if}
+use Rattle.bus_due.specs.bus_dialogue.specs.Hearing.{begun}
+use Rattle.bus_due.specs.bus_dialogue.specs.NextPhase.{phase_of}
 use Rattle.bus_due.specs.Least.{IsLeast}
 use Rattle.bus_due.specs.Next.{due, IsPrompt}
 use Rattle.bus_due.specs.Plain.{IsPlain, AreOfDevices}
@@ -27,15 +27,15 @@ use Rattle.bus_due.specs.RunSteps.{run_state}
 use Rattle.bus_due.specs.Sights.{serving_of}
 use Rattle.bus_due.specs.Telling.{same_events, id_of, events_of_ends_in, is_true_telling}
 use Rattle.bus_due.proofs.Plains.{run_state_plain}
-use Rattle.scsi_device.specs.Lines.{AreUnits}
+use Rattle.target_units.specs.scsi_device.specs.Lines.{AreUnits}
 use Rattle.bus_books.specs.Knowing.{Knows}
-use Rattle.bus_laws.proofs.Apart.{change_plain}
-use Rattle.bus_laws.proofs.Limits.{obeys_latencies}
-use Rattle.bus_laws.proofs.Prompt.{least_is}
-use Rattle.bus_laws.proofs.Together.{from_stage}
+use Rattle.link_laws.specs.bus_laws.proofs.Apart.{change_plain}
+use Rattle.link_laws.specs.bus_laws.proofs.Limits.{obeys_latencies}
+use Rattle.link_laws.specs.bus_laws.proofs.Prompt.{least_is}
+use Rattle.link_laws.specs.bus_laws.proofs.Together.{from_stage}
 use Rattle.link_laws.specs.LinkStages.{LinkStage, AnyStage, apart, linked}
 use Rattle.trace_laws.specs.Tells.{AreRepliesShown, TellsAsLeft}
-use Rattle.scsi_device.proofs.FitLines.{obeys_fits, units_are}
+use Rattle.target_units.specs.scsi_device.proofs.FitLines.{obeys_fits, units_are}
 use Rattle.trace_laws.proofs.Attended.{none_array}
 use Rattle.trace_laws.proofs.Called.{link_none}
 use Rattle.trace_laws.proofs.ConnectionRows.{connection_row}
@@ -53,14 +53,14 @@ reset_told s k row d on =
     (λ i. same_events (if on i then shown else events_of_ends_in s k k.story.bus_state.connection d) (if on i then shown else link_events s k.story k.story.link d))
     ∙ self_events shown
   where
-    shown : List Rattle.bus_base.specs.declared.Event.Event
+    shown : List Rattle.bus_due.specs.bus_base.specs.declared.Event.Event
     shown = if rises d.change.own.rst d.change.next.rst then events.Reset row.dev ∷ [] else []
 
 apart_told : (s : ScenarioValue) (k : RunState) (row : Row) (d : RowReading) → d.change.after.rst ≡ false → k.story.bus_state.connection ≡ None → k.story.link ≡ None → is_true_telling s k row d ≡ true
 apart_told s k row d off con link =
     λ i. same_events (if off i then shown else events_of_ends_in s k (con i) d) (if off i then shown else link_events s k.story (link i) d)
   where
-    shown : List Rattle.bus_base.specs.declared.Event.Event
+    shown : List Rattle.bus_due.specs.bus_base.specs.declared.Event.Event
     shown = if rises d.change.own.rst d.change.next.rst then events.Reset row.dev ∷ [] else []
 
 -- ---- in a connection

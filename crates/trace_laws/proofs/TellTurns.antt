@@ -2,39 +2,39 @@
 use Rattle.std.proofs.Common.{ℕ, ◌≡◌, Bool, true, false, not, ◌&&◌, ◌∙◌, [], ◌∷◌, Option, Some, None, refl, sym, ap}
 use Rattle.std.specs.Prelude.{if◌then◌else◌, is_some, nat_lt}
 use Rattle.std.specs.List.{list_any}
-use Rattle.bus_base.specs.declared.Event.TheVariants as events
-use Rattle.bus_base.specs.declared.ProcId.{ProcId}
-use Rattle.bus_trace.specs.LineSet.{LineSet}
-use Rattle.bus_trace.specs.declared.agreements.Agreement.{Agreement}
-use Rattle.bus_trace.specs.declared.changes.Change.{Change}
-use Rattle.bus_trace.specs.declared.connection.Connection.{Connection}
-use Rattle.cdb_codec.specs.Cdb.{has_group_len}
-use Rattle.cdb_codec.specs.declared.sense.TheConstants.{PARITY_ERROR}
-use Rattle.msg_grammar.specs.declared.message.MsgIn.{MsgIn}
-use Rattle.scenario.specs.declared.value.TargetDef.{TargetDef}
-use Rattle.scenario.specs.Value.{ScenarioValue}
-use Rattle.disk_array.specs.ArrayHistory.{array_after, array_step, reply_in}
-use Rattle.disk_array.specs.Processes.{Process, process_of}
-use Rattle.disk_array.specs.Units.{Array}
-use Rattle.bus_story.specs.CarriedBytes.{CarriedBytes, is_whole_block, is_status_phase}
-use Rattle.bus_story.specs.HistoryEvents.{is_refuse, queue_event, queue_events, status_event, phase_events}
-use Rattle.bus_story.specs.Items.{process}
-use Rattle.bus_story.specs.Story.{Story}
-use Rattle.bus_story.proofs.CarriedLists.{carried_id}
-use Rattle.bus_dialogue.specs.declared.exchange.Arrival.{Arrival}
-use Rattle.bus_dialogue.specs.declared.exchange.Cause.{Cause}
-use Rattle.bus_dialogue.specs.declared.exchange.Cause.TheVariants as causes
-use Rattle.bus_dialogue.specs.declared.exchange.Leaving.{Leaving}
-use Rattle.bus_dialogue.specs.declared.exchange.Next.{Next}
-use Rattle.bus_dialogue.specs.declared.exchange.Next.TheVariants as nexts
-use Rattle.bus_dialogue.specs.declared.exchange.Phase.{Phase}
-use Rattle.bus_dialogue.specs.declared.exchange.Phase.TheVariants as phases
-use Rattle.bus_dialogue.specs.declared.exchange.Plan.{Plan}
-use Rattle.bus_dialogue.specs.declared.exchange.Task.{Task}
-use Rattle.bus_dialogue.specs.Arrivals.{policy_of}
-use Rattle.bus_dialogue.specs.Events.{arrival_event, arrival_events, reply_events, newest_with, is_status_next, has_replied, turn_events}
-use Rattle.bus_dialogue.specs.NextPhase.{Serving, phase_of, phase_leaving, leaving_by, bus_free, phase_entry, with_task, recovery, recovery_limit, pointer_restoration, request_or_command, after_offer, after_opening, message_repetition, after_refusal, message_out_leaving}
-use Rattle.bus_dialogue.specs.Words.{request_by, is_naming}
+use Rattle.bus_due.specs.bus_base.specs.declared.Event.TheVariants as events
+use Rattle.bus_due.specs.bus_base.specs.declared.ProcId.{ProcId}
+use Rattle.bus_due.specs.bus_trace.specs.LineSet.{LineSet}
+use Rattle.bus_due.specs.bus_trace.specs.declared.agreements.Agreement.{Agreement}
+use Rattle.bus_due.specs.bus_trace.specs.declared.changes.Change.{Change}
+use Rattle.bus_due.specs.bus_trace.specs.declared.connection.Connection.{Connection}
+use Rattle.bus_due.specs.cdb_codec.specs.Cdb.{has_group_len}
+use Rattle.bus_due.specs.cdb_codec.specs.declared.sense.TheConstants.{PARITY_ERROR}
+use Rattle.bus_due.specs.msg_grammar.specs.declared.message.MsgIn.{MsgIn}
+use Rattle.bus_due.specs.scenario.specs.declared.value.TargetDef.{TargetDef}
+use Rattle.bus_due.specs.scenario.specs.Value.{ScenarioValue}
+use Rattle.bus_due.specs.disk_array.specs.ArrayHistory.{array_after, array_step, reply_in}
+use Rattle.bus_due.specs.disk_array.specs.Processes.{Process, process_of}
+use Rattle.bus_due.specs.disk_array.specs.Units.{Array}
+use Rattle.bus_due.specs.bus_story.specs.CarriedBytes.{CarriedBytes, is_whole_block, is_status_phase}
+use Rattle.bus_due.specs.bus_story.specs.HistoryEvents.{is_refuse, queue_event, queue_events, status_event, phase_events}
+use Rattle.bus_due.specs.bus_story.specs.Items.{process}
+use Rattle.bus_due.specs.bus_story.specs.Story.{Story}
+use Rattle.bus_due.specs.bus_story.proofs.CarriedLists.{carried_id}
+use Rattle.bus_due.specs.bus_dialogue.specs.declared.exchange.Arrival.{Arrival}
+use Rattle.bus_due.specs.bus_dialogue.specs.declared.exchange.Cause.{Cause}
+use Rattle.bus_due.specs.bus_dialogue.specs.declared.exchange.Cause.TheVariants as causes
+use Rattle.bus_due.specs.bus_dialogue.specs.declared.exchange.Leaving.{Leaving}
+use Rattle.bus_due.specs.bus_dialogue.specs.declared.exchange.Next.{Next}
+use Rattle.bus_due.specs.bus_dialogue.specs.declared.exchange.Next.TheVariants as nexts
+use Rattle.bus_due.specs.bus_dialogue.specs.declared.exchange.Phase.{Phase}
+use Rattle.bus_due.specs.bus_dialogue.specs.declared.exchange.Phase.TheVariants as phases
+use Rattle.bus_due.specs.bus_dialogue.specs.declared.exchange.Plan.{Plan}
+use Rattle.bus_due.specs.bus_dialogue.specs.declared.exchange.Task.{Task}
+use Rattle.bus_due.specs.bus_dialogue.specs.Arrivals.{policy_of}
+use Rattle.bus_due.specs.bus_dialogue.specs.Events.{arrival_event, arrival_events, reply_events, newest_with, is_status_next, has_replied, turn_events}
+use Rattle.bus_due.specs.bus_dialogue.specs.NextPhase.{Serving, phase_of, phase_leaving, leaving_by, bus_free, phase_entry, with_task, recovery, recovery_limit, pointer_restoration, request_or_command, after_offer, after_opening, message_repetition, after_refusal, message_out_leaving}
+use Rattle.bus_due.specs.bus_dialogue.specs.Words.{request_by, is_naming}
 use Rattle.bus_due.specs.Defs.{target_def_of}
 use Rattle.bus_due.specs.RunState.{RunState, bus_of, or_start, array_of, process_item, process_served, carried_here}
 use Rattle.bus_due.specs.Sights.{arrival_at, serving_of, leaving}
@@ -42,10 +42,10 @@ use Rattle.bus_due.specs.Tasks.{arrival_if, task_of, task_if}
 use Rattle.bus_books.proofs.CarriedRows.{process_id}
 use Rattle.trace_laws.specs.Tells.{AreRepliesShown, FailsIn}
 use Rattle.trace_laws.proofs.TellEvents.{arrives, with_status, command_reply, whole_block}
-use Rattle.bus_base.proofs.Tests.{wrong, wrong'}
+use Rattle.bus_due.specs.bus_base.proofs.Tests.{wrong, wrong'}
 use Rattle.trace_laws.specs.DataPointers.{is_marked}
-use Rattle.scsi_device.specs.Heard.{is_command_phase}
-use Rattle.scsi_device.proofs.PhaseLines.{command_is}
+use Rattle.target_units.specs.scsi_device.specs.Heard.{is_command_phase}
+use Rattle.target_units.specs.scsi_device.proofs.PhaseLines.{command_is}
 
 -- ---- the lines of a phase
 
@@ -113,7 +113,7 @@ reply_told v true phases.DataIn id c same fails st new = wrong' st
 reply_told v false phases.DataIn id c same fails st new = λ i. status_event (sym same i) (sym (fails refl) i) ∷ []
 reply_told v attention phases.MessageOut id c same fails st new = go v.plan.cause fails st
   where
-    go : (cause : Cause) → Rattle.trace_laws.specs.Tells.FailsAsked c cause → is_status_next (message_out_leaving v cause).to ≡ true → Rattle.bus_dialogue.specs.Events.detected_events cause id ≡ status_event c.id c.failure ∷ []
+    go : (cause : Cause) → Rattle.trace_laws.specs.Tells.FailsAsked c cause → is_status_next (message_out_leaving v cause).to ≡ true → Rattle.bus_due.specs.bus_dialogue.specs.Events.detected_events cause id ≡ status_event c.id c.failure ∷ []
     go causes.Selected f z = wrong (sym z ∙ opened v)
     go causes.InMessage f z = wrong (sym z ∙ refused v)
     go causes.InStatus f z = wrong (sym z ∙ by_task v.task (λ t. recovery v.def t (pointer_restoration nexts.Status) bus_free) (λ t. no_recovery v.def t (pointer_restoration nexts.Status) bus_free refl refl))
@@ -121,7 +121,7 @@ reply_told v attention phases.MessageOut id c same fails st new = go v.plan.caus
 reply_told v true phases.MessageIn id c same fails st new = wrong' st
 reply_told v false phases.MessageIn id c same fails st new = go v.plan.next (fails refl) st
   where
-    go : (next : Next) → Rattle.trace_laws.specs.Tells.FailsBefore c next → is_status_next (Rattle.bus_dialogue.specs.NextPhase.after_messages v next).to ≡ true → events.Run id ∷ [] ≡ status_event c.id c.failure ∷ []
+    go : (next : Next) → Rattle.trace_laws.specs.Tells.FailsBefore c next → is_status_next (Rattle.bus_due.specs.bus_dialogue.specs.NextPhase.after_messages v next).to ≡ true → events.Run id ∷ [] ≡ status_event c.id c.failure ∷ []
     go nexts.Command f z = wrong' z
     go nexts.FreeBus f z = wrong' z
     go nexts.Status f z = wrong (sym f ∙ new)

@@ -2,8 +2,8 @@
 use Rattle.std.proofs.Common.{ℕ, suc, ◌≡◌, ◌≤◌, ◌<◌, ◌+◌, Bool, true, false, not, ◌&&◌, ◌||◌, ◌==◌, ◌*◌, ◌∙◌, Option, None, refl, sym, ap, arith}
 use Rattle.std.specs.Prelude.{if◌then◌else◌}
 use Rattle.std.proofs.lemmas.Bool.Decides.{nat_tests}
-use Rattle.bus_trace.specs.Changes.{falls, rises}
-use Rattle.bus_base.proofs.Tests.{wrong, wrong'}
+use Rattle.bus_due.specs.bus_trace.specs.Changes.{falls, rises}
+use Rattle.bus_due.specs.bus_base.proofs.Tests.{wrong, wrong'}
 
 -- ---- one flag
 

@@ -1,9 +1,9 @@
 -- Before the first row of a trace.
 use Rattle.std.proofs.Common.{[], refl}
-use Rattle.scenario.specs.Value.{ScenarioValue}
-use Rattle.scsi_device.specs.Lines.{AreUnits}
+use Rattle.bus_due.specs.scenario.specs.Value.{ScenarioValue}
+use Rattle.target_units.specs.scsi_device.specs.Lines.{AreUnits}
 use Rattle.bus_books.proofs.Traces.{books_are}
-use Rattle.bus_laws.proofs.Together.{standing_first, stage_first}
+use Rattle.link_laws.specs.bus_laws.proofs.Together.{standing_first, stage_first}
 use Rattle.link_laws.specs.LinkStages.{apart}
 use Rattle.trace_laws.proofs.Impossible.{none_some}
 use Rattle.trace_laws.proofs.Joint.{Stood}

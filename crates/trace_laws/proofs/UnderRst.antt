@@ -2,28 +2,28 @@
 use Rattle.std.proofs.Common.{inl, inr, ℕ, ◌≡◌, ◌<◌, ◌≤◌, ◌+◌, Bool, true, false, not, ◌&&◌, ◌||◌, ◌∙◌, List, [], ◌∷◌, Option, Some, None, refl, sym, ap, arith}
 use Rattle.std.specs.Prelude.{if◌then◌else◌, nat_le}
 use Rattle.std.proofs.lemmas.Bool.{cases_eq, and_parts, leb-true}
-use Rattle.bus_trace.specs.LineSet.{LineSet, none, union}
-use Rattle.bus_trace.proofs.Sets.{same_set-eq}
-use Rattle.bus_trace.proofs.Buses.{bus_on, bus_off}
-use Rattle.bus_trace.proofs.OneRow.{drives-other, drives-own, drives-fault}
-use Rattle.bus_trace.specs.declared.Row.{Row}
-use Rattle.bus_trace.specs.declared.Kind.{Kind}
-use Rattle.bus_trace.specs.declared.Kind.TheVariants.{Drives, Fault}
-use Rattle.bus_trace.specs.declared.connection.Connection.{Connection}
-use Rattle.bus_trace.specs.declared.changes.Change.{Change}
-use Rattle.bus_trace.specs.Changes.{change_of, rises, falls, implies, is_within}
-use Rattle.bus_trace.specs.Terms.{call, connection, connection_of, connection_after, raised, receiver_in}
-use Rattle.bus_trace.specs.Trace.{bus, drives, driven_after, line_times}
-use Rattle.bus_rules.specs.declared.seen.Seen.{Seen}
-use Rattle.bus_rules.specs.Seen.{seen, seen_with}
-use Rattle.bus_rules.specs.Reset.{only_rst}
-use Rattle.bus_rules.specs.Rules.{keeps, judged_rules, broken_rule}
-use Rattle.scenario.specs.Value.{ScenarioValue}
-use Rattle.bus_laws.specs.Stages.{UnderRst, IsUnderRst, quiet, holds, lingers}
-use Rattle.bus_laws.proofs.FromReset.{off_at}
+use Rattle.bus_due.specs.bus_trace.specs.LineSet.{LineSet, none, union}
+use Rattle.bus_due.specs.bus_trace.proofs.Sets.{same_set-eq}
+use Rattle.bus_due.specs.bus_trace.proofs.Buses.{bus_on, bus_off}
+use Rattle.bus_due.specs.bus_trace.proofs.OneRow.{drives-other, drives-own, drives-fault}
+use Rattle.bus_due.specs.bus_trace.specs.declared.Row.{Row}
+use Rattle.bus_due.specs.bus_trace.specs.declared.Kind.{Kind}
+use Rattle.bus_due.specs.bus_trace.specs.declared.Kind.TheVariants.{Drives, Fault}
+use Rattle.bus_due.specs.bus_trace.specs.declared.connection.Connection.{Connection}
+use Rattle.bus_due.specs.bus_trace.specs.declared.changes.Change.{Change}
+use Rattle.bus_due.specs.bus_trace.specs.Changes.{change_of, rises, falls, implies, is_within}
+use Rattle.bus_due.specs.bus_trace.specs.Terms.{call, connection, connection_of, connection_after, raised, receiver_in}
+use Rattle.bus_due.specs.bus_trace.specs.Trace.{bus, drives, driven_after, line_times}
+use Rattle.bus_due.specs.bus_rules.specs.declared.seen.Seen.{Seen}
+use Rattle.bus_due.specs.bus_rules.specs.Seen.{seen, seen_with}
+use Rattle.bus_due.specs.bus_rules.specs.Reset.{only_rst}
+use Rattle.bus_due.specs.bus_rules.specs.Rules.{keeps, judged_rules, broken_rule}
+use Rattle.bus_due.specs.scenario.specs.Value.{ScenarioValue}
+use Rattle.link_laws.specs.bus_laws.specs.Stages.{UnderRst, IsUnderRst, quiet, holds, lingers}
+use Rattle.link_laws.specs.bus_laws.proofs.FromReset.{off_at}
 use Rattle.trace_laws.proofs.Tests.{none_both}
-use Rattle.bus_base.proofs.Tests.{wrong, or_true, implied}
-use Rattle.bus_rules.proofs.First.{all_kept}
+use Rattle.bus_due.specs.bus_base.proofs.Tests.{wrong, or_true, implied}
+use Rattle.bus_due.specs.bus_rules.proofs.First.{all_kept}
 
 -- ---- the rule of the reset condition
 

@@ -1,41 +1,41 @@
 -- What MESSAGE PARITY ERROR brings back agrees with what the process has, after any rows of a prompt trace (6.6.13).
 use Rattle.std.proofs.Common.{inl, inr, ℕ, ◌≡◌, ◌<◌, Bool, true, false, ◌&&◌, ◌%◌, ◌∙◌, List, [], ◌∷◌, ◌++◌, Option, Some, None, refl, sym, ap}
 use Rattle.std.specs.Prelude.{if◌then◌else◌, is_some}
-use Rattle.bus_trace.specs.LineSet.{LineSet}
-use Rattle.bus_trace.specs.declared.Row.{Row}
-use Rattle.bus_trace.specs.declared.changes.Change.{Change}
-use Rattle.bus_trace.specs.declared.connection.Connection.{Connection}
-use Rattle.bus_trace.specs.Changes.{change_of}
-use Rattle.bus_trace.specs.Phases.{changes_phase, is_command, is_message_in}
-use Rattle.bus_trace.specs.Terms.{is_fault, connection, connection_after, receiver_in}
-use Rattle.bus_trace.specs.Trace.{bus}
-use Rattle.bus_lines.specs.Handshakes.{Handshakes, handshakes_after}
-use Rattle.msg_grammar.specs.Messages.{got_out}
-use Rattle.bus_phases.specs.Dialogue.{fresh_bytes}
-use Rattle.scenario.specs.Value.{ScenarioValue}
-use Rattle.scenario.specs.Writing.{Obeys}
-use Rattle.bus_story.specs.BusState.{RowReading, row_reading, whole_out}
-use Rattle.bus_story.specs.CarriedBytes.{CarriedBytes}
-use Rattle.bus_story.specs.HistoryEvents.{row_events_by}
-use Rattle.bus_story.specs.TraceHistory.{story_on_bus, story_by_change}
-use Rattle.bus_dialogue.specs.declared.exchange.Cause.{Cause}
-use Rattle.bus_dialogue.specs.declared.exchange.Cause.TheVariants as causes
-use Rattle.bus_dialogue.specs.declared.exchange.Phase.{Phase}
-use Rattle.bus_dialogue.specs.declared.exchange.Phase.TheVariants as phases
-use Rattle.bus_dialogue.specs.declared.exchange.Plan.{Plan}
-use Rattle.bus_dialogue.specs.NextPhase.{phase_of}
+use Rattle.bus_due.specs.bus_trace.specs.LineSet.{LineSet}
+use Rattle.bus_due.specs.bus_trace.specs.declared.Row.{Row}
+use Rattle.bus_due.specs.bus_trace.specs.declared.changes.Change.{Change}
+use Rattle.bus_due.specs.bus_trace.specs.declared.connection.Connection.{Connection}
+use Rattle.bus_due.specs.bus_trace.specs.Changes.{change_of}
+use Rattle.bus_due.specs.bus_trace.specs.Phases.{changes_phase, is_command, is_message_in}
+use Rattle.bus_due.specs.bus_trace.specs.Terms.{is_fault, connection, connection_after, receiver_in}
+use Rattle.bus_due.specs.bus_trace.specs.Trace.{bus}
+use Rattle.bus_due.specs.bus_lines.specs.Handshakes.{Handshakes, handshakes_after}
+use Rattle.bus_due.specs.msg_grammar.specs.Messages.{got_out}
+use Rattle.bus_due.specs.bus_phases.specs.Dialogue.{fresh_bytes}
+use Rattle.bus_due.specs.scenario.specs.Value.{ScenarioValue}
+use Rattle.bus_due.specs.scenario.specs.Writing.{Obeys}
+use Rattle.bus_due.specs.bus_story.specs.BusState.{RowReading, row_reading, whole_out}
+use Rattle.bus_due.specs.bus_story.specs.CarriedBytes.{CarriedBytes}
+use Rattle.bus_due.specs.bus_story.specs.HistoryEvents.{row_events_by}
+use Rattle.bus_due.specs.bus_story.specs.TraceHistory.{story_on_bus, story_by_change}
+use Rattle.bus_due.specs.bus_dialogue.specs.declared.exchange.Cause.{Cause}
+use Rattle.bus_due.specs.bus_dialogue.specs.declared.exchange.Cause.TheVariants as causes
+use Rattle.bus_due.specs.bus_dialogue.specs.declared.exchange.Phase.{Phase}
+use Rattle.bus_due.specs.bus_dialogue.specs.declared.exchange.Phase.TheVariants as phases
+use Rattle.bus_due.specs.bus_dialogue.specs.declared.exchange.Plan.{Plan}
+use Rattle.bus_due.specs.bus_dialogue.specs.NextPhase.{phase_of}
 use Rattle.bus_due.specs.Next.{IsPrompt}
 use Rattle.bus_due.specs.Plain.{IsPlain, AreOfDevices}
 use Rattle.bus_due.specs.RunState.{RunState, bus_of}
 use Rattle.bus_due.specs.RunSteps.{run_state, run_state_after}
 use Rattle.bus_due.proofs.Plains.{run_state_plain}
-use Rattle.bus_laws.proofs.Apart.{change_plain}
-use Rattle.bus_laws.proofs.Prompt.{least_is}
+use Rattle.link_laws.specs.bus_laws.proofs.Apart.{change_plain}
+use Rattle.link_laws.specs.bus_laws.proofs.Prompt.{least_is}
 use Rattle.bus_books.specs.Knowing.{Knows}
 use Rattle.bus_books.specs.Rows.{RowKind, still, strikes, crosses, turns}
 use Rattle.bus_books.specs.Traces.{GoesOn}
 use Rattle.bus_books.proofs.Gives.{requests_stay, in_io}
-use Rattle.bus_lines.proofs.Early.{struck_same}
+use Rattle.bus_due.specs.bus_lines.proofs.Early.{struck_same}
 use Rattle.bus_books.proofs.InConnection.{in_connection, reading_is}
 use Rattle.trace_laws.specs.Tells.{UndoesSame, UndoFits, UndoAsked, UndoBy, UndoBooks, UndoFacts}
 use Rattle.trace_laws.proofs.BlockRows.{undo_of}
@@ -48,8 +48,8 @@ use Rattle.trace_laws.proofs.TellRows.{unbegun_lines}
 use Rattle.trace_laws.proofs.UndoneAnswers.{row_undoes, stays_by}
 use Rattle.trace_laws.proofs.UndoneRows.{IsKeptInside, fits_heard, first_whole}
 use Rattle.trace_laws.proofs.UndoneTurns.{turn_keeps}
-use Rattle.bus_base.proofs.Tests.{wrong'}
-use Rattle.bus_story.proofs.StorySteps.{events_link}
+use Rattle.bus_due.specs.bus_base.proofs.Tests.{wrong'}
+use Rattle.bus_due.specs.bus_story.proofs.StorySteps.{events_link}
 
 -- ---- before any row, and the first row of a connection
 

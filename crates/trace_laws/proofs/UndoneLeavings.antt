@@ -1,26 +1,26 @@
 -- What COMMAND, data and STATUS are left to MESSAGE IN with begins with a message of one byte.
 use Rattle.std.proofs.Common.{◌≡◌, Bool, true, false, ◌+◌, ◌∙◌, Option, Some, None, refl, sym}
 use Rattle.std.specs.Prelude.{if◌then◌else◌, nat_lt}
-use Rattle.msg_grammar.specs.declared.message.MsgIn.TheVariants as to_initiator
-use Rattle.scenario.specs.declared.value.Policy.{Policy}
-use Rattle.scenario.specs.declared.value.Policy.TheVariants as policies
-use Rattle.scenario.specs.declared.value.TargetDef.{TargetDef}
-use Rattle.bus_dialogue.specs.declared.exchange.Arrival.{Arrival}
-use Rattle.bus_dialogue.specs.declared.exchange.Arrival.TheVariants as arrivals
-use Rattle.bus_dialogue.specs.declared.exchange.Cause.{Cause}
-use Rattle.bus_dialogue.specs.declared.exchange.Cause.TheVariants as causes
-use Rattle.bus_dialogue.specs.declared.exchange.Leaving.{Leaving}
-use Rattle.bus_dialogue.specs.declared.exchange.Next.{Next}
-use Rattle.bus_dialogue.specs.declared.exchange.Next.TheVariants as nexts
-use Rattle.bus_dialogue.specs.declared.exchange.Phase.{Phase}
-use Rattle.bus_dialogue.specs.declared.exchange.Phase.TheVariants as phases
-use Rattle.bus_dialogue.specs.declared.exchange.Task.{Task}
-use Rattle.bus_dialogue.specs.Arrivals.{policy_of}
-use Rattle.bus_dialogue.specs.DataRuns.{runs_in_all}
-use Rattle.bus_dialogue.specs.Exchange.{one_message}
-use Rattle.bus_dialogue.specs.NextPhase.{Serving, phase_leaving, phase_entry, with_task, recovery, recovery_limit, pointer_restoration, next_data_phase, after_messages, after_arrival, after_run, disconnection, disconnect_messages, data_in_leaving, bus_free}
+use Rattle.bus_due.specs.msg_grammar.specs.declared.message.MsgIn.TheVariants as to_initiator
+use Rattle.bus_due.specs.scenario.specs.declared.value.Policy.{Policy}
+use Rattle.bus_due.specs.scenario.specs.declared.value.Policy.TheVariants as policies
+use Rattle.bus_due.specs.scenario.specs.declared.value.TargetDef.{TargetDef}
+use Rattle.bus_due.specs.bus_dialogue.specs.declared.exchange.Arrival.{Arrival}
+use Rattle.bus_due.specs.bus_dialogue.specs.declared.exchange.Arrival.TheVariants as arrivals
+use Rattle.bus_due.specs.bus_dialogue.specs.declared.exchange.Cause.{Cause}
+use Rattle.bus_due.specs.bus_dialogue.specs.declared.exchange.Cause.TheVariants as causes
+use Rattle.bus_due.specs.bus_dialogue.specs.declared.exchange.Leaving.{Leaving}
+use Rattle.bus_due.specs.bus_dialogue.specs.declared.exchange.Next.{Next}
+use Rattle.bus_due.specs.bus_dialogue.specs.declared.exchange.Next.TheVariants as nexts
+use Rattle.bus_due.specs.bus_dialogue.specs.declared.exchange.Phase.{Phase}
+use Rattle.bus_due.specs.bus_dialogue.specs.declared.exchange.Phase.TheVariants as phases
+use Rattle.bus_due.specs.bus_dialogue.specs.declared.exchange.Task.{Task}
+use Rattle.bus_due.specs.bus_dialogue.specs.Arrivals.{policy_of}
+use Rattle.bus_due.specs.bus_dialogue.specs.DataRuns.{runs_in_all}
+use Rattle.bus_due.specs.bus_dialogue.specs.Exchange.{one_message}
+use Rattle.bus_due.specs.bus_dialogue.specs.NextPhase.{Serving, phase_leaving, phase_entry, with_task, recovery, recovery_limit, pointer_restoration, next_data_phase, after_messages, after_arrival, after_run, disconnection, disconnect_messages, data_in_leaving, bus_free}
 use Rattle.trace_laws.specs.Tells.{is_short}
-use Rattle.bus_base.proofs.Tests.{wrong'}
+use Rattle.bus_due.specs.bus_base.proofs.Tests.{wrong'}
 use Rattle.trace_laws.specs.Offers.{is_detected}
 
 abbrev pub is_to_message_in : Option Phase → Bool
@@ -71,7 +71,7 @@ ran policy t = go (nat_lt (t.runs + 1) (runs_in_all policy t)) policy
     go true (policies.Burst most) e = refl
     go true (policies.NoSave most) e = refl
 
-by_cause : (v : Serving) (cause : Cause) → is_detected cause ≡ true → IsShort (Rattle.bus_dialogue.specs.NextPhase.message_out_leaving v cause)
+by_cause : (v : Serving) (cause : Cause) → is_detected cause ≡ true → IsShort (Rattle.bus_due.specs.bus_dialogue.specs.NextPhase.message_out_leaving v cause)
 by_cause v causes.Selected e = wrong' e
 by_cause v causes.InMessage e = wrong' e
 by_cause v causes.InData e = by_task v.task (λ t. recovery v.def t (pointer_restoration nexts.GoOn) (phase_entry phases.Status)) (λ t. recovers v.def t (pointer_restoration nexts.GoOn) (phase_entry phases.Status) (λ z. refl) (λ z. wrong' z))

@@ -1,27 +1,27 @@
 -- What MESSAGE PARITY ERROR brings back agrees with what the process has: a phase is left for another (6.6.13).
 use Rattle.std.proofs.Common.{inl, inr, ℕ, ◌≡◌, ◌⊎◌, Bool, true, false, not, ◌==◌, ◌∙◌, Option, Some, None, refl, sym, ap, subst}
 use Rattle.std.specs.Prelude.{if◌then◌else◌, is_some}
-use Rattle.bus_trace.specs.LineSet.{LineSet}
-use Rattle.bus_trace.specs.declared.Row.{Row}
-use Rattle.bus_trace.specs.declared.changes.Change.{Change}
-use Rattle.bus_trace.specs.declared.connection.Connection.{Connection}
-use Rattle.bus_trace.specs.Phases.{changes_phase, is_command, is_message_out, is_message_in}
-use Rattle.bus_trace.specs.Terms.{is_fault, receiver_in}
-use Rattle.bus_lines.specs.Handshakes.{Handshakes, no_handshakes, handshakes_after}
-use Rattle.scenario.specs.Value.{ScenarioValue}
-use Rattle.bus_story.specs.BusState.{row_reading}
-use Rattle.bus_story.specs.CarriedBytes.{CarriedBytes}
-use Rattle.bus_story.specs.Links.{Link}
-use Rattle.bus_dialogue.specs.declared.exchange.Cause.TheVariants as causes
-use Rattle.bus_dialogue.specs.declared.exchange.Leaving.{Leaving}
-use Rattle.bus_dialogue.specs.declared.exchange.Messages.{Messages}
-use Rattle.bus_dialogue.specs.declared.exchange.Phase.{Phase}
-use Rattle.bus_dialogue.specs.declared.exchange.Phase.TheVariants as phases
-use Rattle.bus_dialogue.specs.declared.exchange.Plan.{Plan}
-use Rattle.bus_dialogue.specs.Events.{is_status_next}
-use Rattle.bus_dialogue.specs.Exchange.{Exchange, plan_anew}
-use Rattle.bus_dialogue.specs.NextPhase.{Serving, phase_of, phase_leaving, leaving_by}
-use Rattle.bus_dialogue.specs.Planning.{cause_after, plan_in_message_out, plan_in_phase}
+use Rattle.bus_due.specs.bus_trace.specs.LineSet.{LineSet}
+use Rattle.bus_due.specs.bus_trace.specs.declared.Row.{Row}
+use Rattle.bus_due.specs.bus_trace.specs.declared.changes.Change.{Change}
+use Rattle.bus_due.specs.bus_trace.specs.declared.connection.Connection.{Connection}
+use Rattle.bus_due.specs.bus_trace.specs.Phases.{changes_phase, is_command, is_message_out, is_message_in}
+use Rattle.bus_due.specs.bus_trace.specs.Terms.{is_fault, receiver_in}
+use Rattle.bus_due.specs.bus_lines.specs.Handshakes.{Handshakes, no_handshakes, handshakes_after}
+use Rattle.bus_due.specs.scenario.specs.Value.{ScenarioValue}
+use Rattle.bus_due.specs.bus_story.specs.BusState.{row_reading}
+use Rattle.bus_due.specs.bus_story.specs.CarriedBytes.{CarriedBytes}
+use Rattle.bus_due.specs.bus_story.specs.Links.{Link}
+use Rattle.bus_due.specs.bus_dialogue.specs.declared.exchange.Cause.TheVariants as causes
+use Rattle.bus_due.specs.bus_dialogue.specs.declared.exchange.Leaving.{Leaving}
+use Rattle.bus_due.specs.bus_dialogue.specs.declared.exchange.Messages.{Messages}
+use Rattle.bus_due.specs.bus_dialogue.specs.declared.exchange.Phase.{Phase}
+use Rattle.bus_due.specs.bus_dialogue.specs.declared.exchange.Phase.TheVariants as phases
+use Rattle.bus_due.specs.bus_dialogue.specs.declared.exchange.Plan.{Plan}
+use Rattle.bus_due.specs.bus_dialogue.specs.Events.{is_status_next}
+use Rattle.bus_due.specs.bus_dialogue.specs.Exchange.{Exchange, plan_anew}
+use Rattle.bus_due.specs.bus_dialogue.specs.NextPhase.{Serving, phase_of, phase_leaving, leaving_by}
+use Rattle.bus_due.specs.bus_dialogue.specs.Planning.{cause_after, plan_in_message_out, plan_in_phase}
 use Rattle.bus_due.specs.RunState.{RunState, bus_of}
 use Rattle.bus_due.specs.RunSteps.{run_state_after}
 use Rattle.bus_due.specs.Sights.{serving_of, leaving, hearing_of}
@@ -36,10 +36,10 @@ use Rattle.trace_laws.proofs.TellTurns.{status_lines}
 use Rattle.trace_laws.proofs.UndoneAnswers.{asked_fits}
 use Rattle.trace_laws.proofs.UndoneLeavings.{is_to_message_in, leaves_short}
 use Rattle.trace_laws.proofs.UndoneRows.{IsKeptInside, fits_on}
-use Rattle.bus_base.proofs.Tests.{wrong, wrong'}
+use Rattle.bus_due.specs.bus_base.proofs.Tests.{wrong, wrong'}
 use Rattle.trace_laws.specs.Offers.{is_detected}
-use Rattle.scsi_device.specs.Heard.{is_command_phase}
-use Rattle.scsi_device.proofs.PhaseLines.{command_is}
+use Rattle.target_units.specs.scsi_device.specs.Heard.{is_command_phase}
+use Rattle.target_units.specs.scsi_device.proofs.PhaseLines.{command_is}
 
 -- ---- a phase is left for another
 
@@ -101,7 +101,7 @@ turn_keeps what kept s k row n c l t undoes h = record {
     asked =
         ap (λ (x : Handshakes). x.requests) i.handshakes_is
         ∙ ap (λ (q : Bool). (handshakes_after q (Some n) c row.time k.handshakes).requests) t.lines
-        ∙ ap (λ (q : Bool). (if q then no_handshakes else Rattle.bus_lines.specs.Handshakes.answered_if (Rattle.bus_trace.specs.Changes.rises c.before.ack c.after.ack) row.time (Rattle.bus_lines.specs.Handshakes.asked_if (Rattle.bus_trace.specs.Changes.rises c.before.req c.after.req) row.time k.handshakes)).requests) t.turns
+        ∙ ap (λ (q : Bool). (if q then no_handshakes else Rattle.bus_due.specs.bus_lines.specs.Handshakes.answered_if (Rattle.bus_due.specs.bus_trace.specs.Changes.rises c.before.ack c.after.ack) row.time (Rattle.bus_due.specs.bus_lines.specs.Handshakes.asked_if (Rattle.bus_due.specs.bus_trace.specs.Changes.rises c.before.req c.after.req) row.time k.handshakes)).requests) t.turns
 
     change : changes_phase (row_reading k.story.bus_state row).change ≡ true
     change = ap changes_phase t.goes.row_is.change_is ∙ t.turns

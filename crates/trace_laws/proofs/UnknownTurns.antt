@@ -3,26 +3,26 @@ use Rattle.std.proofs.Common.{ℕ, ◌≡◌, Bool, true, false, not, ◌&&◌, 
 use Rattle.std.specs.Prelude.{if◌then◌else◌, is_some}
 use Rattle.std.specs.List.{list_any}
 use Rattle.std.proofs.lemmas.Bool.{or_from, not-false}
-use Rattle.bus_base.specs.declared.Event.{Event}
-use Rattle.bus_base.specs.declared.Event.TheVariants as events
-use Rattle.bus_base.specs.declared.ProcId.{ProcId}
-use Rattle.bus_trace.specs.declared.changes.Change.{Change}
-use Rattle.bus_trace.specs.Phases.{is_command}
-use Rattle.scenario.specs.Value.{ScenarioValue}
-use Rattle.disk_array.specs.ArrayHistory.{array_after}
-use Rattle.bus_story.specs.CarriedBytes.{CarriedBytes, is_status_phase, is_whole_block}
-use Rattle.bus_story.specs.HistoryEvents.{is_refuse, phase_events, queue_event, queue_events, status_event}
-use Rattle.bus_story.specs.Story.{Story}
-use Rattle.bus_dialogue.specs.declared.exchange.Cause.{Cause}
-use Rattle.bus_dialogue.specs.declared.exchange.Cause.TheVariants as causes
-use Rattle.bus_dialogue.specs.declared.exchange.Next.{Next}
-use Rattle.bus_dialogue.specs.declared.exchange.Next.TheVariants as nexts
-use Rattle.bus_dialogue.specs.declared.exchange.Phase.{Phase}
-use Rattle.bus_dialogue.specs.declared.exchange.Phase.TheVariants as phases
-use Rattle.bus_dialogue.specs.Events.{is_status_next}
-use Rattle.bus_dialogue.specs.NextPhase.{Serving, after_messages, bus_free, leaving_by, message_out_leaving, message_repetition, phase_entry, phase_leaving, phase_of, pointer_restoration, recovery, unless_attention, with_task}
-use Rattle.bus_dialogue.specs.Words.{is_naming}
-use Rattle.bus_dialogue.proofs.Leavings.{task_not, recovery_not}
+use Rattle.bus_due.specs.bus_base.specs.declared.Event.{Event}
+use Rattle.bus_due.specs.bus_base.specs.declared.Event.TheVariants as events
+use Rattle.bus_due.specs.bus_base.specs.declared.ProcId.{ProcId}
+use Rattle.bus_due.specs.bus_trace.specs.declared.changes.Change.{Change}
+use Rattle.bus_due.specs.bus_trace.specs.Phases.{is_command}
+use Rattle.bus_due.specs.scenario.specs.Value.{ScenarioValue}
+use Rattle.bus_due.specs.disk_array.specs.ArrayHistory.{array_after}
+use Rattle.bus_due.specs.bus_story.specs.CarriedBytes.{CarriedBytes, is_status_phase, is_whole_block}
+use Rattle.bus_due.specs.bus_story.specs.HistoryEvents.{is_refuse, phase_events, queue_event, queue_events, status_event}
+use Rattle.bus_due.specs.bus_story.specs.Story.{Story}
+use Rattle.bus_due.specs.bus_dialogue.specs.declared.exchange.Cause.{Cause}
+use Rattle.bus_due.specs.bus_dialogue.specs.declared.exchange.Cause.TheVariants as causes
+use Rattle.bus_due.specs.bus_dialogue.specs.declared.exchange.Next.{Next}
+use Rattle.bus_due.specs.bus_dialogue.specs.declared.exchange.Next.TheVariants as nexts
+use Rattle.bus_due.specs.bus_dialogue.specs.declared.exchange.Phase.{Phase}
+use Rattle.bus_due.specs.bus_dialogue.specs.declared.exchange.Phase.TheVariants as phases
+use Rattle.bus_due.specs.bus_dialogue.specs.Events.{is_status_next}
+use Rattle.bus_due.specs.bus_dialogue.specs.NextPhase.{Serving, after_messages, bus_free, leaving_by, message_out_leaving, message_repetition, phase_entry, phase_leaving, phase_of, pointer_restoration, recovery, unless_attention, with_task}
+use Rattle.bus_due.specs.bus_dialogue.specs.Words.{is_naming}
+use Rattle.bus_due.specs.bus_dialogue.proofs.Leavings.{task_not, recovery_not}
 use Rattle.bus_due.specs.RunState.{RunState, bus_of, carried_here}
 use Rattle.bus_due.specs.Sights.{leaving, serving_of}
 use Rattle.trace_laws.specs.AttendanceAsked.{LeftAnswered}
@@ -30,7 +30,7 @@ use Rattle.trace_laws.specs.Instructed.{KnownFor, KnownIn, KnownNext}
 use Rattle.trace_laws.proofs.BadReplies.{GiveNoGood, gives_no_good}
 use Rattle.trace_laws.proofs.KnownLeavings.{known_after}
 use Rattle.trace_laws.proofs.OpeningRows.{opening_leads}
-use Rattle.bus_base.proofs.Tests.{wrong, wrong'}
+use Rattle.bus_due.specs.bus_base.proofs.Tests.{wrong, wrong'}
 
 -- ---- MESSAGE OUT leads to STATUS only where data were rejected
 
@@ -67,7 +67,7 @@ fails_first s k dev id b known after left to shown refused_is = go (phase_of (bu
     from_in e false f nexts.GoOn g h z = wrong' h
     from_in e false f nexts.Status g h z = wrong (sym (left.message e f g) ∙ or_from (carried_here k id).shown (carried_here k id).refused shown refused_is)
 
-    ends : (atn : Bool) → is_status_next (unless_attention atn (Rattle.bus_dialogue.specs.NextPhase.disconnection (Rattle.bus_dialogue.specs.Exchange.one_message Rattle.msg_grammar.specs.declared.message.MsgIn.TheVariants.CommandComplete))).to ≡ false
+    ends : (atn : Bool) → is_status_next (unless_attention atn (Rattle.bus_due.specs.bus_dialogue.specs.NextPhase.disconnection (Rattle.bus_due.specs.bus_dialogue.specs.Exchange.one_message Rattle.bus_due.specs.msg_grammar.specs.declared.message.MsgIn.TheVariants.CommandComplete))).to ≡ false
     ends true = refl
     ends false = refl
 

@@ -1,14 +1,14 @@
 -- What a row of DATA IN does with REQ, ACK and ATN, and which requests wait for ACK after it (6.1.5.1, 6.1.5.2, 6.2.1).
 use Rattle.std.proofs.Common.{ℕ, ◌≡◌, Bool, true, false, not, ◌||◌, ◌∙◌, List, [], ◌∷◌, ◌++◌, length, refl, sym, ap, subst}
 use Rattle.std.specs.Prelude.{drop, if◌then◌else◌, is_some, nat_lt}
-use Rattle.bus_trace.specs.Changes.{rises}
-use Rattle.bus_trace.specs.declared.changes.Change.{Change}
-use Rattle.bus_lines.specs.declared.handshakes.Request.{Request}
-use Rattle.bus_lines.specs.Handshakes.{Handshakes, answered, answered_if, asked, asked_if, first_of, is_struck, opened, strikes, strikes_last}
+use Rattle.bus_due.specs.bus_trace.specs.Changes.{rises}
+use Rattle.bus_due.specs.bus_trace.specs.declared.changes.Change.{Change}
+use Rattle.bus_due.specs.bus_lines.specs.declared.handshakes.Request.{Request}
+use Rattle.bus_due.specs.bus_lines.specs.Handshakes.{Handshakes, answered, answered_if, asked, asked_if, first_of, is_struck, opened, strikes, strikes_last}
 use Rattle.trace_laws.specs.Complaints.{any_struck}
 use Rattle.trace_laws.specs.ItemTalks.{awaits}
 use Rattle.trace_laws.specs.SentFailures.{IsNewest, WaitsFor}
-use Rattle.bus_base.proofs.Tests.{wrong, wrong', or_true, or_false}
+use Rattle.bus_due.specs.bus_base.proofs.Tests.{wrong, wrong', or_true, or_false}
 use Rattle.link_laws.proofs.Asks.{counted_some}
 
 -- Neither rises; REQ does; or ACK does, with ATN where the byte was struck that it answers, the newest or, by pulses, the oldest.

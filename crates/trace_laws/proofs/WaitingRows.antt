@@ -1,28 +1,28 @@
 -- What a row of a phase to the initiator does with REQ, ACK and ATN, by what its ends are due to do; and no request waits for ACK as the
 -- phase is left (6.1.5.1, 6.1.5.2, 6.2.1).
 use Rattle.std.proofs.Common.{inl, inr, ℕ, ◌≡◌, ◌⊎◌, Bool, true, false, not, ◌&&◌, ◌||◌, ◌∙◌, List, [], ◌∷◌, Option, Some, None, refl, sym, ap, subst}
-use Rattle.bus_trace.specs.LineSet.{LineSet}
-use Rattle.bus_trace.specs.declared.Row.{Row}
-use Rattle.bus_trace.specs.declared.changes.Change.{Change}
-use Rattle.bus_trace.specs.declared.connection.Connection.{Connection}
-use Rattle.bus_trace.specs.Changes.{change_of}
-use Rattle.bus_trace.specs.Phases.{changes_phase}
-use Rattle.bus_trace.specs.Terms.{call, connection, connection_after}
-use Rattle.bus_trace.specs.Trace.{bus, drives, last_time}
-use Rattle.bus_trace.proofs.Sets.{same_self}
-use Rattle.bus_lines.specs.Handshakes.{handshakes}
-use Rattle.bus_phases.specs.declared.words.End.TheVariants as sides
-use Rattle.bus_phases.specs.Dialogue.{dialogue, is_of_other}
-use Rattle.scenario.specs.Value.{ScenarioValue}
-use Rattle.bus_dialogue.specs.declared.exchange.Leaving.{Leaving}
-use Rattle.bus_dialogue.specs.declared.exchange.Phase.{Phase}
-use Rattle.bus_dialogue.specs.NextPhase.{Serving, phase_leaving, phase_lines, phase_of}
-use Rattle.bus_dialogue.specs.PhaseBytes.{lines_by}
+use Rattle.bus_due.specs.bus_trace.specs.LineSet.{LineSet}
+use Rattle.bus_due.specs.bus_trace.specs.declared.Row.{Row}
+use Rattle.bus_due.specs.bus_trace.specs.declared.changes.Change.{Change}
+use Rattle.bus_due.specs.bus_trace.specs.declared.connection.Connection.{Connection}
+use Rattle.bus_due.specs.bus_trace.specs.Changes.{change_of}
+use Rattle.bus_due.specs.bus_trace.specs.Phases.{changes_phase}
+use Rattle.bus_due.specs.bus_trace.specs.Terms.{call, connection, connection_after}
+use Rattle.bus_due.specs.bus_trace.specs.Trace.{bus, drives, last_time}
+use Rattle.bus_due.specs.bus_trace.proofs.Sets.{same_self}
+use Rattle.bus_due.specs.bus_lines.specs.Handshakes.{handshakes}
+use Rattle.bus_due.specs.bus_phases.specs.declared.words.End.TheVariants as sides
+use Rattle.bus_due.specs.bus_phases.specs.Dialogue.{dialogue, is_of_other}
+use Rattle.bus_due.specs.scenario.specs.Value.{ScenarioValue}
+use Rattle.bus_due.specs.bus_dialogue.specs.declared.exchange.Leaving.{Leaving}
+use Rattle.bus_due.specs.bus_dialogue.specs.declared.exchange.Phase.{Phase}
+use Rattle.bus_due.specs.bus_dialogue.specs.NextPhase.{Serving, phase_leaving, phase_lines, phase_of}
+use Rattle.bus_due.specs.bus_dialogue.specs.PhaseBytes.{lines_by}
 use Rattle.bus_due.specs.RunSteps.{run_state}
 use Rattle.bus_due.specs.Sights.{serving_at}
-use Rattle.bus_laws.specs.Ends.{EndLines, Linked, connected_bus, initiator_side, target_side}
-use Rattle.bus_laws.specs.Rows.{change_to, row_of_fault, row_of_lines}
-use Rattle.bus_laws.proofs.Rows.{fault_change}
+use Rattle.link_laws.specs.bus_laws.specs.Ends.{EndLines, Linked, connected_bus, initiator_side, target_side}
+use Rattle.link_laws.specs.bus_laws.specs.Rows.{change_to, row_of_fault, row_of_lines}
+use Rattle.link_laws.specs.bus_laws.proofs.Rows.{fault_change}
 use Rattle.link_laws.specs.Phases.{ends}
 use Rattle.link_laws.proofs.EndDues.{answering_with, offering_with}
 use Rattle.link_laws.proofs.Moves.{initiator_moves, no_rise, phase_same, target_moves}
@@ -36,7 +36,7 @@ use Rattle.trace_laws.proofs.LinkRows.{LinkRow}
 use Rattle.trace_laws.proofs.RunSteps.{pulsed_as}
 use Rattle.trace_laws.proofs.Turns.{freed_connection}
 use Rattle.trace_laws.proofs.WaitingRequests.{InStep, answers, answers_oldest, asks, rests}
-use Rattle.bus_base.proofs.Tests.{wrong', or_false}
+use Rattle.bus_due.specs.bus_base.proofs.Tests.{wrong', or_false}
 
 abbrev Step : List Row → Change → Type 0
 Step p c = InStep (handshakes p) (pulses_here p) c

@@ -2,17 +2,17 @@
 use Rattle.std.proofs.Common.{◌≡◌, ◌⊎◌, inl, inr, ◌<◌, Bool, true, false, ◌∙◌, List, [], ◌∷◌, Option, Some, None, refl, sym, ap}
 use Rattle.std.specs.Prelude.{if◌then◌else◌, is_some}
 use Rattle.std.proofs.lemmas.Option.{same_Some}
-use Rattle.bus_trace.specs.declared.Row.{Row}
-use Rattle.bus_trace.specs.declared.connection.Connection.{Connection}
-use Rattle.bus_trace.specs.declared.changes.Change.{Change}
-use Rattle.bus_trace.specs.Changes.{change_of}
-use Rattle.bus_trace.specs.Phases.{changes_phase, is_message_in}
-use Rattle.bus_trace.specs.Terms.{call, connection, connection_after}
-use Rattle.bus_trace.specs.Trace.{bus}
-use Rattle.scenario.specs.Value.{ScenarioValue}
-use Rattle.scenario.specs.Writing.{Obeys}
-use Rattle.disk_array.specs.Units.{Array}
-use Rattle.bus_story.specs.BusState.{RowReading, row_reading}
+use Rattle.bus_due.specs.bus_trace.specs.declared.Row.{Row}
+use Rattle.bus_due.specs.bus_trace.specs.declared.connection.Connection.{Connection}
+use Rattle.bus_due.specs.bus_trace.specs.declared.changes.Change.{Change}
+use Rattle.bus_due.specs.bus_trace.specs.Changes.{change_of}
+use Rattle.bus_due.specs.bus_trace.specs.Phases.{changes_phase, is_message_in}
+use Rattle.bus_due.specs.bus_trace.specs.Terms.{call, connection, connection_after}
+use Rattle.bus_due.specs.bus_trace.specs.Trace.{bus}
+use Rattle.bus_due.specs.scenario.specs.Value.{ScenarioValue}
+use Rattle.bus_due.specs.scenario.specs.Writing.{Obeys}
+use Rattle.bus_due.specs.disk_array.specs.Units.{Array}
+use Rattle.bus_due.specs.bus_story.specs.BusState.{RowReading, row_reading}
 use Rattle.bus_due.specs.Allowed.{allowed}
 use Rattle.bus_due.specs.Least.{IsLeast}
 use Rattle.bus_due.specs.Next.{due, IsPrompt}
@@ -21,15 +21,15 @@ use Rattle.bus_due.specs.RunState.{RunState}
 use Rattle.bus_due.specs.RunSteps.{run_state}
 use Rattle.bus_due.specs.Telling.{telling}
 use Rattle.bus_due.proofs.Plains.{run_state_plain}
-use Rattle.scsi_device.specs.Heard.{heard}
-use Rattle.scsi_device.specs.Writes.{written}
-use Rattle.scsi_device.proofs.FitLines.{obeys_fits, seats_are, units_are}
+use Rattle.target_units.specs.scsi_device.specs.Heard.{heard}
+use Rattle.target_units.specs.scsi_device.specs.Writes.{written}
+use Rattle.target_units.specs.scsi_device.proofs.FitLines.{obeys_fits, seats_are, units_are}
 use Rattle.bus_books.specs.Traces.{AreRowsOf}
-use Rattle.bus_laws.proofs.Apart.{change_plain}
-use Rattle.bus_laws.proofs.Limits.{obeys_latencies}
-use Rattle.bus_laws.proofs.Prompt.{least_is}
+use Rattle.link_laws.specs.bus_laws.proofs.Apart.{change_plain}
+use Rattle.link_laws.specs.bus_laws.proofs.Limits.{obeys_latencies}
+use Rattle.link_laws.specs.bus_laws.proofs.Prompt.{least_is}
 use Rattle.link_laws.proofs.RunLengths.{runs_are_short}
-use Rattle.ending_causes.specs.WrongParity.{complains_truly, left_as_due}
+use Rattle.bus_books.specs.WrongParity.{complains_truly, left_as_due}
 use Rattle.trace_laws.specs.Asked.{IsAsked}
 use Rattle.trace_laws.specs.Attendance.{AttendedFacts}
 use Rattle.trace_laws.specs.ClearFacts.{ClearFacts}

@@ -3,32 +3,32 @@
 use Rattle.std.proofs.Common.{inl, inr, ℕ, ◌≡◌, ◌⊎◌, ◌≤◌, ◌+◌, ◌-◌, ◌*◌, Bool, true, false, not, ◌&&◌, ◌==◌, ◌∙◌, List, ◌∷◌, Option, Some, None, refl, sym, ap, subst, arith}
 use Rattle.std.specs.Prelude.{if◌then◌else◌, min, nat_le, nat_lt}
 use Rattle.std.proofs.lemmas.Bool.Decides.{nat_tests}
-use Rattle.bus_trace.specs.LineSet.{LineSet}
-use Rattle.bus_trace.specs.declared.Row.{Row}
-use Rattle.bus_trace.specs.declared.connection.Connection.{Connection}
-use Rattle.bus_trace.specs.Changes.{change_of}
-use Rattle.bus_trace.specs.Phases.{changes_phase, is_data}
-use Rattle.bus_trace.specs.Terms.{connection}
-use Rattle.bus_trace.specs.Trace.{bus}
-use Rattle.cdb_codec.specs.Cdb.{command_of}
-use Rattle.scenario.specs.Lookups.{unit_of}
-use Rattle.scenario.specs.Value.{ScenarioValue}
-use Rattle.scenario.specs.Writing.{Obeys}
-use Rattle.scenario.specs.declared.value.Policy.{Policy}
-use Rattle.scenario.specs.declared.value.Policy.TheVariants as policies
-use Rattle.scenario.specs.declared.value.UnitDef.{UnitDef}
-use Rattle.disk_array.specs.ArrayHistory.{array_after}
-use Rattle.disk_array.specs.Order.{count_in, range_in}
-use Rattle.disk_array.specs.Processes.{Process}
-use Rattle.disk_array.specs.Units.{UnitState, guest_at, unit_state_at}
-use Rattle.bus_dialogue.specs.declared.exchange.Phase.{Phase}
-use Rattle.bus_dialogue.specs.declared.exchange.Phase.TheVariants as phases
-use Rattle.bus_dialogue.specs.declared.exchange.Task.{Task}
-use Rattle.bus_dialogue.specs.Arrivals.{policy_of}
-use Rattle.bus_dialogue.specs.DataRuns.{run_at, run_in, run_length}
-use Rattle.bus_dialogue.specs.Hearing.{begun}
-use Rattle.bus_dialogue.specs.NextPhase.{phase_of}
-use Rattle.bus_dialogue.specs.PhaseBytes.{run_length_if}
+use Rattle.bus_due.specs.bus_trace.specs.LineSet.{LineSet}
+use Rattle.bus_due.specs.bus_trace.specs.declared.Row.{Row}
+use Rattle.bus_due.specs.bus_trace.specs.declared.connection.Connection.{Connection}
+use Rattle.bus_due.specs.bus_trace.specs.Changes.{change_of}
+use Rattle.bus_due.specs.bus_trace.specs.Phases.{changes_phase, is_data}
+use Rattle.bus_due.specs.bus_trace.specs.Terms.{connection}
+use Rattle.bus_due.specs.bus_trace.specs.Trace.{bus}
+use Rattle.bus_due.specs.cdb_codec.specs.Cdb.{command_of}
+use Rattle.bus_due.specs.scenario.specs.Lookups.{unit_of}
+use Rattle.bus_due.specs.scenario.specs.Value.{ScenarioValue}
+use Rattle.bus_due.specs.scenario.specs.Writing.{Obeys}
+use Rattle.bus_due.specs.scenario.specs.declared.value.Policy.{Policy}
+use Rattle.bus_due.specs.scenario.specs.declared.value.Policy.TheVariants as policies
+use Rattle.bus_due.specs.scenario.specs.declared.value.UnitDef.{UnitDef}
+use Rattle.bus_due.specs.disk_array.specs.ArrayHistory.{array_after}
+use Rattle.bus_due.specs.disk_array.specs.Order.{count_in, range_in}
+use Rattle.bus_due.specs.disk_array.specs.Processes.{Process}
+use Rattle.bus_due.specs.disk_array.specs.Units.{UnitState, guest_at, unit_state_at}
+use Rattle.bus_due.specs.bus_dialogue.specs.declared.exchange.Phase.{Phase}
+use Rattle.bus_due.specs.bus_dialogue.specs.declared.exchange.Phase.TheVariants as phases
+use Rattle.bus_due.specs.bus_dialogue.specs.declared.exchange.Task.{Task}
+use Rattle.bus_due.specs.bus_dialogue.specs.Arrivals.{policy_of}
+use Rattle.bus_due.specs.bus_dialogue.specs.DataRuns.{run_at, run_in, run_length}
+use Rattle.bus_due.specs.bus_dialogue.specs.Hearing.{begun}
+use Rattle.bus_due.specs.bus_dialogue.specs.NextPhase.{phase_of}
+use Rattle.bus_due.specs.bus_dialogue.specs.PhaseBytes.{run_length_if}
 use Rattle.bus_due.specs.Defs.{target_def_of}
 use Rattle.bus_due.specs.LastingState.{progress_in}
 use Rattle.bus_due.specs.Next.{IsPrompt}
@@ -37,7 +37,7 @@ use Rattle.bus_due.specs.RunState.{RunState, array_of, or_start, bus_of, carried
 use Rattle.bus_due.specs.RunSteps.{run_state}
 use Rattle.bus_due.specs.Tasks.{is_writing, reply_now, size_of, task_if, task_of, task_with}
 use Rattle.bus_due.proofs.Plains.{run_state_plain}
-use Rattle.scsi_device.specs.Writes.{block_size, is_data_out}
+use Rattle.target_units.specs.scsi_device.specs.Writes.{block_size, is_data_out}
 use Rattle.target_units.specs.Rooms.{AreOfLines, IsOfLine}
 use Rattle.bus_books.proofs.CarriedBlocks.{process_own}
 use Rattle.trace_laws.specs.DataFacts.{DataFacts}
@@ -51,7 +51,7 @@ use Rattle.trace_laws.proofs.Plans.{is_directed, writes_of}
 use Rattle.trace_laws.proofs.RunAsks.{answers_all}
 use Rattle.trace_laws.proofs.RunFacts.{write_no_sense}
 use Rattle.trace_laws.proofs.RunFits.{FitsRuns, blocks_named, fits_runs, lines_now}
-use Rattle.bus_base.proofs.Tests.{wrong, wrong', eq_self, zero_of}
+use Rattle.bus_due.specs.bus_base.proofs.Tests.{wrong, wrong', eq_self, zero_of}
 
 -- ---- the size of a block
 
@@ -153,7 +153,7 @@ write_premises s p row o prompt was h facts resets = record {
         let at = out_lines (bus_of k) phase in
         sym (λ i. is_directed (at.1 i) (writes_of (served i))) ∙ (was.planned n con calm).serves b at.0
 
-    task_is : (q : Process) → process_served s k ≡ Some q → task_of s k ≡ Some (task_with (array_of s k) (progress_in k.progress q.id) q (carried_here k q.id) (reply_now (array_of s k) q) (Rattle.disk_array.specs.ArrayHistory.reply_in (array_of s k).replies q.id))
+    task_is : (q : Process) → process_served s k ≡ Some q → task_of s k ≡ Some (task_with (array_of s k) (progress_in k.progress q.id) q (carried_here k q.id) (reply_now (array_of s k) q) (Rattle.bus_due.specs.disk_array.specs.ArrayHistory.reply_in (array_of s k).replies q.id))
     task_is q served = ap (task_if s k) served
 
     counted : (n : Connection) (t : Task) → connection p ≡ Some n → (bus p).rst ≡ false → k.exchange.begun ≡ true → phase_of (bus_of k) ≡ phases.DataOut → task_of s k ≡ Some t → 1 ≤ run_length (policy_of (target_def_of s n.target)) t
@@ -172,7 +172,7 @@ write_premises s p row o prompt was h facts resets = record {
         runs = placed
 
         t : Task
-        t = task_with (array_of s k) (progress_in k.progress q.id) q (carried_here k q.id) (reply_now (array_of s k) q) (Rattle.disk_array.specs.ArrayHistory.reply_in (array_of s k).replies q.id)
+        t = task_with (array_of s k) (progress_in k.progress q.id) q (carried_here k q.id) (reply_now (array_of s k) q) (Rattle.bus_due.specs.disk_array.specs.ArrayHistory.reply_in (array_of s k).replies q.id)
 
         w : is_writing q ≡ true
         w = writes n q con calm b phase served

@@ -1,38 +1,38 @@
 -- In DATA OUT, once a byte has come, the process that is served last sent its unit one, with each row of a prompt trace.
 use Rattle.std.proofs.Common.{ℕ, ◌≡◌, Bool, true, false, ◌==◌, ◌∙◌, List, ◌∷◌, Option, Some, None, refl, sym, ap}
 use Rattle.std.specs.Prelude.{if◌then◌else◌, is_some}
-use Rattle.bus_trace.specs.LineSet.{LineSet}
-use Rattle.bus_trace.specs.declared.Row.{Row}
-use Rattle.bus_trace.specs.declared.changes.Change.{Change}
-use Rattle.bus_trace.specs.declared.connection.Connection.{Connection}
-use Rattle.bus_trace.specs.Changes.{rises}
-use Rattle.bus_trace.specs.Phases.{changes_phase}
-use Rattle.bus_trace.specs.Terms.{is_fault, receiver_in}
-use Rattle.bus_lines.specs.Handshakes.{Handshakes, no_handshakes, handshakes_on, handshakes_after, answered_if, asked_if, strikes_if}
-use Rattle.scenario.specs.Value.{ScenarioValue}
-use Rattle.bus_story.specs.BusState.{RowReading, row_reading}
-use Rattle.bus_story.specs.TraceHistory.{aim_of}
-use Rattle.bus_dialogue.specs.Exchange.{Exchange}
-use Rattle.bus_dialogue.specs.declared.exchange.Phase.TheVariants as phases
-use Rattle.bus_dialogue.specs.NextPhase.{phase_of}
+use Rattle.bus_due.specs.bus_trace.specs.LineSet.{LineSet}
+use Rattle.bus_due.specs.bus_trace.specs.declared.Row.{Row}
+use Rattle.bus_due.specs.bus_trace.specs.declared.changes.Change.{Change}
+use Rattle.bus_due.specs.bus_trace.specs.declared.connection.Connection.{Connection}
+use Rattle.bus_due.specs.bus_trace.specs.Changes.{rises}
+use Rattle.bus_due.specs.bus_trace.specs.Phases.{changes_phase}
+use Rattle.bus_due.specs.bus_trace.specs.Terms.{is_fault, receiver_in}
+use Rattle.bus_due.specs.bus_lines.specs.Handshakes.{Handshakes, no_handshakes, handshakes_on, handshakes_after, answered_if, asked_if, strikes_if}
+use Rattle.bus_due.specs.scenario.specs.Value.{ScenarioValue}
+use Rattle.bus_due.specs.bus_story.specs.BusState.{RowReading, row_reading}
+use Rattle.bus_due.specs.bus_story.specs.TraceHistory.{aim_of}
+use Rattle.bus_due.specs.bus_dialogue.specs.Exchange.{Exchange}
+use Rattle.bus_due.specs.bus_dialogue.specs.declared.exchange.Phase.TheVariants as phases
+use Rattle.bus_due.specs.bus_dialogue.specs.NextPhase.{phase_of}
 use Rattle.bus_due.specs.Plain.{IsPlain}
 use Rattle.bus_due.specs.RunState.{RunState, bus_of, process_item}
 use Rattle.bus_due.specs.RunSteps.{run_state, exchange_after, first_exchange, leaving_of}
 use Rattle.bus_due.proofs.Plains.{run_state_plain}
-use Rattle.scsi_device.specs.Writes.{Writer, writer_of, writers, writers_with, is_data_out}
-use Rattle.scsi_device.specs.Heard.{is_message}
-use Rattle.scsi_device.proofs.PhaseLines.{no_input}
+use Rattle.target_units.specs.scsi_device.specs.Writes.{Writer, writer_of, writers, writers_with, is_data_out}
+use Rattle.target_units.specs.scsi_device.specs.Heard.{is_message}
+use Rattle.target_units.specs.scsi_device.proofs.PhaseLines.{no_input}
 use Rattle.bus_books.specs.Rows.{RowKind, still, strikes, crosses, turns, IsFirstRow}
 use Rattle.bus_books.specs.Traces.{Begins, GoesOn, RowOf, apart, begins, goes_on, ends, under_reset}
 use Rattle.bus_books.proofs.InConnection.{in_connection, reading_is, same_phase_is}
-use Rattle.bus_laws.proofs.Apart.{change_plain}
+use Rattle.link_laws.specs.bus_laws.proofs.Apart.{change_plain}
 use Rattle.trace_laws.specs.WriteFacts.{IsPresentWriter}
 use Rattle.trace_laws.proofs.CommandStays.{phase_same}
 use Rattle.trace_laws.proofs.Impossible.{none_some}
 use Rattle.trace_laws.proofs.PhaseLines.{message_is}
 use Rattle.trace_laws.proofs.WriteRows.{WriteRow, Around, around}
 use Rattle.trace_laws.proofs.WriteTurns.{no_byte, a_byte, writer_now}
-use Rattle.bus_base.proofs.Tests.{wrong, wrong'}
+use Rattle.bus_due.specs.bus_base.proofs.Tests.{wrong, wrong'}
 
 -- No byte is answered but with one that crosses.
 same_answers : (n : Connection) (c : Change) (time : ℕ) (h : Handshakes) → changes_phase c ≡ false → receiver_in n c ≡ None → c.before.io ≡ false → (handshakes_on (Some n) c time h).answers ≡ h.answers

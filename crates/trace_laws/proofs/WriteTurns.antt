@@ -1,33 +1,33 @@
 -- A row of a prompt trace: what it makes of the runs that are counted, and of the writers of the units.
 use Rattle.std.proofs.Common.{ℕ, ◌≡◌, Bool, true, false, not, ◌&&◌, ◌==◌, ◌∙◌, List, ◌∷◌, Option, Some, None, refl, sym, subst}
 use Rattle.std.specs.Prelude.{if◌then◌else◌, is_some, is_none}
-use Rattle.bus_trace.specs.declared.Row.{Row}
-use Rattle.bus_trace.specs.declared.changes.Change.{Change}
-use Rattle.bus_trace.specs.declared.connection.Connection.{Connection}
-use Rattle.bus_trace.specs.Phases.{changes_phase}
-use Rattle.scenario.specs.Value.{ScenarioValue}
-use Rattle.disk_array.specs.Processes.{Process, process_of}
-use Rattle.disk_array.specs.SoundArray.{HasSeats, AllOwnUnits, AreApart}
-use Rattle.disk_array.specs.Steps.{running_in, running_process}
-use Rattle.disk_array.specs.Units.{RunningProcess, Array, guest_at}
-use Rattle.disk_array.proofs.SoundArrays.{history_sound}
-use Rattle.bus_story.specs.BusState.{RowReading, row_reading}
-use Rattle.bus_story.specs.TraceHistory.{trace_history}
-use Rattle.bus_dialogue.specs.declared.exchange.Leaving.{Leaving}
-use Rattle.bus_dialogue.specs.NextPhase.{phase_of}
+use Rattle.bus_due.specs.bus_trace.specs.declared.Row.{Row}
+use Rattle.bus_due.specs.bus_trace.specs.declared.changes.Change.{Change}
+use Rattle.bus_due.specs.bus_trace.specs.declared.connection.Connection.{Connection}
+use Rattle.bus_due.specs.bus_trace.specs.Phases.{changes_phase}
+use Rattle.bus_due.specs.scenario.specs.Value.{ScenarioValue}
+use Rattle.bus_due.specs.disk_array.specs.Processes.{Process, process_of}
+use Rattle.bus_due.specs.disk_array.specs.SoundArray.{HasSeats, AllOwnUnits, AreApart}
+use Rattle.bus_due.specs.disk_array.specs.Steps.{running_in, running_process}
+use Rattle.bus_due.specs.disk_array.specs.Units.{RunningProcess, Array, guest_at}
+use Rattle.bus_due.specs.disk_array.proofs.SoundArrays.{history_sound}
+use Rattle.bus_due.specs.bus_story.specs.BusState.{RowReading, row_reading}
+use Rattle.bus_due.specs.bus_story.specs.TraceHistory.{trace_history}
+use Rattle.bus_due.specs.bus_dialogue.specs.declared.exchange.Leaving.{Leaving}
+use Rattle.bus_due.specs.bus_dialogue.specs.NextPhase.{phase_of}
 use Rattle.bus_due.specs.LastingState.{ProcessProgress, progress_with}
 use Rattle.bus_due.specs.Plain.{AreOfDevices}
 use Rattle.bus_due.specs.RunState.{RunState, array_of, or_start, process_served}
 use Rattle.bus_due.specs.RunSteps.{run_state, run_state_after, progress_after, progress_by_leaving, leaving_of}
 use Rattle.bus_due.specs.Sights.{leaving}
 use Rattle.bus_due.proofs.Plains.{run_state_plain}
-use Rattle.scsi_device.specs.Heard.{is_unanswered}
-use Rattle.scsi_device.specs.Writes.{Writer, writer_of, writers, writers_with, is_data_out}
+use Rattle.target_units.specs.scsi_device.specs.Heard.{is_unanswered}
+use Rattle.target_units.specs.scsi_device.specs.Writes.{Writer, writer_of, writers, writers_with, is_data_out}
 use Rattle.bus_books.specs.Rows.{IsRowIn, reading_in}
 use Rattle.trace_laws.proofs.CountedRuns.{counted_runs}
 use Rattle.trace_laws.proofs.WriterUnits.{Moves, Stands, stands_each}
 use Rattle.trace_laws.specs.WriteFacts.{AllUnits}
-use Rattle.bus_base.proofs.Tests.{wrong', eq_self}
+use Rattle.bus_due.specs.bus_base.proofs.Tests.{wrong', eq_self}
 
 -- ---- the writers
 

@@ -3,25 +3,25 @@
 use Rattle.std.proofs.Common.{ℕ, zero, suc, ◌≡◌, ◌⊎◌, inl, inr, Bool, true, false, not, ◌&&◌, ◌==◌, ◌∙◌, List, [], ◌∷◌, ◌++◌, Option, Some, None, refl, sym, ap, subst}
 use Rattle.std.specs.Prelude.{if◌then◌else◌, is_some}
 use Rattle.std.proofs.lemmas.Option.{same_Some}
-use Rattle.bus_base.specs.declared.ProcId.{ProcId}
-use Rattle.scenario.specs.Value.{ScenarioValue}
-use Rattle.scenario.specs.declared.value.UnitDef.{UnitDef}
-use Rattle.disk_array.specs.Processes.{Process, process_of, same_id}
-use Rattle.disk_array.specs.Execution.{Reply}
-use Rattle.disk_array.specs.Order.{without_process, choice, chosen_place, entries_of, process_at, process_at_if}
-use Rattle.disk_array.specs.SoundArray.{IsOwn, AllOwn, IsOwnUnit, AllOwnUnits, AreApart}
-use Rattle.disk_array.specs.Units.{RunningProcess, UnitState, Nexus, Array, is_held, unit_state_at, has_no_current, with_current, unit_after_choice, starting_units}
-use Rattle.disk_array.specs.Steps as Steps
+use Rattle.bus_due.specs.bus_base.specs.declared.ProcId.{ProcId}
+use Rattle.bus_due.specs.scenario.specs.Value.{ScenarioValue}
+use Rattle.bus_due.specs.scenario.specs.declared.value.UnitDef.{UnitDef}
+use Rattle.bus_due.specs.disk_array.specs.Processes.{Process, process_of, same_id}
+use Rattle.bus_due.specs.disk_array.specs.Execution.{Reply}
+use Rattle.bus_due.specs.disk_array.specs.Order.{without_process, choice, chosen_place, entries_of, process_at, process_at_if}
+use Rattle.bus_due.specs.disk_array.specs.SoundArray.{IsOwn, AllOwn, IsOwnUnit, AllOwnUnits, AreApart}
+use Rattle.bus_due.specs.disk_array.specs.Units.{RunningProcess, UnitState, Nexus, Array, is_held, unit_state_at, has_no_current, with_current, unit_after_choice, starting_units}
+use Rattle.bus_due.specs.disk_array.specs.Steps as Steps
 use Rattle.bus_due.specs.LastingState.{ProcessProgress, progress_in}
 use Rattle.bus_due.specs.Tasks.{is_writing}
-use Rattle.scsi_device.specs.Writes.{Writer, writer_of}
+use Rattle.target_units.specs.scsi_device.specs.Writes.{Writer, writer_of}
 use Rattle.bus_books.proofs.Lookups.{id_is, self_id}
 use Rattle.trace_laws.specs.ItemFacts.{AllP}
 use Rattle.trace_laws.specs.WriteFacts.{AllUnits, IsUnrun, IsLastWriter, IsOther, IsWrittenUnit, IsEmptyUnit}
 use Rattle.trace_laws.proofs.Impossible.{none_some, some_none}
 use Rattle.trace_laws.proofs.UnitsKept.{StaysSo, MayWait}
 use Rattle.std.proofs.lemmas.Bool.{eqb-true}
-use Rattle.bus_base.proofs.Tests.{wrong, wrong', eq_self}
+use Rattle.bus_due.specs.bus_base.proofs.Tests.{wrong, wrong', eq_self}
 use Rattle.trace_laws.specs.Places.{Runs}
 
 -- ---- those that wait

@@ -3,27 +3,27 @@ use Rattle.std.proofs.Common.{ℕ, ◌≡◌, ◌⊎◌, inl, inr, Bool, true, f
 use Rattle.std.specs.Prelude.{if◌then◌else◌, is_some}
 use Rattle.std.proofs.lemmas.Option.{same_Some}
 use Rattle.std.proofs.lemmas.Bool.{or_right, or_left, and_from, eq-eqb}
-use Rattle.bus_base.specs.declared.ProcId.{ProcId}
-use Rattle.bus_trace.specs.LineSet.{LineSet}
-use Rattle.bus_trace.specs.declared.Row.{Row}
-use Rattle.bus_trace.specs.declared.changes.Change.{Change}
-use Rattle.bus_trace.specs.declared.connection.Connection.{Connection}
-use Rattle.bus_trace.specs.Changes.{change_of, falls, rises, same_phase}
-use Rattle.bus_trace.specs.LineSet.{same}
-use Rattle.bus_trace.specs.Phases.{changes_phase, is_data, is_message_in}
-use Rattle.bus_trace.specs.Terms.{connection, connection_after, connection_of, is_fault, receiver_in}
-use Rattle.bus_trace.specs.Trace.{bus}
-use Rattle.cdb_codec.specs.declared.status.TheConstants.{GOOD}
-use Rattle.scenario.specs.Value.{ScenarioValue}
-use Rattle.scenario.specs.Writing.{Obeys}
-use Rattle.disk_array.specs.Execution.{Reply}
-use Rattle.disk_array.specs.Processes.{Process, process_of, same_id}
-use Rattle.bus_story.specs.BusState.{RowReading, row_reading}
-use Rattle.bus_dialogue.specs.NextPhase.{Serving, phase_of, phase_leaving, phase_entry}
-use Rattle.bus_dialogue.specs.declared.exchange.Leaving.{Leaving}
-use Rattle.bus_dialogue.specs.declared.exchange.Phase.{Phase}
-use Rattle.bus_dialogue.specs.declared.exchange.Phase.TheVariants as phases
-use Rattle.bus_dialogue.specs.declared.exchange.Task.{Task}
+use Rattle.bus_due.specs.bus_base.specs.declared.ProcId.{ProcId}
+use Rattle.bus_due.specs.bus_trace.specs.LineSet.{LineSet}
+use Rattle.bus_due.specs.bus_trace.specs.declared.Row.{Row}
+use Rattle.bus_due.specs.bus_trace.specs.declared.changes.Change.{Change}
+use Rattle.bus_due.specs.bus_trace.specs.declared.connection.Connection.{Connection}
+use Rattle.bus_due.specs.bus_trace.specs.Changes.{change_of, falls, rises, same_phase}
+use Rattle.bus_due.specs.bus_trace.specs.LineSet.{same}
+use Rattle.bus_due.specs.bus_trace.specs.Phases.{changes_phase, is_data, is_message_in}
+use Rattle.bus_due.specs.bus_trace.specs.Terms.{connection, connection_after, connection_of, is_fault, receiver_in}
+use Rattle.bus_due.specs.bus_trace.specs.Trace.{bus}
+use Rattle.bus_due.specs.cdb_codec.specs.declared.status.TheConstants.{GOOD}
+use Rattle.bus_due.specs.scenario.specs.Value.{ScenarioValue}
+use Rattle.bus_due.specs.scenario.specs.Writing.{Obeys}
+use Rattle.bus_due.specs.disk_array.specs.Execution.{Reply}
+use Rattle.bus_due.specs.disk_array.specs.Processes.{Process, process_of, same_id}
+use Rattle.bus_due.specs.bus_story.specs.BusState.{RowReading, row_reading}
+use Rattle.bus_due.specs.bus_dialogue.specs.NextPhase.{Serving, phase_of, phase_leaving, phase_entry}
+use Rattle.bus_due.specs.bus_dialogue.specs.declared.exchange.Leaving.{Leaving}
+use Rattle.bus_due.specs.bus_dialogue.specs.declared.exchange.Phase.{Phase}
+use Rattle.bus_due.specs.bus_dialogue.specs.declared.exchange.Phase.TheVariants as phases
+use Rattle.bus_due.specs.bus_dialogue.specs.declared.exchange.Task.{Task}
 use Rattle.bus_due.specs.LastingState.{progress_in}
 use Rattle.bus_due.specs.Next.{IsPrompt}
 use Rattle.bus_due.specs.Plain.{IsPlain}
@@ -32,11 +32,11 @@ use Rattle.bus_due.specs.RunSteps.{run_state, leaving_of}
 use Rattle.bus_due.specs.Sights.{hearing_of, leaving, serving_of}
 use Rattle.bus_due.specs.Tasks.{is_writing, moved_count, reply_now, task_of, task_if}
 use Rattle.bus_due.proofs.Plains.{run_state_plain}
-use Rattle.scsi_device.specs.Writes.{Writer, writer_of, writers, is_data_out, brings_byte, is_writer, is_next_byte, is_written_byte, is_whole_run, is_written_run, ends_run, is_written_in, is_written_on, is_written, written, is_data_in}
+use Rattle.target_units.specs.scsi_device.specs.Writes.{Writer, writer_of, writers, is_data_out, brings_byte, is_writer, is_next_byte, is_written_byte, is_whole_run, is_written_run, ends_run, is_written_in, is_written_on, is_written, written, is_data_in}
 use Rattle.bus_books.specs.Traces.{Begins, Ends, GoesOn, RowOf, apart, begins, goes_on, ends, under_reset}
 use Rattle.bus_books.proofs.InConnection.{in_connection, reading_is}
 use Rattle.bus_books.proofs.Lookups.{self_id, id_is}
-use Rattle.bus_laws.proofs.Apart.{change_plain}
+use Rattle.link_laws.specs.bus_laws.proofs.Apart.{change_plain}
 use Rattle.trace_laws.specs.WriteFacts.{IsWriterOf, IsAnsweredWhole, WriteFacts, WritesAsked}
 use Rattle.trace_laws.specs.Commands.{CommandFacts}
 use Rattle.trace_laws.specs.Instructed.{InstructedFacts}
@@ -52,7 +52,7 @@ use Rattle.trace_laws.proofs.UnderRst.{none_raised}
 use Rattle.trace_laws.proofs.WriteNext.{write_row}
 use Rattle.trace_laws.proofs.WriteRows.{WriteRow, Around, around, out_is, runs_out, in_lines}
 use Rattle.trace_laws.proofs.WriterUnits.{last_writer}
-use Rattle.bus_base.proofs.Tests.{wrong, wrong', implication}
+use Rattle.bus_due.specs.bus_base.proofs.Tests.{wrong, wrong', implication}
 
 -- ---- a byte of DATA OUT crosses
 

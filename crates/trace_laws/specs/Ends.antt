@@ -1,9 +1,9 @@
 -- The two ends of a connection are an initiator and a target of the scenario.
 use Rattle.std.specs.Prelude.{◌≡◌, true, List, Some, is_some}
-use Rattle.bus_trace.specs.declared.Row.{Row}
-use Rattle.bus_trace.specs.declared.connection.Connection.{Connection}
-use Rattle.bus_trace.specs.Terms.{connection}
-use Rattle.scenario.specs.Value.{ScenarioValue}
+use Rattle.bus_due.specs.bus_trace.specs.declared.Row.{Row}
+use Rattle.bus_due.specs.bus_trace.specs.declared.connection.Connection.{Connection}
+use Rattle.bus_due.specs.bus_trace.specs.Terms.{connection}
+use Rattle.bus_due.specs.scenario.specs.Value.{ScenarioValue}
 use Rattle.bus_due.specs.Defs.{host_of, target_def_of}
 
 pub record HasEnds (s : ScenarioValue) (n : Connection) : Type 0 where

@@ -1,21 +1,21 @@
 -- What of the place of a served process in the plain disk array the target of its connection rests on: as the connection begins, and
 -- by the phase (6.1.5, 7.5).
 use Rattle.std.specs.Prelude.{◌≡◌, true, false, List, ◌∷◌, Some, None, is_some, is_none}
-use Rattle.bus_trace.specs.declared.Row.{Row}
-use Rattle.bus_trace.specs.declared.connection.Connection.{Connection}
-use Rattle.bus_trace.specs.Terms.{connection}
-use Rattle.bus_trace.specs.Trace.{bus}
-use Rattle.scenario.specs.Value.{ScenarioValue}
-use Rattle.disk_array.specs.ArrayHistory.{reply_in}
-use Rattle.disk_array.specs.Processes.{Process}
-use Rattle.disk_array.specs.Steps.{running_process}
-use Rattle.disk_array.specs.Units.{Array}
-use Rattle.bus_dialogue.specs.declared.exchange.Next.{Next}
-use Rattle.bus_dialogue.specs.declared.exchange.Phase.{Phase}
-use Rattle.bus_dialogue.specs.NextPhase.{phase_of}
+use Rattle.bus_due.specs.bus_trace.specs.declared.Row.{Row}
+use Rattle.bus_due.specs.bus_trace.specs.declared.connection.Connection.{Connection}
+use Rattle.bus_due.specs.bus_trace.specs.Terms.{connection}
+use Rattle.bus_due.specs.bus_trace.specs.Trace.{bus}
+use Rattle.bus_due.specs.scenario.specs.Value.{ScenarioValue}
+use Rattle.bus_due.specs.disk_array.specs.ArrayHistory.{reply_in}
+use Rattle.bus_due.specs.disk_array.specs.Processes.{Process}
+use Rattle.bus_due.specs.disk_array.specs.Steps.{running_process}
+use Rattle.bus_due.specs.disk_array.specs.Units.{Array}
+use Rattle.bus_due.specs.bus_dialogue.specs.declared.exchange.Next.{Next}
+use Rattle.bus_due.specs.bus_dialogue.specs.declared.exchange.Phase.{Phase}
+use Rattle.bus_due.specs.bus_dialogue.specs.NextPhase.{phase_of}
 use Rattle.bus_due.specs.RunState.{RunState, array_of, bus_of, process_served}
 use Rattle.bus_due.specs.RunSteps.{run_state}
-use Rattle.scsi_device.specs.Heard.{gives_status, is_answered, is_beginning, is_command_phase, is_new, is_opening, is_unanswered, moves_data}
+use Rattle.target_units.specs.scsi_device.specs.Heard.{gives_status, is_answered, is_beginning, is_command_phase, is_new, is_opening, is_unanswered, moves_data}
 
 -- It is new in COMMAND, runs without a reply while data move, and with one as its status is given.
 pub record IsPlacedIn (a : Array) (p : Process) (phase : Phase) (next : Next) : Type 0 where

@@ -1,25 +1,25 @@
 -- What holds of the items after any rows of a prompt trace.
 use Rattle.std.specs.Prelude.{List, None, Option, Some, [], false, true, ℕ, ⊤, ◌<◌, ◌==◌, ◌∷◌, ◌≡◌}
-use Rattle.bus_base.specs.declared.ProcId.{ProcId}
+use Rattle.bus_due.specs.bus_base.specs.declared.ProcId.{ProcId}
 use Rattle.bus_due.specs.LastingState.{ProcessProgress, progress_in}
 use Rattle.bus_due.specs.RunState.{RunState, array_of, bus_of}
 use Rattle.bus_due.specs.RunSteps.{run_state}
-use Rattle.bus_story.specs.CarriedBytes.{CarriedBytes, carried_at}
-use Rattle.bus_story.specs.Items.{Item, Sent, abort, command_item, has_item, is_clash, is_done, is_open, may_send, open_from, process, sense_from, sense_item}
-use Rattle.bus_story.specs.Links.{Link, is_open_sense}
-use Rattle.bus_story.specs.Story.{Story}
-use Rattle.bus_story.specs.TraceHistory.{aim_of}
-use Rattle.bus_trace.specs.Terms.{arbitration, call, connection}
-use Rattle.bus_trace.specs.Trace.{bus, drives}
-use Rattle.bus_trace.specs.declared.Row.{Row}
-use Rattle.bus_trace.specs.declared.arbitration.Arbitration.{Arbitration}
-use Rattle.bus_trace.specs.declared.connection.Connection.{Connection}
-use Rattle.bus_trace.specs.declared.selection.Call.{Call}
-use Rattle.disk_array.specs.Processes.{Process, command_at, process_of}
-use Rattle.disk_array.specs.Units.{RunningProcess, UnitState}
-use Rattle.disk_array.specs.Seats.{is_initiator}
-use Rattle.scenario.specs.Value.{ScenarioValue}
-use Rattle.scenario.specs.declared.value.CmdDef.{CmdDef}
+use Rattle.bus_due.specs.bus_story.specs.CarriedBytes.{CarriedBytes, carried_at}
+use Rattle.bus_due.specs.bus_story.specs.Items.{Item, Sent, abort, command_item, has_item, is_clash, is_done, is_open, may_send, open_from, process, sense_from, sense_item}
+use Rattle.bus_due.specs.bus_story.specs.Links.{Link, is_open_sense}
+use Rattle.bus_due.specs.bus_story.specs.Story.{Story}
+use Rattle.bus_due.specs.bus_story.specs.TraceHistory.{aim_of}
+use Rattle.bus_due.specs.bus_trace.specs.Terms.{arbitration, call, connection}
+use Rattle.bus_due.specs.bus_trace.specs.Trace.{bus, drives}
+use Rattle.bus_due.specs.bus_trace.specs.declared.Row.{Row}
+use Rattle.bus_due.specs.bus_trace.specs.declared.arbitration.Arbitration.{Arbitration}
+use Rattle.bus_due.specs.bus_trace.specs.declared.connection.Connection.{Connection}
+use Rattle.bus_due.specs.bus_trace.specs.declared.selection.Call.{Call}
+use Rattle.bus_due.specs.disk_array.specs.Processes.{Process, command_at, process_of}
+use Rattle.bus_due.specs.disk_array.specs.Units.{RunningProcess, UnitState}
+use Rattle.bus_due.specs.disk_array.specs.Seats.{is_initiator}
+use Rattle.bus_due.specs.scenario.specs.Value.{ScenarioValue}
+use Rattle.bus_due.specs.scenario.specs.declared.value.CmdDef.{CmdDef}
 use Rattle.std.specs.List.{list_any}
 use Rattle.trace_laws.specs.ItemTalks.{Talks}
 

@@ -1,24 +1,24 @@
 -- What holds of the process of a connection: it is open until COMMAND COMPLETE was taken, after which the bus is freed; and after a
 -- reselection the target names it alone.
 use Rattle.std.specs.Prelude.{Bool, List, None, Option, Some, false, is_none, length, not, true, ℕ, ⊤, ◌&&◌, ◌<◌, ◌||◌, ◌≡◌, ◌⊎◌}
-use Rattle.bus_base.specs.declared.ProcId.{ProcId}
+use Rattle.bus_due.specs.bus_base.specs.declared.ProcId.{ProcId}
 use Rattle.bus_books.specs.Giving.{OnMessages}
-use Rattle.bus_dialogue.specs.Exchange.{bytes_of_messages}
-use Rattle.bus_dialogue.specs.declared.exchange.Messages.{Messages}
-use Rattle.bus_dialogue.specs.declared.exchange.Next.{Next}
+use Rattle.bus_due.specs.bus_dialogue.specs.Exchange.{bytes_of_messages}
+use Rattle.bus_due.specs.bus_dialogue.specs.declared.exchange.Messages.{Messages}
+use Rattle.bus_due.specs.bus_dialogue.specs.declared.exchange.Next.{Next}
 use Rattle.bus_due.specs.RunState.{RunState, bus_of}
-use Rattle.bus_story.specs.HistoryEvents.{is_complete}
-use Rattle.bus_story.specs.Items.{Item, abort, has_item, process}
-use Rattle.bus_story.specs.Links.{LastMessage, Link, abortive, complete, disconnect, plain}
-use Rattle.bus_trace.specs.LineSet.{LineSet}
-use Rattle.bus_trace.specs.Phases.{is_message_in, is_message_out}
-use Rattle.bus_trace.specs.declared.connection.Connection.{Connection}
-use Rattle.disk_array.specs.Processes.{Process, process_of}
-use Rattle.disk_array.specs.Order.{tag_number}
-use Rattle.msg_grammar.specs.declared.message.MsgIn.{MsgIn}
-use Rattle.scenario.specs.Value.{ScenarioValue}
-use Rattle.bus_dialogue.specs.declared.exchange.Next.TheVariants as nexts
-use Rattle.msg_grammar.specs.declared.message.MsgIn.TheVariants as to_initiator
+use Rattle.bus_due.specs.bus_story.specs.HistoryEvents.{is_complete}
+use Rattle.bus_due.specs.bus_story.specs.Items.{Item, abort, has_item, process}
+use Rattle.bus_due.specs.bus_story.specs.Links.{LastMessage, Link, abortive, complete, disconnect, plain}
+use Rattle.bus_due.specs.bus_trace.specs.LineSet.{LineSet}
+use Rattle.bus_due.specs.bus_trace.specs.Phases.{is_message_in, is_message_out}
+use Rattle.bus_due.specs.bus_trace.specs.declared.connection.Connection.{Connection}
+use Rattle.bus_due.specs.disk_array.specs.Processes.{Process, process_of}
+use Rattle.bus_due.specs.disk_array.specs.Order.{tag_number}
+use Rattle.bus_due.specs.msg_grammar.specs.declared.message.MsgIn.{MsgIn}
+use Rattle.bus_due.specs.scenario.specs.Value.{ScenarioValue}
+use Rattle.bus_due.specs.bus_dialogue.specs.declared.exchange.Next.TheVariants as nexts
+use Rattle.bus_due.specs.msg_grammar.specs.declared.message.MsgIn.TheVariants as to_initiator
 
 abbrev pub is_complete_in : Option MsgIn → Bool
 is_complete_in (Some to_initiator.CommandComplete) = true

@@ -32,3 +32,9 @@ pub mod RunsWhole
 pub mod ClearFacts
 pub mod Statuses
 pub mod RunsLeft
+-- Handed on to the crates above that list this one and not these.
+pub use Rattle.target_units.specs.scsi_device
+pub use Rattle.target_units
+pub use Rattle.bus_books
+pub use Rattle.link_laws.specs.bus_laws
+pub use Rattle.link_laws

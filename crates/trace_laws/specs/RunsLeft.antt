@@ -1,12 +1,12 @@
 -- A process that writes, and has no reply, has a data run left, or has made none (6.6.6, 7.3).
 use Rattle.std.specs.Prelude.{ℕ, ◌≡◌, ◌⊎◌, ◌<◌, List, Some, None}
-use Rattle.bus_trace.specs.declared.Row.{Row}
-use Rattle.cdb_codec.specs.Cdb.{command_of}
-use Rattle.scenario.specs.Value.{ScenarioValue}
-use Rattle.disk_array.specs.ArrayHistory.{reply_in}
-use Rattle.disk_array.specs.Order.{range_in}
-use Rattle.disk_array.specs.Processes.{Process, process_of}
-use Rattle.bus_dialogue.specs.DataRuns.{runs_in}
+use Rattle.bus_due.specs.bus_trace.specs.declared.Row.{Row}
+use Rattle.bus_due.specs.cdb_codec.specs.Cdb.{command_of}
+use Rattle.bus_due.specs.scenario.specs.Value.{ScenarioValue}
+use Rattle.bus_due.specs.disk_array.specs.ArrayHistory.{reply_in}
+use Rattle.bus_due.specs.disk_array.specs.Order.{range_in}
+use Rattle.bus_due.specs.disk_array.specs.Processes.{Process, process_of}
+use Rattle.bus_due.specs.bus_dialogue.specs.DataRuns.{runs_in}
 use Rattle.bus_due.specs.LastingState.{progress_in}
 use Rattle.bus_due.specs.RunState.{array_of}
 use Rattle.bus_due.specs.RunSteps.{run_state}

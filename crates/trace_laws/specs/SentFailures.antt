@@ -1,18 +1,18 @@
 -- In DATA IN: the requests that wait for ACK, and the code of the failure of the process that is served. It fails where ATN is true, or a
 -- struck byte waits for the ACK with which the initiator raises it (6.1.5.1, 6.1.5.2, 6.2.1, 6.6.10).
 use Rattle.std.specs.Prelude.{◌≡◌, Bool, true, false, ◌||◌, ◌==◌, List, [], ◌∷◌, Some, is_some}
-use Rattle.bus_base.specs.declared.ProcId.{ProcId}
-use Rattle.bus_trace.specs.declared.Row.{Row}
-use Rattle.bus_trace.specs.declared.connection.Connection.{Connection}
-use Rattle.bus_trace.specs.Terms.{connection, receiver}
-use Rattle.bus_trace.specs.Trace.{bus}
-use Rattle.bus_lines.specs.Handshakes.{Handshakes, handshakes, first_of}
-use Rattle.cdb_codec.specs.declared.sense.TheConstants.{INITIATOR_DETECTED_ERROR}
-use Rattle.scenario.specs.Value.{ScenarioValue}
-use Rattle.bus_story.specs.Items.{process}
-use Rattle.bus_dialogue.specs.declared.exchange.Phase.TheVariants as phases
-use Rattle.bus_dialogue.specs.Hearing.{begun}
-use Rattle.bus_dialogue.specs.NextPhase.{phase_of}
+use Rattle.bus_due.specs.bus_base.specs.declared.ProcId.{ProcId}
+use Rattle.bus_due.specs.bus_trace.specs.declared.Row.{Row}
+use Rattle.bus_due.specs.bus_trace.specs.declared.connection.Connection.{Connection}
+use Rattle.bus_due.specs.bus_trace.specs.Terms.{connection, receiver}
+use Rattle.bus_due.specs.bus_trace.specs.Trace.{bus}
+use Rattle.bus_due.specs.bus_lines.specs.Handshakes.{Handshakes, handshakes, first_of}
+use Rattle.bus_due.specs.cdb_codec.specs.declared.sense.TheConstants.{INITIATOR_DETECTED_ERROR}
+use Rattle.bus_due.specs.scenario.specs.Value.{ScenarioValue}
+use Rattle.bus_due.specs.bus_story.specs.Items.{process}
+use Rattle.bus_due.specs.bus_dialogue.specs.declared.exchange.Phase.TheVariants as phases
+use Rattle.bus_due.specs.bus_dialogue.specs.Hearing.{begun}
+use Rattle.bus_due.specs.bus_dialogue.specs.NextPhase.{phase_of}
 use Rattle.bus_due.specs.RunState.{carried_here}
 use Rattle.bus_due.specs.RunSteps.{run_state}
 use Rattle.trace_laws.specs.Complaints.{any_struck}

@@ -1,7 +1,7 @@
 -- What holds after any rows of a prompt trace, by which its ends show the events that the rows show.
 use Rattle.std.specs.Prelude.{List}
-use Rattle.bus_trace.specs.declared.Row.{Row}
-use Rattle.scenario.specs.Value.{ScenarioValue}
+use Rattle.bus_due.specs.bus_trace.specs.declared.Row.{Row}
+use Rattle.bus_due.specs.scenario.specs.Value.{ScenarioValue}
 use Rattle.trace_laws.specs.DataPointers.{is_marked}
 use Rattle.trace_laws.specs.ItemFacts.{ItemFacts}
 use Rattle.trace_laws.specs.LastTalks.{LastFacts}

@@ -12,3 +12,6 @@ pub use laws::{
     connections_are_of_the_scenario, ends_know_what_rows_tell, limits_are_kept,
     prompt_traces_are_lawful, prompt_traces_keep_the_books,
 };
+
+// Handed on to the crates above that list this one and not these.
+pub use bus_books as the_bus_books;

@@ -5,7 +5,7 @@ use Rattle.std.specs.Fmt.{digits}
 use Rattle.bus_trace.specs.LineSet.{set_of}
 use Rattle.bus_trace.specs.declared.Kind.TheVariants.{Drives, Fault}
 use Rattle.bus_base.specs.declared.Event.TheVariants.{Accept, End}
-use Rattle.initiator.specs.declared.outcome.Outcome.TheVariants.{Good}
+use Rattle.run_record.specs.declared.outcome.Outcome.TheVariants.{Good}
 use Rattle.run_record.specs.Value.{RunValue}
 use Rattle.text_words.specs.Words.{after, number_at}
 use Rattle.trace_text.specs.ReportText.{report_text}

@@ -2,8 +2,8 @@
 use Rattle.std.specs.Prelude.{ℕ, ◌+◌, List, [], ◌∷◌, ◌++◌, Option, Some, None, codes, decimal}
 use Rattle.text_words.specs.Spelling.{byte_text, hex_text}
 use Rattle.cdb_codec.specs.declared.Sense.{Sense}
-use Rattle.initiator.specs.declared.outcome.Outcome.{Outcome}
-use Rattle.initiator.specs.declared.outcome.Outcome.TheVariants as outcomes
+use Rattle.run_record.specs.declared.outcome.Outcome.{Outcome}
+use Rattle.run_record.specs.declared.outcome.Outcome.TheVariants as outcomes
 
 -- the bytes that came in, if any did
 abbrev pub bytes_text : List ℕ → List ℕ

@@ -1,8 +1,8 @@
 -- The short report of a run: how many rows it has, its end, and how many commands ended in each way.
 use Rattle.std.specs.Prelude.{ℕ, Bool, true, false, List, [], ◌∷◌, ◌++◌, length, codes, decimal, count_by}
 use Rattle.run_record.specs.Value.{RunValue}
-use Rattle.initiator.specs.declared.outcome.Outcome.{Outcome}
-use Rattle.initiator.specs.declared.outcome.Outcome.TheVariants as outcomes
+use Rattle.run_record.specs.declared.outcome.Outcome.{Outcome}
+use Rattle.run_record.specs.declared.outcome.Outcome.TheVariants as outcomes
 use Rattle.trace_text.specs.declared.short_form.Ending.{Ending}
 use Rattle.trace_text.specs.declared.short_form.Ending.TheVariants as endings
 

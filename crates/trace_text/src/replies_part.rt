@@ -4,7 +4,7 @@ ghost use Rattle.text_pages.specs.Pages.{Prints};
 
 use bus_base::Sink;
 use cdb_codec::Sense;
-use initiator::Outcome;
+use run_record::Outcome;
 use text_pages::{Page, put, put_byte, put_hex, put_spaced};
 
 // The bytes that came in, if any did.

@@ -6,8 +6,7 @@ ghost use Rattle.trace_text.specs.ShortText.{has_ended, count_text, ending_text,
 ghost use Rattle.text_pages.specs.Pages.{Prints};
 
 use bus_base::{Failed, Sink};
-use initiator::Outcome;
-use run_record::Run;
+use run_record::{Outcome, Run};
 use text_pages::{Page, flush, is_failed, new_page, put, put_number};
 
 /// How a command ended, without what came with it.

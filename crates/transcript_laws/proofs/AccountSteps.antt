@@ -2,12 +2,12 @@
 use Rattle.std.proofs.Common.{ℕ, zero, suc, ◌≡◌, ◌∙◌, Bool, true, false, not, ◌&&◌, ◌==◌, ◌+◌, List, [], ◌∷◌, ◌++◌, Some, refl, sym, ap, arith}
 use Rattle.std.specs.Prelude.{length, slice_set, nat_lt, if◌then◌else◌}
 use Rattle.std.proofs.lemmas.Bool.Decides.{nat_tests}
-use Rattle.msg_grammar.specs.declared.message.MsgIn.{MsgIn}
-use Rattle.msg_grammar.specs.declared.message.MsgIn.TheVariants as to_initiator
-use Rattle.msg_grammar.specs.declared.message.MsgOut.{MsgOut}
-use Rattle.bus_phases.specs.Half.{is_nil}
-use Rattle.bus_story.specs.CarriedBytes.{CarriedBytes, bytes_with, area_with, with_restored_pointers, carried_after_message}
-use Rattle.bus_story.specs.Story.{marked_refused, marked_shown}
+use Rattle.bus_due.specs.msg_grammar.specs.declared.message.MsgIn.{MsgIn}
+use Rattle.bus_due.specs.msg_grammar.specs.declared.message.MsgIn.TheVariants as to_initiator
+use Rattle.bus_due.specs.msg_grammar.specs.declared.message.MsgOut.{MsgOut}
+use Rattle.bus_due.specs.bus_phases.specs.Half.{is_nil}
+use Rattle.bus_due.specs.bus_story.specs.CarriedBytes.{CarriedBytes, bytes_with, area_with, with_restored_pointers, carried_after_message}
+use Rattle.bus_due.specs.bus_story.specs.Story.{marked_refused, marked_shown}
 use Rattle.bus_transcript.specs.declared.item.Item.{Item}
 use Rattle.bus_transcript.specs.declared.item.Item.TheVariants as items
 use Rattle.bus_transcript.specs.declared.part.Part.TheVariants as parts_of
@@ -15,7 +15,7 @@ use Rattle.bus_transcript.specs.declared.process.Process.{Process}
 use Rattle.bus_transcript.specs.Accounts.{AccountValue, with_item, with_block, with_cdb, is_whole, arrived, restored, account_after}
 use Rattle.transcript_laws.specs.Told.{first_byte, IsAccountOf}
 use Rattle.std.proofs.lemmas.Bool.{eqb-true}
-use Rattle.bus_base.proofs.Tests.{wrong, wrong', and_false, nothing_below, next_some}
+use Rattle.bus_due.specs.bus_base.proofs.Tests.{wrong, wrong', and_false, nothing_below, next_some}
 
 -- ---- what changes nothing of it
 

@@ -2,46 +2,46 @@
 -- phase; and a data phase is left with a byte at least (6.1.4, 6.1.5, 6.6.7).
 use Rattle.std.proofs.Common.{ℕ, ◌≡◌, ◌∙◌, ◌⊎◌, inl, inr, ◌≤◌, ◌-◌, arith, Bool, true, false, not, ◌&&◌, ◌==◌, ◌%◌, List, [], ◌∷◌, ◌++◌, Option, Some, None, refl, sym, ap, subst}
 use Rattle.std.specs.Prelude.{is_some, if◌then◌else◌}
-use Rattle.bus_base.specs.Faults.{counted_on}
-use Rattle.bus_trace.specs.LineSet.{LineSet}
-use Rattle.bus_trace.specs.Changes.{change_of, rises}
-use Rattle.bus_trace.specs.Phases.{changes_phase, is_command, is_data, is_message_in, is_message_out}
-use Rattle.bus_trace.specs.Terms.{is_fault, receiver_in}
-use Rattle.bus_trace.specs.declared.changes.Change.{Change}
-use Rattle.bus_trace.specs.declared.connection.Connection.{Connection}
-use Rattle.bus_trace.specs.declared.rows.Row.{Row}
-use Rattle.bus_lines.specs.Handshakes.{Handshakes}
-use Rattle.msg_grammar.specs.declared.message.MsgIn.{MsgIn}
-use Rattle.bus_phases.specs.Half.{is_nil}
-use Rattle.scenario.specs.Value.{ScenarioValue}
-use Rattle.bus_story.specs.BusState.{message_in, message_out}
-use Rattle.bus_story.specs.CarriedBytes.{is_status_phase}
-use Rattle.bus_story.specs.Links.{Link}
-use Rattle.bus_dialogue.specs.declared.exchange.Cause.{Cause}
-use Rattle.bus_dialogue.specs.declared.exchange.Cause.TheVariants as causes
-use Rattle.bus_dialogue.specs.declared.exchange.Leaving.{Leaving}
-use Rattle.bus_dialogue.specs.declared.exchange.Messages.{Messages}
-use Rattle.bus_dialogue.specs.declared.exchange.Phase.{Phase}
-use Rattle.bus_dialogue.specs.declared.exchange.Phase.TheVariants as phases
-use Rattle.bus_dialogue.specs.declared.exchange.Task.{Task}
-use Rattle.bus_dialogue.specs.Arrivals.{policy_of}
-use Rattle.bus_dialogue.specs.DataRuns.{run_length}
-use Rattle.bus_dialogue.specs.Exchange.{Exchange, bytes_of_messages, from_byte, plan_anew}
-use Rattle.bus_dialogue.specs.NextPhase.{Serving, phase_of, phase_entry, with_task, recovery, bus_free, message_repetition, after_refusal, message_out_leaving, phase_leaving, leaving_by}
-use Rattle.bus_dialogue.specs.PhaseBytes.{run_length_if}
-use Rattle.bus_dialogue.specs.Planning.{plan_in_message_out}
-use Rattle.bus_dialogue.specs.Words.{is_naming}
+use Rattle.bus_due.specs.bus_base.specs.Faults.{counted_on}
+use Rattle.bus_due.specs.bus_trace.specs.LineSet.{LineSet}
+use Rattle.bus_due.specs.bus_trace.specs.Changes.{change_of, rises}
+use Rattle.bus_due.specs.bus_trace.specs.Phases.{changes_phase, is_command, is_data, is_message_in, is_message_out}
+use Rattle.bus_due.specs.bus_trace.specs.Terms.{is_fault, receiver_in}
+use Rattle.bus_due.specs.bus_trace.specs.declared.changes.Change.{Change}
+use Rattle.bus_due.specs.bus_trace.specs.declared.connection.Connection.{Connection}
+use Rattle.bus_due.specs.bus_trace.specs.declared.rows.Row.{Row}
+use Rattle.bus_due.specs.bus_lines.specs.Handshakes.{Handshakes}
+use Rattle.bus_due.specs.msg_grammar.specs.declared.message.MsgIn.{MsgIn}
+use Rattle.bus_due.specs.bus_phases.specs.Half.{is_nil}
+use Rattle.bus_due.specs.scenario.specs.Value.{ScenarioValue}
+use Rattle.bus_due.specs.bus_story.specs.BusState.{message_in, message_out}
+use Rattle.bus_due.specs.bus_story.specs.CarriedBytes.{is_status_phase}
+use Rattle.bus_due.specs.bus_story.specs.Links.{Link}
+use Rattle.bus_due.specs.bus_dialogue.specs.declared.exchange.Cause.{Cause}
+use Rattle.bus_due.specs.bus_dialogue.specs.declared.exchange.Cause.TheVariants as causes
+use Rattle.bus_due.specs.bus_dialogue.specs.declared.exchange.Leaving.{Leaving}
+use Rattle.bus_due.specs.bus_dialogue.specs.declared.exchange.Messages.{Messages}
+use Rattle.bus_due.specs.bus_dialogue.specs.declared.exchange.Phase.{Phase}
+use Rattle.bus_due.specs.bus_dialogue.specs.declared.exchange.Phase.TheVariants as phases
+use Rattle.bus_due.specs.bus_dialogue.specs.declared.exchange.Task.{Task}
+use Rattle.bus_due.specs.bus_dialogue.specs.Arrivals.{policy_of}
+use Rattle.bus_due.specs.bus_dialogue.specs.DataRuns.{run_length}
+use Rattle.bus_due.specs.bus_dialogue.specs.Exchange.{Exchange, bytes_of_messages, from_byte, plan_anew}
+use Rattle.bus_due.specs.bus_dialogue.specs.NextPhase.{Serving, phase_of, phase_entry, with_task, recovery, bus_free, message_repetition, after_refusal, message_out_leaving, phase_leaving, leaving_by}
+use Rattle.bus_due.specs.bus_dialogue.specs.PhaseBytes.{run_length_if}
+use Rattle.bus_due.specs.bus_dialogue.specs.Planning.{plan_in_message_out}
+use Rattle.bus_due.specs.bus_dialogue.specs.Words.{is_naming}
 use Rattle.bus_due.specs.Defs.{target_def_of}
 use Rattle.bus_due.specs.RunState.{RunState, bus_of, item_of, process_item, process_served}
 use Rattle.bus_due.specs.RunSteps.{run_state}
 use Rattle.bus_due.specs.Sights.{hearing_of, leaving, serving_of}
 use Rattle.bus_due.specs.Tasks.{task_if, task_of}
 use Rattle.bus_due.specs.Plain.{IsPlain}
-use Rattle.bus_books.specs.Giving.{AreGiven, OnMessage, OnMessages}
-use Rattle.bus_books.specs.Knowing.{IsNoName}
-use Rattle.bus_books.specs.Rows.{reading_in}
-use Rattle.bus_books.proofs.InConnection.{InConnection, in_connection, SamePhase}
-use Rattle.link_laws.specs.Pulses.{run_count}
+use Rattle.trace_laws.specs.bus_books.specs.Giving.{AreGiven, OnMessage, OnMessages}
+use Rattle.trace_laws.specs.bus_books.specs.Knowing.{IsNoName}
+use Rattle.trace_laws.specs.bus_books.specs.Rows.{reading_in}
+use Rattle.trace_laws.specs.bus_books.proofs.InConnection.{InConnection, in_connection, SamePhase}
+use Rattle.trace_laws.specs.link_laws.specs.Pulses.{run_count}
 use Rattle.bus_transcript.specs.declared.part.Part.{Part}
 use Rattle.bus_transcript.specs.declared.part.Part.TheVariants as parts_of
 use Rattle.bus_transcript.specs.Opened.{OpenedValue, data_parts, phase_parts, phase_over, phase_entered}
@@ -52,7 +52,7 @@ use Rattle.trace_laws.proofs.NamedBytes.{names_first, names_left}
 use Rattle.trace_laws.proofs.PhaseLines.{in_phase, out_in, out_phase}
 use Rattle.trace_laws.proofs.RunAsks.{answers_all, out_phase as data_out_phase}
 use Rattle.trace_laws.proofs.RunFacts.{task_here}
-use Rattle.bus_books.proofs.Gives.{not_both}
+use Rattle.trace_laws.specs.bus_books.proofs.Gives.{not_both}
 use Rattle.trace_laws.proofs.TellFacts.{front_length}
 use Rattle.transcript_laws.specs.Parts.{are_talk, base_parts, parts_now}
 use Rattle.transcript_laws.proofs.BaseParts.{base_turned}
@@ -64,7 +64,7 @@ use Rattle.transcript_laws.proofs.PartLists.{broken_parts}
 use Rattle.transcript_laws.proofs.SaidNames.{same_cause}
 use Rattle.transcript_laws.proofs.StatusTalk.{stays_more, starts_item, same_messages}
 use Rattle.transcript_laws.proofs.TalkNamed.{talk_more}
-use Rattle.bus_base.proofs.Tests.{wrong, wrong', and_false, zero_of}
+use Rattle.bus_due.specs.bus_base.proofs.Tests.{wrong, wrong', and_false, zero_of}
 
 -- How many bytes have crossed in a data phase of these lines.
 abbrev pub crossed_bytes : LineSet → Handshakes → ℕ

@@ -2,24 +2,24 @@
 use Rattle.std.proofs.Common.{ℕ, ◌≡◌, ◌∙◌, ◌==◌, Bool, true, false, not, ◌&&◌, List, ◌∷◌, Option, Some, None, refl, sym, ap}
 use Rattle.std.specs.List.{list_any}
 use Rattle.std.proofs.lemmas.Bool.{eqb-true}
-use Rattle.bus_base.specs.declared.ProcId.{ProcId}
-use Rattle.bus_trace.specs.Terms.{connection}
-use Rattle.bus_trace.specs.declared.connection.Connection.{Connection}
-use Rattle.bus_trace.specs.declared.rows.Row.{Row}
-use Rattle.scenario.specs.declared.value.CmdDef.{CmdDef}
-use Rattle.scenario.specs.Value.{ScenarioValue}
-use Rattle.scenario.specs.Writing.{Obeys}
-use Rattle.disk_array.specs.Processes.{Process, command_at, process_by, process_if, process_of}
-use Rattle.disk_array.specs.Order.{same_number, tag_number}
-use Rattle.bus_story.specs.Items.{Item, Sent, process, abort, command_item, sense_item, is_tag_clash, is_clash, is_done, sense_id, command_id}
-use Rattle.bus_story.specs.Links.{is_open_sense}
-use Rattle.bus_story.specs.Story.{Story}
-use Rattle.bus_story.specs.TraceHistory.{aim_of}
+use Rattle.bus_due.specs.bus_base.specs.declared.ProcId.{ProcId}
+use Rattle.bus_due.specs.bus_trace.specs.Terms.{connection}
+use Rattle.bus_due.specs.bus_trace.specs.declared.connection.Connection.{Connection}
+use Rattle.bus_due.specs.bus_trace.specs.declared.rows.Row.{Row}
+use Rattle.bus_due.specs.scenario.specs.declared.value.CmdDef.{CmdDef}
+use Rattle.bus_due.specs.scenario.specs.Value.{ScenarioValue}
+use Rattle.bus_due.specs.scenario.specs.Writing.{Obeys}
+use Rattle.bus_due.specs.disk_array.specs.Processes.{Process, command_at, process_by, process_if, process_of}
+use Rattle.bus_due.specs.disk_array.specs.Order.{same_number, tag_number}
+use Rattle.bus_due.specs.bus_story.specs.Items.{Item, Sent, process, abort, command_item, sense_item, is_tag_clash, is_clash, is_done, sense_id, command_id}
+use Rattle.bus_due.specs.bus_story.specs.Links.{is_open_sense}
+use Rattle.bus_due.specs.bus_story.specs.Story.{Story}
+use Rattle.bus_due.specs.bus_story.specs.TraceHistory.{aim_of}
 use Rattle.bus_due.specs.Next.{IsPrompt}
 use Rattle.bus_due.specs.RunState.{RunState}
 use Rattle.bus_due.specs.RunSteps.{run_state}
 use Rattle.bus_due.proofs.Plains.{run_state_plain}
-use Rattle.bus_books.specs.Accounts.{is_open_in}
+use Rattle.trace_laws.specs.bus_books.specs.Accounts.{is_open_in}
 use Rattle.trace_laws.specs.ItemFacts.{IsNext, is_abort, is_sense, is_command}
 use Rattle.trace_laws.proofs.FreshItems.{calm_before, items_fresh}
 use Rattle.trace_laws.proofs.ItemFacts.{aimed_next}
@@ -30,7 +30,7 @@ use Rattle.transcript_laws.specs.Parts.{nexus_of, is_of}
 use Rattle.transcript_laws.specs.RowTests.{shares_nexus, is_alone}
 use Rattle.transcript_laws.proofs.DueSenses.{SensesAlone, senses_alone}
 use Rattle.transcript_laws.proofs.SentProcesses.{none_any}
-use Rattle.bus_base.proofs.Tests.{wrong, wrong', and_first, and_second, eq_self}
+use Rattle.bus_due.specs.bus_base.proofs.Tests.{wrong, wrong', and_first, and_second, eq_self}
 
 -- ---- commands of one nexus clash
 

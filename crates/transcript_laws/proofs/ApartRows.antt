@@ -2,21 +2,21 @@
 use Rattle.std.proofs.Common.{◌≡◌, ◌∙◌, Bool, true, false, List, [], ◌∷◌, ◌++◌, reverse, Option, Some, None, refl, sym, ap, subst}
 use Rattle.std.specs.Prelude.{if◌then◌else◌}
 use Rattle.std.proofs.lemmas.List.{append-nil}
-use Rattle.bus_base.specs.declared.Event.{Event}
-use Rattle.bus_base.specs.declared.Event.TheVariants as events
-use Rattle.bus_base.specs.declared.ProcId.{ProcId}
-use Rattle.bus_trace.specs.Changes.{rises}
-use Rattle.bus_trace.specs.declared.connection.Connection.{Connection}
-use Rattle.bus_trace.specs.declared.rows.Row.{Row}
-use Rattle.scenario.specs.Value.{ScenarioValue}
-use Rattle.bus_story.specs.BusState.{RowReading, row_reading, bus_state_after}
-use Rattle.bus_story.specs.CarriedBytes.{CarriedBytes, carried_of}
-use Rattle.bus_story.specs.HistoryEvents.{link_events}
-use Rattle.bus_story.specs.Items.{Item}
-use Rattle.bus_story.specs.Links.{Link}
-use Rattle.bus_story.specs.Story.{Story, by_reset, story_after_events}
-use Rattle.bus_story.specs.TraceHistory.{story_in_connection, story_on_bus, story_with_history, story_with, story_by, story}
-use Rattle.bus_story.proofs.StorySteps.{ends_keep}
+use Rattle.bus_due.specs.bus_base.specs.declared.Event.{Event}
+use Rattle.bus_due.specs.bus_base.specs.declared.Event.TheVariants as events
+use Rattle.bus_due.specs.bus_base.specs.declared.ProcId.{ProcId}
+use Rattle.bus_due.specs.bus_trace.specs.Changes.{rises}
+use Rattle.bus_due.specs.bus_trace.specs.declared.connection.Connection.{Connection}
+use Rattle.bus_due.specs.bus_trace.specs.declared.rows.Row.{Row}
+use Rattle.bus_due.specs.scenario.specs.Value.{ScenarioValue}
+use Rattle.bus_due.specs.bus_story.specs.BusState.{RowReading, row_reading, bus_state_after}
+use Rattle.bus_due.specs.bus_story.specs.CarriedBytes.{CarriedBytes, carried_of}
+use Rattle.bus_due.specs.bus_story.specs.HistoryEvents.{link_events}
+use Rattle.bus_due.specs.bus_story.specs.Items.{Item}
+use Rattle.bus_due.specs.bus_story.specs.Links.{Link}
+use Rattle.bus_due.specs.bus_story.specs.Story.{Story, by_reset, story_after_events}
+use Rattle.bus_due.specs.bus_story.specs.TraceHistory.{story_in_connection, story_on_bus, story_with_history, story_with, story_by, story}
+use Rattle.bus_due.specs.bus_story.proofs.StorySteps.{ends_keep}
 use Rattle.trace_laws.proofs.OverItems.{Grows, grows_same, events_grow}
 use Rattle.bus_transcript.specs.declared.item.Item as item_of
 use Rattle.bus_transcript.specs.declared.item.Item.TheVariants as items

@@ -1,21 +1,21 @@
 -- The bus of a transcript is that of the story, but for the agreements.
 use Rattle.std.proofs.Common.{ℕ, ◌≡◌, ◌∙◌, Bool, true, false, List, [], ◌∷◌, ◌++◌, Option, Some, None, refl, sym, ap}
 use Rattle.std.specs.Prelude.{◌%◌, not, is_some, slice_set, if◌then◌else◌}
-use Rattle.bus_trace.specs.Phases.{is_command, is_message_out, is_message_in, changes_phase}
-use Rattle.bus_trace.specs.Terms.{call_after, connection_after, receiver_of}
-use Rattle.bus_trace.specs.declared.agreements.Agreement.{Agreement}
-use Rattle.bus_trace.specs.declared.changes.Change.{Change}
-use Rattle.bus_trace.specs.declared.connection.Connection.{Connection}
-use Rattle.bus_trace.specs.declared.rows.Row.{Row}
-use Rattle.msg_grammar.specs.Messages.{got_out, got_in}
-use Rattle.bus_phases.specs.declared.dialogue.Dialogue.{Dialogue}
-use Rattle.bus_phases.specs.Dialogue.{opened, asynchronous, fresh_bytes, byte_out, byte_in, byte_else, heard_with_command, byte_crosses, phase_begins, dialogue_after}
-use Rattle.bus_phases.specs.Half.{left_of}
-use Rattle.scenario.specs.Value.{ScenarioValue}
-use Rattle.bus_story.specs.BusState.{BusState, RowReading, change_by, row_reading, whole_out, whole_in, message_out, message_in}
-use Rattle.bus_story.specs.PairAgreements.{agreement_in}
-use Rattle.bus_story.specs.Story.{Story}
-use Rattle.bus_story.specs.TraceHistory.{story}
+use Rattle.bus_due.specs.bus_trace.specs.Phases.{is_command, is_message_out, is_message_in, changes_phase}
+use Rattle.bus_due.specs.bus_trace.specs.Terms.{call_after, connection_after, receiver_of}
+use Rattle.bus_due.specs.bus_trace.specs.declared.agreements.Agreement.{Agreement}
+use Rattle.bus_due.specs.bus_trace.specs.declared.changes.Change.{Change}
+use Rattle.bus_due.specs.bus_trace.specs.declared.connection.Connection.{Connection}
+use Rattle.bus_due.specs.bus_trace.specs.declared.rows.Row.{Row}
+use Rattle.bus_due.specs.msg_grammar.specs.Messages.{got_out, got_in}
+use Rattle.bus_due.specs.bus_phases.specs.declared.dialogue.Dialogue.{Dialogue}
+use Rattle.bus_due.specs.bus_phases.specs.Dialogue.{opened, asynchronous, fresh_bytes, byte_out, byte_in, byte_else, heard_with_command, byte_crosses, phase_begins, dialogue_after}
+use Rattle.bus_due.specs.bus_phases.specs.Half.{left_of}
+use Rattle.bus_due.specs.scenario.specs.Value.{ScenarioValue}
+use Rattle.bus_due.specs.bus_story.specs.BusState.{BusState, RowReading, change_by, row_reading, whole_out, whole_in, message_out, message_in}
+use Rattle.bus_due.specs.bus_story.specs.PairAgreements.{agreement_in}
+use Rattle.bus_due.specs.bus_story.specs.Story.{Story}
+use Rattle.bus_due.specs.bus_story.specs.TraceHistory.{story}
 use Rattle.bus_transcript.specs.Rows.{TranscriberValue, by_change, transcribed}
 use Rattle.bus_transcript.proofs.Resets.{change_same, row_bus}
 

@@ -1,30 +1,30 @@
 -- A row changes what the process of the link carries, and nothing of another.
 use Rattle.std.proofs.Common.{ℕ, ◌≡◌, ◌∙◌, Bool, true, false, List, [], ◌∷◌, ◌++◌, Option, Some, None, refl, sym, ap, subst}
 use Rattle.std.specs.Prelude.{◌%◌, if◌then◌else◌}
-use Rattle.bus_base.specs.declared.Event.{Event}
-use Rattle.bus_base.specs.declared.ProcId.{ProcId}
-use Rattle.bus_trace.specs.LineSet.{LineSet}
-use Rattle.bus_trace.specs.Phases.{is_command, is_data}
-use Rattle.bus_trace.specs.declared.changes.Change.{Change}
-use Rattle.cdb_codec.specs.declared.sense.TheConstants.{PARITY_ERROR, INITIATOR_DETECTED_ERROR}
-use Rattle.msg_grammar.specs.declared.message.MsgIn.{MsgIn}
-use Rattle.msg_grammar.specs.declared.message.MsgIn.TheVariants as to_initiator
-use Rattle.disk_array.specs.Processes.{same_id}
-use Rattle.bus_story.specs.BusState.{RowReading}
-use Rattle.bus_story.specs.CarriedBytes.{CarriedBytes, area_with, carried_of, with_carried, with_restored_pointers, carried_after_message, carried_after_byte, carried_after_fault, is_status_phase}
-use Rattle.bus_story.specs.HistoryEvents.{carried_if}
-use Rattle.bus_story.specs.Items.{Item, process, abort}
-use Rattle.bus_story.specs.Story.{Story}
-use Rattle.bus_story.specs.TraceHistory.{story_with_carried, story_with_restored, carried_after_message_if, carried_after_byte_if, carried_after_fault_if}
-use Rattle.bus_story.proofs.CarriedLists.{carried_id}
-use Rattle.bus_books.proofs.Lookups.{put_own, put_other}
-use Rattle.bus_books.proofs.Areas.{with_command_byte}
+use Rattle.bus_due.specs.bus_base.specs.declared.Event.{Event}
+use Rattle.bus_due.specs.bus_base.specs.declared.ProcId.{ProcId}
+use Rattle.bus_due.specs.bus_trace.specs.LineSet.{LineSet}
+use Rattle.bus_due.specs.bus_trace.specs.Phases.{is_command, is_data}
+use Rattle.bus_due.specs.bus_trace.specs.declared.changes.Change.{Change}
+use Rattle.bus_due.specs.cdb_codec.specs.declared.sense.TheConstants.{PARITY_ERROR, INITIATOR_DETECTED_ERROR}
+use Rattle.bus_due.specs.msg_grammar.specs.declared.message.MsgIn.{MsgIn}
+use Rattle.bus_due.specs.msg_grammar.specs.declared.message.MsgIn.TheVariants as to_initiator
+use Rattle.bus_due.specs.disk_array.specs.Processes.{same_id}
+use Rattle.bus_due.specs.bus_story.specs.BusState.{RowReading}
+use Rattle.bus_due.specs.bus_story.specs.CarriedBytes.{CarriedBytes, area_with, carried_of, with_carried, with_restored_pointers, carried_after_message, carried_after_byte, carried_after_fault, is_status_phase}
+use Rattle.bus_due.specs.bus_story.specs.HistoryEvents.{carried_if}
+use Rattle.bus_due.specs.bus_story.specs.Items.{Item, process, abort}
+use Rattle.bus_due.specs.bus_story.specs.Story.{Story}
+use Rattle.bus_due.specs.bus_story.specs.TraceHistory.{story_with_carried, story_with_restored, carried_after_message_if, carried_after_byte_if, carried_after_fault_if}
+use Rattle.bus_due.specs.bus_story.proofs.CarriedLists.{carried_id}
+use Rattle.trace_laws.specs.bus_books.proofs.Lookups.{put_own, put_other}
+use Rattle.trace_laws.specs.bus_books.proofs.Areas.{with_command_byte}
 use Rattle.transcript_laws.specs.Serving.{IsBlank}
 use Rattle.transcript_laws.specs.Standing.{AreAlike}
 use Rattle.transcript_laws.specs.Told.{has_refusal, has_answer, IsMarked}
 use Rattle.transcript_laws.proofs.OpenProcesses.{alike_self, alike_put, put_each}
-use Rattle.bus_base.proofs.Tests.{wrong'}
-use Rattle.target_units.proofs.LiveQueue.{id_turned}
+use Rattle.bus_due.specs.bus_base.proofs.Tests.{wrong'}
+use Rattle.trace_laws.specs.target_units.proofs.LiveQueue.{id_turned}
 
 -- ---- one process
 

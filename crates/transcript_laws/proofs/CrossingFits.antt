@@ -3,42 +3,42 @@
 use Rattle.std.proofs.Common.{ℕ, ◌≡◌, ◌∙◌, ◌⊎◌, inl, inr, ◌<◌, Bool, true, false, not, ◌&&◌, ◌%◌, List, [], ◌∷◌, ◌++◌, length, Option, Some, None, refl, sym, ap, subst, arith}
 use Rattle.std.specs.Prelude.{◌||◌, is_some, is_none, if◌then◌else◌}
 use Rattle.std.proofs.lemmas.Option.{same_Some}
-use Rattle.bus_trace.specs.LineSet.{LineSet}
-use Rattle.bus_trace.specs.Changes.{rises}
-use Rattle.bus_trace.specs.Phases.{is_command, is_message_in, is_message_out}
-use Rattle.bus_trace.specs.Terms.{receiver_in}
-use Rattle.bus_trace.specs.declared.changes.Change.{Change}
-use Rattle.bus_trace.specs.declared.connection.Connection.{Connection}
-use Rattle.bus_trace.specs.declared.rows.Row.{Row}
-use Rattle.msg_grammar.specs.declared.message.MsgIn.{MsgIn}
-use Rattle.msg_grammar.specs.Messages.{got_in}
-use Rattle.scenario.specs.Value.{ScenarioValue}
-use Rattle.bus_story.specs.BusState.{RowReading, message_in, whole_in}
-use Rattle.bus_story.specs.HistoryEvents as story_of
-use Rattle.bus_story.specs.Items.{Item, process, abort}
-use Rattle.bus_story.specs.Links.{Link, link_after_name}
-use Rattle.bus_dialogue.specs.Exchange.{bytes_of_messages}
-use Rattle.bus_dialogue.specs.Words.{is_name}
+use Rattle.bus_due.specs.bus_trace.specs.LineSet.{LineSet}
+use Rattle.bus_due.specs.bus_trace.specs.Changes.{rises}
+use Rattle.bus_due.specs.bus_trace.specs.Phases.{is_command, is_message_in, is_message_out}
+use Rattle.bus_due.specs.bus_trace.specs.Terms.{receiver_in}
+use Rattle.bus_due.specs.bus_trace.specs.declared.changes.Change.{Change}
+use Rattle.bus_due.specs.bus_trace.specs.declared.connection.Connection.{Connection}
+use Rattle.bus_due.specs.bus_trace.specs.declared.rows.Row.{Row}
+use Rattle.bus_due.specs.msg_grammar.specs.declared.message.MsgIn.{MsgIn}
+use Rattle.bus_due.specs.msg_grammar.specs.Messages.{got_in}
+use Rattle.bus_due.specs.scenario.specs.Value.{ScenarioValue}
+use Rattle.bus_due.specs.bus_story.specs.BusState.{RowReading, message_in, whole_in}
+use Rattle.bus_due.specs.bus_story.specs.HistoryEvents as story_of
+use Rattle.bus_due.specs.bus_story.specs.Items.{Item, process, abort}
+use Rattle.bus_due.specs.bus_story.specs.Links.{Link, link_after_name}
+use Rattle.bus_due.specs.bus_dialogue.specs.Exchange.{bytes_of_messages}
+use Rattle.bus_due.specs.bus_dialogue.specs.Words.{is_name}
 use Rattle.bus_due.specs.RunState.{RunState, bus_of}
 use Rattle.bus_due.specs.RunSteps.{run_state}
-use Rattle.bus_books.specs.Giving.{OnMessage, OnMessages}
-use Rattle.bus_books.specs.Knowing.{Knows, IsNoName}
-use Rattle.bus_books.specs.RowTests.{same_item_if}
-use Rattle.bus_books.proofs.Hearable.{heard_next}
-use Rattle.bus_books.proofs.Knows.{nameless_item}
-use Rattle.bus_books.proofs.Lookups.{self_id}
+use Rattle.trace_laws.specs.bus_books.specs.Giving.{OnMessage, OnMessages}
+use Rattle.trace_laws.specs.bus_books.specs.Knowing.{Knows, IsNoName}
+use Rattle.trace_laws.specs.bus_books.specs.RowTests.{same_item_if}
+use Rattle.trace_laws.specs.bus_books.proofs.Hearable.{heard_next}
+use Rattle.trace_laws.specs.bus_books.proofs.Knows.{nameless_item}
+use Rattle.trace_laws.specs.bus_books.proofs.Lookups.{self_id}
 use Rattle.bus_transcript.specs.Opened.{OpenedValue}
 use Rattle.trace_laws.specs.ItemTalks.{TalksBy, IsTaken, talk_of}
 use Rattle.trace_laws.specs.Tells.{IsServed, of_process, of_abort}
 use Rattle.trace_laws.proofs.PhaseLines.{out_lines}
 use Rattle.trace_laws.proofs.TalkBytes.{on_message}
-use Rattle.bus_books.proofs.Gives.{not_both as not_both_ways}
+use Rattle.trace_laws.specs.bus_books.proofs.Gives.{not_both as not_both_ways}
 use Rattle.transcript_laws.specs.Parts.{are_talk, base_parts, is_known}
 use Rattle.transcript_laws.specs.RowTests.{names_item, fits_in, is_no_abort}
 use Rattle.transcript_laws.proofs.OpenedBytes.{OpenedBytes, crosses_is, begun_crossing}
 use Rattle.transcript_laws.proofs.OpenedFacts.{Going, knows_before}
 use Rattle.transcript_laws.proofs.TurnFits.{item_served, not_both}
-use Rattle.bus_base.proofs.Tests.{wrong, wrong', eq_self, second_false}
+use Rattle.bus_due.specs.bus_base.proofs.Tests.{wrong, wrong', eq_self, second_false}
 
 some_of : (o : Option ℕ) (dev : ℕ) → o ≡ Some dev → is_some o ≡ true
 some_of o dev e = ap (λ (x : Option ℕ). is_some x) e

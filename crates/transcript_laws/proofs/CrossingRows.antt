@@ -1,19 +1,19 @@
 -- A row in which a byte crosses: what it makes of the transcript and of the story.
 use Rattle.std.proofs.Common.{◌≡◌, ◌∙◌, Bool, true, false, List, [], ◌∷◌, ◌++◌, Some, None, refl, ap}
 use Rattle.std.specs.Prelude.{◌%◌, is_some, if◌then◌else◌}
-use Rattle.bus_trace.specs.Phases.{is_message_in, is_message_out, changes_phase}
-use Rattle.bus_trace.specs.declared.rows.Kind.{Kind}
-use Rattle.bus_trace.specs.declared.rows.Row.{Row}
-use Rattle.msg_grammar.specs.Messages.{got_out, got_in}
-use Rattle.msg_grammar.specs.declared.message.MsgIn.{MsgIn}
-use Rattle.msg_grammar.specs.declared.message.MsgOut.{MsgOut}
-use Rattle.bus_phases.specs.Dialogue.{fresh_bytes}
-use Rattle.scenario.specs.Value.{ScenarioValue}
-use Rattle.bus_story.specs.BusState.{BusState, RowReading, row_reading, message_out, message_in, whole_out, whole_in}
-use Rattle.bus_story.specs.HistoryEvents.{is_completion, carried_if, end_events, phase_events, connection_events}
-use Rattle.bus_story.specs.Links.{Link}
-use Rattle.bus_story.specs.Story.{Story}
-use Rattle.bus_story.specs.TraceHistory.{story_with_carried, carried_after_byte_if, story_after_byte, story_after_in, story_after_out, story_after_crossing, story_after_fault, story_in_connection, story}
+use Rattle.bus_due.specs.bus_trace.specs.Phases.{is_message_in, is_message_out, changes_phase}
+use Rattle.bus_due.specs.bus_trace.specs.declared.rows.Kind.{Kind}
+use Rattle.bus_due.specs.bus_trace.specs.declared.rows.Row.{Row}
+use Rattle.bus_due.specs.msg_grammar.specs.Messages.{got_out, got_in}
+use Rattle.bus_due.specs.msg_grammar.specs.declared.message.MsgIn.{MsgIn}
+use Rattle.bus_due.specs.msg_grammar.specs.declared.message.MsgOut.{MsgOut}
+use Rattle.bus_due.specs.bus_phases.specs.Dialogue.{fresh_bytes}
+use Rattle.bus_due.specs.scenario.specs.Value.{ScenarioValue}
+use Rattle.bus_due.specs.bus_story.specs.BusState.{BusState, RowReading, row_reading, message_out, message_in, whole_out, whole_in}
+use Rattle.bus_due.specs.bus_story.specs.HistoryEvents.{is_completion, carried_if, end_events, phase_events, connection_events}
+use Rattle.bus_due.specs.bus_story.specs.Links.{Link}
+use Rattle.bus_due.specs.bus_story.specs.Story.{Story}
+use Rattle.bus_due.specs.bus_story.specs.TraceHistory.{story_with_carried, carried_after_byte_if, story_after_byte, story_after_in, story_after_out, story_after_crossing, story_after_fault, story_in_connection, story}
 use Rattle.trace_laws.proofs.CommandMessages.{crossed_else}
 use Rattle.bus_transcript.specs.Opened.{OpenedValue, with_crossing, with_still_row, phase_over, phase_entered, with_row}
 use Rattle.bus_transcript.specs.Rows.{transcribed}

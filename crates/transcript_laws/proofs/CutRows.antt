@@ -3,25 +3,25 @@ use Rattle.std.proofs.Common.{ℕ, ◌≡◌, ◌∙◌, ◌<◌, Bool, true, fa
 use Rattle.std.specs.Prelude.{◌+◌, ◌==◌, is_none, if◌then◌else◌}
 use Rattle.std.specs.List.{list_any}
 use Rattle.std.proofs.lemmas.List.{append-nil}
-use Rattle.bus_base.specs.declared.Event.{Event}
-use Rattle.bus_base.specs.declared.Event.TheVariants as events
-use Rattle.bus_base.specs.declared.ProcId.{ProcId}
-use Rattle.bus_trace.specs.Changes.{rises}
-use Rattle.bus_trace.specs.LineSet.{LineSet}
-use Rattle.bus_trace.specs.Phases.{is_command, is_data, is_message_in}
-use Rattle.bus_trace.specs.declared.connection.Connection.{Connection}
-use Rattle.bus_trace.specs.declared.rows.Row.{Row}
-use Rattle.scenario.specs.declared.value.CmdDef.{CmdDef}
-use Rattle.scenario.specs.Value.{ScenarioValue}
-use Rattle.disk_array.specs.Processes as array_of
-use Rattle.bus_phases.specs.Half.{is_nil}
-use Rattle.bus_story.specs.BusState.{RowReading, row_reading, bus_state_after}
-use Rattle.bus_story.specs.CarriedBytes.{CarriedBytes, carried_of}
-use Rattle.bus_story.specs.HistoryEvents.{link_events}
-use Rattle.bus_story.specs.Items.{Item, process, Sent, same_item, has_item, sense_item, is_open}
-use Rattle.bus_story.specs.Story.{Story, Ending, by_reset, story_with_over, story_with_end, story_with_ends, story_after_events}
-use Rattle.bus_story.specs.TraceHistory.{story_on_bus, story_with_history, story_with, story_by, story}
-use Rattle.bus_story.proofs.StorySteps.{ends_keep, events_sent}
+use Rattle.bus_due.specs.bus_base.specs.declared.Event.{Event}
+use Rattle.bus_due.specs.bus_base.specs.declared.Event.TheVariants as events
+use Rattle.bus_due.specs.bus_base.specs.declared.ProcId.{ProcId}
+use Rattle.bus_due.specs.bus_trace.specs.Changes.{rises}
+use Rattle.bus_due.specs.bus_trace.specs.LineSet.{LineSet}
+use Rattle.bus_due.specs.bus_trace.specs.Phases.{is_command, is_data, is_message_in}
+use Rattle.bus_due.specs.bus_trace.specs.declared.connection.Connection.{Connection}
+use Rattle.bus_due.specs.bus_trace.specs.declared.rows.Row.{Row}
+use Rattle.bus_due.specs.scenario.specs.declared.value.CmdDef.{CmdDef}
+use Rattle.bus_due.specs.scenario.specs.Value.{ScenarioValue}
+use Rattle.bus_due.specs.disk_array.specs.Processes as array_of
+use Rattle.bus_due.specs.bus_phases.specs.Half.{is_nil}
+use Rattle.bus_due.specs.bus_story.specs.BusState.{RowReading, row_reading, bus_state_after}
+use Rattle.bus_due.specs.bus_story.specs.CarriedBytes.{CarriedBytes, carried_of}
+use Rattle.bus_due.specs.bus_story.specs.HistoryEvents.{link_events}
+use Rattle.bus_due.specs.bus_story.specs.Items.{Item, process, Sent, same_item, has_item, sense_item, is_open}
+use Rattle.bus_due.specs.bus_story.specs.Story.{Story, Ending, by_reset, story_with_over, story_with_end, story_with_ends, story_after_events}
+use Rattle.bus_due.specs.bus_story.specs.TraceHistory.{story_on_bus, story_with_history, story_with, story_by, story}
+use Rattle.bus_due.specs.bus_story.proofs.StorySteps.{ends_keep, events_sent}
 use Rattle.trace_laws.proofs.OpenCommands.{item_is}
 use Rattle.bus_transcript.specs.declared.item.Item as item_of
 use Rattle.bus_transcript.specs.declared.item.Item.TheVariants as items
@@ -48,7 +48,7 @@ use Rattle.transcript_laws.proofs.OverRows.{over_next}
 use Rattle.transcript_laws.proofs.PartLists.{over_parts, broken_parts}
 use Rattle.transcript_laws.proofs.PastEvents.{names_append}
 use Rattle.transcript_laws.proofs.StandingPast.{IsCut, cut_past, stands_cut}
-use Rattle.bus_base.proofs.Tests.{wrong, wrong', and_first}
+use Rattle.bus_due.specs.bus_base.proofs.Tests.{wrong, wrong', and_first}
 
 -- ---- the names in the parts that are left
 

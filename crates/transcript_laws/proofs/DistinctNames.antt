@@ -2,10 +2,10 @@
 use Rattle.std.proofs.Common.{◌≡◌, ◌∙◌, ◌<◌, Bool, true, false, List, [], ◌∷◌, ◌++◌, length, Option, Some, None, refl, sym, ap, subst}
 use Rattle.std.specs.Prelude.{is_some, if◌then◌else◌}
 use Rattle.std.proofs.lemmas.List.{append-nil}
-use Rattle.bus_trace.specs.declared.connection.Connection.{Connection}
-use Rattle.bus_trace.specs.declared.rows.Row.{Row}
-use Rattle.scenario.specs.Value.{ScenarioValue}
-use Rattle.bus_story.specs.TraceHistory.{story}
+use Rattle.bus_due.specs.bus_trace.specs.declared.connection.Connection.{Connection}
+use Rattle.bus_due.specs.bus_trace.specs.declared.rows.Row.{Row}
+use Rattle.bus_due.specs.scenario.specs.Value.{ScenarioValue}
+use Rattle.bus_due.specs.bus_story.specs.TraceHistory.{story}
 use Rattle.bus_transcript.specs.declared.item.Item as item_of
 use Rattle.bus_transcript.specs.declared.item.Name.{Name}
 use Rattle.bus_transcript.specs.declared.process.Process.{Process}

@@ -5,41 +5,41 @@ use Rattle.std.specs.Prelude.{if◌then◌else◌, ◌==◌, slice_index}
 use Rattle.std.specs.List.{list_any}
 use Rattle.std.proofs.lemmas.Bool.{or_parts}
 use Rattle.std.proofs.lemmas.Option.{same_Some}
-use Rattle.bus_base.specs.declared.Event.{Event}
-use Rattle.bus_base.specs.declared.Event.TheVariants as events
-use Rattle.bus_base.specs.declared.ProcId.{ProcId}
-use Rattle.bus_base.proofs.Tests.{wrong, wrong', and_first, and_second}
-use Rattle.bus_trace.specs.declared.Row.{Row}
-use Rattle.bus_trace.specs.declared.connection.Connection.{Connection}
-use Rattle.bus_trace.specs.Changes.{rises}
-use Rattle.bus_trace.specs.Terms.{connection, connection_after}
-use Rattle.cdb_codec.specs.declared.status.TheConstants.{CHECK_CONDITION}
-use Rattle.scenario.specs.declared.value.CmdDef.{CmdDef}
-use Rattle.scenario.specs.Value.{ScenarioValue}
-use Rattle.scenario.specs.Writing.{Obeys}
-use Rattle.disk_array.specs.Processes.{command_at}
-use Rattle.bus_story.specs.BusState.{RowReading, row_reading}
-use Rattle.bus_story.specs.HistoryEvents.{link_events, row_events_by}
-use Rattle.bus_story.specs.Items.{Item, Sent, process, abort, same_item, command_item, has_item, is_clash, is_done, is_open, sense_from, sense_item}
-use Rattle.bus_story.specs.Links.{Link}
-use Rattle.bus_story.specs.Story.{Story, by_abort, by_reset, by_status, is_aborted, is_sense_stopped, story_after_event, story_after_events, story_with_end}
-use Rattle.bus_story.specs.TraceHistory.{story_by_change}
+use Rattle.bus_due.specs.bus_base.specs.declared.Event.{Event}
+use Rattle.bus_due.specs.bus_base.specs.declared.Event.TheVariants as events
+use Rattle.bus_due.specs.bus_base.specs.declared.ProcId.{ProcId}
+use Rattle.bus_due.specs.bus_base.proofs.Tests.{wrong, wrong', and_first, and_second}
+use Rattle.bus_due.specs.bus_trace.specs.declared.Row.{Row}
+use Rattle.bus_due.specs.bus_trace.specs.declared.connection.Connection.{Connection}
+use Rattle.bus_due.specs.bus_trace.specs.Changes.{rises}
+use Rattle.bus_due.specs.bus_trace.specs.Terms.{connection, connection_after}
+use Rattle.bus_due.specs.cdb_codec.specs.declared.status.TheConstants.{CHECK_CONDITION}
+use Rattle.bus_due.specs.scenario.specs.declared.value.CmdDef.{CmdDef}
+use Rattle.bus_due.specs.scenario.specs.Value.{ScenarioValue}
+use Rattle.bus_due.specs.scenario.specs.Writing.{Obeys}
+use Rattle.bus_due.specs.disk_array.specs.Processes.{command_at}
+use Rattle.bus_due.specs.bus_story.specs.BusState.{RowReading, row_reading}
+use Rattle.bus_due.specs.bus_story.specs.HistoryEvents.{link_events, row_events_by}
+use Rattle.bus_due.specs.bus_story.specs.Items.{Item, Sent, process, abort, same_item, command_item, has_item, is_clash, is_done, is_open, sense_from, sense_item}
+use Rattle.bus_due.specs.bus_story.specs.Links.{Link}
+use Rattle.bus_due.specs.bus_story.specs.Story.{Story, by_abort, by_reset, by_status, is_aborted, is_sense_stopped, story_after_event, story_after_events, story_with_end}
+use Rattle.bus_due.specs.bus_story.specs.TraceHistory.{story_by_change}
 use Rattle.bus_due.specs.Next.{IsPrompt}
 use Rattle.bus_due.specs.Plain.{IsPlain}
 use Rattle.bus_due.specs.RunState.{RunState, bus_of, item_of}
 use Rattle.bus_due.specs.RunSteps.{run_state}
 use Rattle.bus_due.proofs.Plains.{run_state_plain}
-use Rattle.bus_books.specs.Knowing.{Knows}
-use Rattle.bus_books.specs.Traces.{RowOf, apart, begins, ends, goes_on, under_reset}
-use Rattle.bus_laws.proofs.Apart.{change_plain}
-use Rattle.bus_laws.proofs.Prompt.{least_is}
+use Rattle.trace_laws.specs.bus_books.specs.Knowing.{Knows}
+use Rattle.trace_laws.specs.bus_books.specs.Traces.{RowOf, apart, begins, ends, goes_on, under_reset}
+use Rattle.trace_laws.specs.bus_laws.proofs.Apart.{change_plain}
+use Rattle.trace_laws.specs.bus_laws.proofs.Prompt.{least_is}
 use Rattle.trace_laws.specs.ItemFacts.{IsNext, is_abort, is_sense, is_command, AreChecked, NoClash}
 use Rattle.trace_laws.proofs.FreshItems.{calm_before}
 use Rattle.trace_laws.proofs.ItemFacts.{aimed_next}
 use Rattle.trace_laws.proofs.Joint.{NextStood}
 use Rattle.trace_laws.proofs.OpenCommands.{next_free, opened, same_process}
 use Rattle.trace_laws.proofs.OverItems.{events_grow, in_append, not_grown}
-use Rattle.bus_story.proofs.StorySteps.{ends_checks}
+use Rattle.bus_due.specs.bus_story.proofs.StorySteps.{ends_checks}
 use Rattle.trace_laws.proofs.RowEvents.{carried_of_item}
 use Rattle.trace_laws.proofs.Whole.{Whole, standing_next, whole}
 use Rattle.trace_laws.proofs.PointerWaits.{change_over}

@@ -4,37 +4,37 @@ use Rattle.std.proofs.Common.{ℕ, ◌≡◌, ◌∙◌, ◌⊎◌, inl, inr, �
 use Rattle.std.specs.Prelude.{◌||◌, is_some, is_none}
 use Rattle.std.proofs.lemmas.List.{append-nil}
 use Rattle.std.proofs.lemmas.Option.{same_Some}
-use Rattle.bus_base.specs.declared.AbortKind.{AbortKind}
-use Rattle.bus_base.specs.declared.AbortKind.TheVariants as aborts
-use Rattle.bus_base.specs.declared.ProcId.{ProcId}
-use Rattle.bus_trace.specs.LineSet.{LineSet}
-use Rattle.bus_trace.specs.Changes.{change_of}
-use Rattle.bus_trace.specs.Phases.{is_command, is_data, is_message_in, is_message_out}
-use Rattle.bus_trace.specs.Terms.{connection, connection_after, receiver_in}
-use Rattle.bus_trace.specs.Trace.{bus}
-use Rattle.bus_trace.specs.declared.changes.Change.{Change}
-use Rattle.bus_trace.specs.declared.connection.Connection.{Connection}
-use Rattle.bus_trace.specs.declared.rows.Row.{Row}
-use Rattle.msg_grammar.specs.declared.message.MsgOut.{MsgOut}
-use Rattle.msg_grammar.specs.declared.message.MsgOut.TheVariants as to_target
-use Rattle.bus_phases.specs.Half.{is_nil}
-use Rattle.scenario.specs.declared.value.AbortDef.{AbortDef}
-use Rattle.scenario.specs.Value.{ScenarioValue}
-use Rattle.scenario.specs.Writing.{Obeys}
-use Rattle.disk_array.specs.Processes.{Process, process_of}
-use Rattle.disk_array.specs.Order.{same_number}
-use Rattle.bus_story.specs.BusState.{RowReading, row_reading}
-use Rattle.bus_story.specs.HistoryEvents.{abort_line_at}
-use Rattle.bus_story.specs.Items.{Item, process, abort}
-use Rattle.bus_story.specs.Links.{Link, LastMessage, plain, abortive}
-use Rattle.bus_dialogue.specs.declared.exchange.Cause.{Cause}
-use Rattle.bus_dialogue.specs.declared.exchange.Cause.TheVariants as causes
-use Rattle.bus_dialogue.specs.declared.exchange.Next.{Next}
-use Rattle.bus_dialogue.specs.declared.exchange.Next.TheVariants as nexts
-use Rattle.bus_dialogue.specs.declared.exchange.Phase.{Phase}
-use Rattle.bus_dialogue.specs.declared.exchange.Phase.TheVariants as phases
-use Rattle.bus_dialogue.specs.NextPhase.{phase_of, message_out_leaving, phase_leaving, leaving_by}
-use Rattle.bus_dialogue.specs.Words.{is_naming, abort_opening}
+use Rattle.bus_due.specs.bus_base.specs.declared.AbortKind.{AbortKind}
+use Rattle.bus_due.specs.bus_base.specs.declared.AbortKind.TheVariants as aborts
+use Rattle.bus_due.specs.bus_base.specs.declared.ProcId.{ProcId}
+use Rattle.bus_due.specs.bus_trace.specs.LineSet.{LineSet}
+use Rattle.bus_due.specs.bus_trace.specs.Changes.{change_of}
+use Rattle.bus_due.specs.bus_trace.specs.Phases.{is_command, is_data, is_message_in, is_message_out}
+use Rattle.bus_due.specs.bus_trace.specs.Terms.{connection, connection_after, receiver_in}
+use Rattle.bus_due.specs.bus_trace.specs.Trace.{bus}
+use Rattle.bus_due.specs.bus_trace.specs.declared.changes.Change.{Change}
+use Rattle.bus_due.specs.bus_trace.specs.declared.connection.Connection.{Connection}
+use Rattle.bus_due.specs.bus_trace.specs.declared.rows.Row.{Row}
+use Rattle.bus_due.specs.msg_grammar.specs.declared.message.MsgOut.{MsgOut}
+use Rattle.bus_due.specs.msg_grammar.specs.declared.message.MsgOut.TheVariants as to_target
+use Rattle.bus_due.specs.bus_phases.specs.Half.{is_nil}
+use Rattle.bus_due.specs.scenario.specs.declared.value.AbortDef.{AbortDef}
+use Rattle.bus_due.specs.scenario.specs.Value.{ScenarioValue}
+use Rattle.bus_due.specs.scenario.specs.Writing.{Obeys}
+use Rattle.bus_due.specs.disk_array.specs.Processes.{Process, process_of}
+use Rattle.bus_due.specs.disk_array.specs.Order.{same_number}
+use Rattle.bus_due.specs.bus_story.specs.BusState.{RowReading, row_reading}
+use Rattle.bus_due.specs.bus_story.specs.HistoryEvents.{abort_line_at}
+use Rattle.bus_due.specs.bus_story.specs.Items.{Item, process, abort}
+use Rattle.bus_due.specs.bus_story.specs.Links.{Link, LastMessage, plain, abortive}
+use Rattle.bus_due.specs.bus_dialogue.specs.declared.exchange.Cause.{Cause}
+use Rattle.bus_due.specs.bus_dialogue.specs.declared.exchange.Cause.TheVariants as causes
+use Rattle.bus_due.specs.bus_dialogue.specs.declared.exchange.Next.{Next}
+use Rattle.bus_due.specs.bus_dialogue.specs.declared.exchange.Next.TheVariants as nexts
+use Rattle.bus_due.specs.bus_dialogue.specs.declared.exchange.Phase.{Phase}
+use Rattle.bus_due.specs.bus_dialogue.specs.declared.exchange.Phase.TheVariants as phases
+use Rattle.bus_due.specs.bus_dialogue.specs.NextPhase.{phase_of, message_out_leaving, phase_leaving, leaving_by}
+use Rattle.bus_due.specs.bus_dialogue.specs.Words.{is_naming, abort_opening}
 use Rattle.bus_due.specs.Defs.{opening}
 use Rattle.bus_due.specs.Next.{IsPrompt}
 use Rattle.bus_due.specs.Plain.{IsPlain}
@@ -44,13 +44,13 @@ use Rattle.bus_due.specs.Sights.{serving_of}
 use Rattle.bus_due.specs.Tasks.{task_if}
 use Rattle.bus_due.specs.Telling.{same_kind}
 use Rattle.bus_due.proofs.Plains.{run_state_plain}
-use Rattle.bus_books.specs.Giving.{Gives}
-use Rattle.bus_books.specs.Speaking.{Speaks}
-use Rattle.bus_books.specs.Tests.{is_selected}
-use Rattle.bus_books.proofs.Given.{in_is_whole}
-use Rattle.bus_books.proofs.InConnection.{reading_is}
-use Rattle.bus_laws.proofs.Apart.{change_plain}
-use Rattle.bus_laws.proofs.Prompt.{least_is}
+use Rattle.trace_laws.specs.bus_books.specs.Giving.{Gives}
+use Rattle.trace_laws.specs.bus_books.specs.Speaking.{Speaks}
+use Rattle.trace_laws.specs.bus_books.specs.Tests.{is_selected}
+use Rattle.trace_laws.specs.bus_books.proofs.Given.{in_is_whole}
+use Rattle.trace_laws.specs.bus_books.proofs.InConnection.{reading_is}
+use Rattle.trace_laws.specs.bus_laws.proofs.Apart.{change_plain}
+use Rattle.trace_laws.specs.bus_laws.proofs.Prompt.{least_is}
 use Rattle.bus_transcript.specs.declared.part.Incoming.{Incoming}
 use Rattle.bus_transcript.specs.declared.part.Part.{Part}
 use Rattle.bus_transcript.specs.declared.summary.Departure.{Departure}
@@ -70,7 +70,7 @@ use Rattle.trace_laws.proofs.Joint.{link_phase}
 use Rattle.trace_laws.proofs.PhaseLines.{in_out, out_in}
 use Rattle.trace_laws.proofs.RunFacts.{task_here}
 use Rattle.trace_laws.proofs.SentFailures.{sent_asks}
-use Rattle.bus_books.proofs.Gives.{not_both}
+use Rattle.trace_laws.specs.bus_books.proofs.Gives.{not_both}
 use Rattle.trace_laws.proofs.TellEnds.{goes_on, naming_goes_on, none_heard}
 use Rattle.trace_laws.proofs.TellFacts.{all_given, left_tells}
 use Rattle.trace_laws.proofs.TellRows.{IsHeard, is_heard, never_ends}
@@ -94,7 +94,7 @@ use Rattle.transcript_laws.proofs.SaidNames.{SaidNames, OutNames, unsaid, told, 
 use Rattle.transcript_laws.proofs.SaidWords.{said_of}
 use Rattle.transcript_laws.proofs.TalkNamed.{talk_more}
 use Rattle.transcript_laws.proofs.TurnSteps.{outs_talk}
-use Rattle.bus_base.proofs.Tests.{wrong, wrong', eq_self}
+use Rattle.bus_due.specs.bus_base.proofs.Tests.{wrong, wrong', eq_self}
 
 -- ---- all that is kept
 

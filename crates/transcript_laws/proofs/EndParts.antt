@@ -2,14 +2,14 @@
 use Rattle.std.proofs.Common.{ℕ, ◌≡◌, ◌∙◌, Bool, true, false, not, ◌&&◌, List, [], ◌∷◌, ◌++◌, Option, Some, None, refl, ap}
 use Rattle.std.specs.Prelude.{◌||◌, if◌then◌else◌}
 use Rattle.std.proofs.lemmas.List.{append-nil}
-use Rattle.bus_trace.specs.LineSet.{LineSet}
-use Rattle.bus_trace.specs.Phases.{is_command, is_data, is_message_in}
-use Rattle.bus_trace.specs.declared.connection.Connection.{Connection}
-use Rattle.msg_grammar.specs.declared.message.MsgIn.{MsgIn}
-use Rattle.msg_grammar.specs.declared.message.MsgIn.TheVariants as to_initiator
-use Rattle.msg_grammar.specs.declared.message.MsgOut.{MsgOut}
-use Rattle.bus_phases.specs.Half.{is_nil}
-use Rattle.bus_story.specs.Links.{LastMessage, plain, complete, disconnect, abortive, last_in}
+use Rattle.bus_due.specs.bus_trace.specs.LineSet.{LineSet}
+use Rattle.bus_due.specs.bus_trace.specs.Phases.{is_command, is_data, is_message_in}
+use Rattle.bus_due.specs.bus_trace.specs.declared.connection.Connection.{Connection}
+use Rattle.bus_due.specs.msg_grammar.specs.declared.message.MsgIn.{MsgIn}
+use Rattle.bus_due.specs.msg_grammar.specs.declared.message.MsgIn.TheVariants as to_initiator
+use Rattle.bus_due.specs.msg_grammar.specs.declared.message.MsgOut.{MsgOut}
+use Rattle.bus_due.specs.bus_phases.specs.Half.{is_nil}
+use Rattle.bus_due.specs.bus_story.specs.Links.{LastMessage, plain, complete, disconnect, abortive, last_in}
 use Rattle.bus_transcript.specs.declared.part.Incoming.{Incoming}
 use Rattle.bus_transcript.specs.declared.part.Incoming.TheVariants.{Whole, Broken}
 use Rattle.bus_transcript.specs.declared.part.Part.{Part}
@@ -17,13 +17,13 @@ use Rattle.bus_transcript.specs.declared.part.Part.TheVariants as parts_of
 use Rattle.bus_transcript.specs.declared.summary.Departure.TheVariants.{Loss, Leave, Abortion}
 use Rattle.bus_transcript.specs.declared.summary.Summary.{Summary}
 use Rattle.bus_transcript.specs.Nexus.{no_summary, summary_out, summary_in, summary_after, summary_of}
-use Rattle.msg_grammar.specs.Grammar.{is_abort}
+use Rattle.bus_due.specs.msg_grammar.specs.Grammar.{is_abort}
 use Rattle.bus_transcript.specs.Opened.{OpenedValue, held_part, data_parts, phase_parts}
 use Rattle.transcript_laws.specs.Parts.{is_talk, out_parts, parts_now, summary_by}
 use Rattle.transcript_laws.specs.RowTests.{closing_parts}
 use Rattle.transcript_laws.proofs.OutNames.{is_tame, are_tame}
 use Rattle.transcript_laws.proofs.PartLists.{over_parts}
-use Rattle.bus_base.proofs.Tests.{wrong, wrong', and_first, and_second}
+use Rattle.bus_due.specs.bus_base.proofs.Tests.{wrong, wrong', and_first, and_second}
 
 -- ---- messages that tell that the connection ends
 

@@ -4,30 +4,30 @@ use Rattle.std.specs.Prelude.{◌||◌, is_some, is_none, if◌then◌else◌}
 use Rattle.std.proofs.lemmas.Bool.{eqb-true}
 use Rattle.std.proofs.lemmas.List.{append_assoc, append-nil}
 use Rattle.std.proofs.lemmas.Option.{same_Some}
-use Rattle.bus_base.specs.declared.Event.{Event}
-use Rattle.bus_base.specs.declared.Event.TheVariants as events
-use Rattle.bus_base.specs.declared.ProcId.{ProcId}
-use Rattle.bus_trace.specs.Changes.{rises}
-use Rattle.bus_trace.specs.Phases.{is_command}
-use Rattle.bus_trace.specs.declared.connection.Connection.{Connection}
-use Rattle.bus_trace.specs.declared.rows.Row.{Row}
-use Rattle.msg_grammar.specs.declared.message.MsgOut.{MsgOut}
-use Rattle.scenario.specs.declared.value.AbortDef.{AbortDef}
-use Rattle.scenario.specs.Value.{ScenarioValue}
-use Rattle.disk_array.specs.Processes as array_of
-use Rattle.disk_array.specs.Processes.{same_id}
-use Rattle.disk_array.specs.Order.{same_number}
-use Rattle.bus_story.specs.BusState.{RowReading, row_reading, bus_state_after}
-use Rattle.bus_story.specs.CarriedBytes.{CarriedBytes, carried_of}
-use Rattle.bus_story.specs.HistoryEvents.{abort_line_at, abort_line_events, item_abort_events, connection_events, bus_free_events, link_events}
-use Rattle.bus_story.specs.Items.{Item, process, abort, has_item}
-use Rattle.bus_story.specs.Links.{Link, LastMessage, plain, complete, disconnect, abortive}
-use Rattle.bus_story.specs.Story.{Story, by_abort, is_aborted, is_sense_stopped, story_after_events}
-use Rattle.bus_story.specs.TraceHistory.{story_on_bus, story_with_history, story_with, story_by, story}
-use Rattle.bus_story.proofs.StorySteps.{ends_keep, events_link, events_sent}
+use Rattle.bus_due.specs.bus_base.specs.declared.Event.{Event}
+use Rattle.bus_due.specs.bus_base.specs.declared.Event.TheVariants as events
+use Rattle.bus_due.specs.bus_base.specs.declared.ProcId.{ProcId}
+use Rattle.bus_due.specs.bus_trace.specs.Changes.{rises}
+use Rattle.bus_due.specs.bus_trace.specs.Phases.{is_command}
+use Rattle.bus_due.specs.bus_trace.specs.declared.connection.Connection.{Connection}
+use Rattle.bus_due.specs.bus_trace.specs.declared.rows.Row.{Row}
+use Rattle.bus_due.specs.msg_grammar.specs.declared.message.MsgOut.{MsgOut}
+use Rattle.bus_due.specs.scenario.specs.declared.value.AbortDef.{AbortDef}
+use Rattle.bus_due.specs.scenario.specs.Value.{ScenarioValue}
+use Rattle.bus_due.specs.disk_array.specs.Processes as array_of
+use Rattle.bus_due.specs.disk_array.specs.Processes.{same_id}
+use Rattle.bus_due.specs.disk_array.specs.Order.{same_number}
+use Rattle.bus_due.specs.bus_story.specs.BusState.{RowReading, row_reading, bus_state_after}
+use Rattle.bus_due.specs.bus_story.specs.CarriedBytes.{CarriedBytes, carried_of}
+use Rattle.bus_due.specs.bus_story.specs.HistoryEvents.{abort_line_at, abort_line_events, item_abort_events, connection_events, bus_free_events, link_events}
+use Rattle.bus_due.specs.bus_story.specs.Items.{Item, process, abort, has_item}
+use Rattle.bus_due.specs.bus_story.specs.Links.{Link, LastMessage, plain, complete, disconnect, abortive}
+use Rattle.bus_due.specs.bus_story.specs.Story.{Story, by_abort, is_aborted, is_sense_stopped, story_after_events}
+use Rattle.bus_due.specs.bus_story.specs.TraceHistory.{story_on_bus, story_with_history, story_with, story_by, story}
+use Rattle.bus_due.specs.bus_story.proofs.StorySteps.{ends_keep, events_link, events_sent}
 use Rattle.bus_due.specs.Telling.{same_kind}
 use Rattle.bus_due.proofs.SameEvents.{kinds_are}
-use Rattle.bus_books.specs.Accounts.{is_open_in}
+use Rattle.trace_laws.specs.bus_books.specs.Accounts.{is_open_in}
 use Rattle.trace_laws.proofs.OverItems.{events_grow}
 use Rattle.bus_transcript.specs.Accounts.{account_of}
 use Rattle.bus_transcript.specs.declared.item.Item as item_of
@@ -69,7 +69,7 @@ use Rattle.transcript_laws.proofs.OwnConnections.{Leaves, loses, leaves, IsClosi
 use Rattle.transcript_laws.proofs.SentNames.{name_own}
 use Rattle.transcript_laws.proofs.ShownParts.{talk_more}
 use Rattle.transcript_laws.proofs.StandingPast.{own_number, named_sent, process_new, process_kept, closing}
-use Rattle.bus_base.proofs.Tests.{wrong, wrong', and_first, and_second}
+use Rattle.bus_due.specs.bus_base.proofs.Tests.{wrong, wrong', and_first, and_second}
 
 -- ---- the row
 

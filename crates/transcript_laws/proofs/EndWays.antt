@@ -2,22 +2,22 @@
 -- opening (6.1.1, 6.6.10, 6.6.13).
 use Rattle.std.proofs.Common.{◌≡◌, ◌∙◌, Bool, true, false, Option, Some, None, refl, sym, ap}
 use Rattle.std.specs.Prelude.{is_some, if◌then◌else◌}
-use Rattle.bus_base.specs.declared.AbortKind.{AbortKind}
-use Rattle.bus_trace.specs.declared.agreements.Agreement.{Agreement}
-use Rattle.bus_dialogue.specs.declared.exchange.Cause.{Cause}
-use Rattle.bus_dialogue.specs.declared.exchange.Cause.TheVariants as causes
-use Rattle.bus_dialogue.specs.declared.exchange.Leaving.{Leaving}
-use Rattle.bus_dialogue.specs.declared.exchange.Next.{Next}
-use Rattle.bus_dialogue.specs.declared.exchange.Next.TheVariants as nexts
-use Rattle.bus_dialogue.specs.declared.exchange.Phase.{Phase}
-use Rattle.bus_dialogue.specs.declared.exchange.Phase.TheVariants as phases
-use Rattle.bus_dialogue.specs.declared.exchange.Task.{Task}
-use Rattle.bus_dialogue.specs.Arrivals.{policy_of}
-use Rattle.bus_dialogue.specs.NextPhase.{Serving, bus_free, phase_entry, with_task, recovery, pointer_restoration, next_data_phase, after_offer, message_out_leaving, after_messages, after_arrival, after_run, phase_leaving}
-use Rattle.bus_dialogue.specs.Words.{request_by}
+use Rattle.bus_due.specs.bus_base.specs.declared.AbortKind.{AbortKind}
+use Rattle.bus_due.specs.bus_trace.specs.declared.agreements.Agreement.{Agreement}
+use Rattle.bus_due.specs.bus_dialogue.specs.declared.exchange.Cause.{Cause}
+use Rattle.bus_due.specs.bus_dialogue.specs.declared.exchange.Cause.TheVariants as causes
+use Rattle.bus_due.specs.bus_dialogue.specs.declared.exchange.Leaving.{Leaving}
+use Rattle.bus_due.specs.bus_dialogue.specs.declared.exchange.Next.{Next}
+use Rattle.bus_due.specs.bus_dialogue.specs.declared.exchange.Next.TheVariants as nexts
+use Rattle.bus_due.specs.bus_dialogue.specs.declared.exchange.Phase.{Phase}
+use Rattle.bus_due.specs.bus_dialogue.specs.declared.exchange.Phase.TheVariants as phases
+use Rattle.bus_due.specs.bus_dialogue.specs.declared.exchange.Task.{Task}
+use Rattle.bus_due.specs.bus_dialogue.specs.Arrivals.{policy_of}
+use Rattle.bus_due.specs.bus_dialogue.specs.NextPhase.{Serving, bus_free, phase_entry, with_task, recovery, pointer_restoration, next_data_phase, after_offer, message_out_leaving, after_messages, after_arrival, after_run, phase_leaving}
+use Rattle.bus_due.specs.bus_dialogue.specs.Words.{request_by}
 use Rattle.trace_laws.proofs.TellEnds.{goes_on, either_on, recovers_on, requested_on, arrived_on, ran_on}
-use Rattle.bus_books.specs.Tests.{is_selected}
-use Rattle.bus_base.proofs.Tests.{wrong}
+use Rattle.trace_laws.specs.bus_books.specs.Tests.{is_selected}
+use Rattle.bus_due.specs.bus_base.proofs.Tests.{wrong}
 
 pub data EndsBy (v : Serving) (attention : Bool) (phase : Phase) : Type 0 where
   by_messages : phase ≡ phases.MessageIn → attention ≡ false → v.plan.next ≡ nexts.FreeBus → EndsBy v attention phase

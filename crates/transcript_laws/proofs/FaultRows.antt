@@ -1,19 +1,19 @@
 -- A fault row changes no line.
 use Rattle.std.proofs.Common.{ℕ, zero, suc, ◌≡◌, ◌∙◌, Bool, true, false, List, [], ◌∷◌, refl, sym, ap}
 use Rattle.std.specs.Prelude.{slice_set}
-use Rattle.bus_trace.specs.LineSet.{LineSet}
-use Rattle.bus_trace.specs.Changes.{rises}
-use Rattle.bus_trace.specs.Phases.{changes_phase}
-use Rattle.bus_trace.specs.View.{driven_at, union_all}
-use Rattle.bus_trace.specs.Trace.{driven_after}
-use Rattle.bus_trace.specs.declared.changes.Change.{Change}
-use Rattle.bus_trace.specs.declared.rows.Kind.TheVariants.{Fault}
-use Rattle.bus_trace.specs.declared.rows.Row.{Row}
-use Rattle.scenario.specs.Value.{ScenarioValue}
-use Rattle.bus_story.specs.BusState.{BusState, change_to, change_by}
-use Rattle.bus_story.specs.TraceHistory.{story}
-use Rattle.bus_base.proofs.Tests.{wrong'}
-use Rattle.link_laws.proofs.Moves.{no_rise}
+use Rattle.bus_due.specs.bus_trace.specs.LineSet.{LineSet}
+use Rattle.bus_due.specs.bus_trace.specs.Changes.{rises}
+use Rattle.bus_due.specs.bus_trace.specs.Phases.{changes_phase}
+use Rattle.bus_due.specs.bus_trace.specs.View.{driven_at, union_all}
+use Rattle.bus_due.specs.bus_trace.specs.Trace.{driven_after}
+use Rattle.bus_due.specs.bus_trace.specs.declared.changes.Change.{Change}
+use Rattle.bus_due.specs.bus_trace.specs.declared.rows.Kind.TheVariants.{Fault}
+use Rattle.bus_due.specs.bus_trace.specs.declared.rows.Row.{Row}
+use Rattle.bus_due.specs.scenario.specs.Value.{ScenarioValue}
+use Rattle.bus_due.specs.bus_story.specs.BusState.{BusState, change_to, change_by}
+use Rattle.bus_due.specs.bus_story.specs.TraceHistory.{story}
+use Rattle.bus_due.specs.bus_base.proofs.Tests.{wrong'}
+use Rattle.trace_laws.specs.link_laws.proofs.Moves.{no_rise}
 
 -- What is driven is put in its place.
 put_same : (xs : List LineSet) (i : ℕ) → slice_set xs i (driven_at xs i) ≡ xs

@@ -2,22 +2,22 @@
 use Rattle.std.proofs.Common.{ℕ, ◌≡◌, ◌∙◌, Bool, true, false, not, ◌&&◌, ◌||◌, List, [], ◌∷◌, Option, Some, None, refl, sym, ap, subst}
 use Rattle.std.specs.Prelude.{if◌then◌else◌}
 use Rattle.std.proofs.lemmas.List.{reverse-append}
-use Rattle.bus_base.specs.declared.ProcId.{ProcId}
-use Rattle.bus_trace.specs.Phases.{is_command}
-use Rattle.bus_trace.specs.declared.changes.Change.{Change}
-use Rattle.bus_trace.specs.declared.connection.Connection.{Connection}
-use Rattle.bus_trace.specs.declared.rows.Row.{Row}
-use Rattle.scenario.specs.Value.{ScenarioValue}
-use Rattle.disk_array.specs.Processes as array_of
-use Rattle.disk_array.specs.Processes.{same_id}
-use Rattle.bus_story.specs.BusState.{RowReading, row_reading, bus_state_after}
-use Rattle.bus_story.specs.CarriedBytes.{CarriedBytes, nothing_carried, carried_at, carried_or_nothing, carried_of, with_carried, with_restored_pointers, is_status_phase}
-use Rattle.bus_story.specs.Items.{process, abort, has_item}
-use Rattle.bus_story.specs.Links.{link_of}
-use Rattle.bus_story.specs.Story.{Story}
-use Rattle.bus_story.specs.TraceHistory.{aim_of, story_with_history, story}
-use Rattle.bus_story.proofs.CarriedLists.{carried_id, carried_with}
-use Rattle.bus_books.proofs.Lookups.{put_own}
+use Rattle.bus_due.specs.bus_base.specs.declared.ProcId.{ProcId}
+use Rattle.bus_due.specs.bus_trace.specs.Phases.{is_command}
+use Rattle.bus_due.specs.bus_trace.specs.declared.changes.Change.{Change}
+use Rattle.bus_due.specs.bus_trace.specs.declared.connection.Connection.{Connection}
+use Rattle.bus_due.specs.bus_trace.specs.declared.rows.Row.{Row}
+use Rattle.bus_due.specs.scenario.specs.Value.{ScenarioValue}
+use Rattle.bus_due.specs.disk_array.specs.Processes as array_of
+use Rattle.bus_due.specs.disk_array.specs.Processes.{same_id}
+use Rattle.bus_due.specs.bus_story.specs.BusState.{RowReading, row_reading, bus_state_after}
+use Rattle.bus_due.specs.bus_story.specs.CarriedBytes.{CarriedBytes, nothing_carried, carried_at, carried_or_nothing, carried_of, with_carried, with_restored_pointers, is_status_phase}
+use Rattle.bus_due.specs.bus_story.specs.Items.{process, abort, has_item}
+use Rattle.bus_due.specs.bus_story.specs.Links.{link_of}
+use Rattle.bus_due.specs.bus_story.specs.Story.{Story}
+use Rattle.bus_due.specs.bus_story.specs.TraceHistory.{aim_of, story_with_history, story}
+use Rattle.bus_due.specs.bus_story.proofs.CarriedLists.{carried_id, carried_with}
+use Rattle.trace_laws.specs.bus_books.proofs.Lookups.{put_own}
 use Rattle.trace_laws.proofs.Impossible.{none_some}
 use Rattle.bus_transcript.specs.declared.process.Process.{Process}
 use Rattle.bus_transcript.specs.Events.{names_begun}
@@ -34,7 +34,7 @@ use Rattle.transcript_laws.proofs.Buses.{reading_same, buses_alike}
 use Rattle.transcript_laws.proofs.FirstRows.{first_story, again_story, sent_story, first_crosses, first_change}
 use Rattle.transcript_laws.proofs.SentNames.{has_reverse}
 use Rattle.transcript_laws.proofs.TalkServes.{talk_serves}
-use Rattle.target_units.proofs.LiveQueue.{id_turned}
+use Rattle.trace_laws.specs.target_units.proofs.LiveQueue.{id_turned}
 
 -- What is asked of the row.
 pub record Begins (s : ScenarioValue) (rows : List Row) (row : Row) (n : Connection) : Type 0 where

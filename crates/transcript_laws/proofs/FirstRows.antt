@@ -1,19 +1,19 @@
 -- A row with which a connection begins: it is that of an abort, of a process that is sent, or of one that its target will name.
 use Rattle.std.proofs.Common.{◌≡◌, ◌∙◌, true, false, List, [], ◌∷◌, Some, None, ap}
 use Rattle.std.specs.Prelude.{is_some, if◌then◌else◌}
-use Rattle.bus_base.specs.declared.Event.{Event}
-use Rattle.bus_base.specs.declared.Event.TheVariants as events
-use Rattle.bus_trace.specs.Changes.{rises}
-use Rattle.bus_trace.specs.Terms.{receiver_of}
-use Rattle.bus_trace.specs.declared.connection.Connection.{Connection}
-use Rattle.bus_trace.specs.declared.rows.Row.{Row}
-use Rattle.scenario.specs.Value.{ScenarioValue}
-use Rattle.bus_story.specs.BusState.{BusState, RowReading, row_reading, change_by, bus_state_after}
-use Rattle.bus_story.specs.HistoryEvents.{link_events}
-use Rattle.bus_story.specs.Items.{Item}
-use Rattle.bus_story.specs.Links.{link_of}
-use Rattle.bus_story.specs.Story.{Story}
-use Rattle.bus_story.specs.TraceHistory.{aim_of, story_with_restored, story_with_sent, story_after_connection, story_on_bus, story_with_history, story_with, story_by}
+use Rattle.bus_due.specs.bus_base.specs.declared.Event.{Event}
+use Rattle.bus_due.specs.bus_base.specs.declared.Event.TheVariants as events
+use Rattle.bus_due.specs.bus_trace.specs.Changes.{rises}
+use Rattle.bus_due.specs.bus_trace.specs.Terms.{receiver_of}
+use Rattle.bus_due.specs.bus_trace.specs.declared.connection.Connection.{Connection}
+use Rattle.bus_due.specs.bus_trace.specs.declared.rows.Row.{Row}
+use Rattle.bus_due.specs.scenario.specs.Value.{ScenarioValue}
+use Rattle.bus_due.specs.bus_story.specs.BusState.{BusState, RowReading, row_reading, change_by, bus_state_after}
+use Rattle.bus_due.specs.bus_story.specs.HistoryEvents.{link_events}
+use Rattle.bus_due.specs.bus_story.specs.Items.{Item}
+use Rattle.bus_due.specs.bus_story.specs.Links.{link_of}
+use Rattle.bus_due.specs.bus_story.specs.Story.{Story}
+use Rattle.bus_due.specs.bus_story.specs.TraceHistory.{aim_of, story_with_restored, story_with_sent, story_after_connection, story_on_bus, story_with_history, story_with, story_by}
 use Rattle.bus_transcript.specs.Opened.{opened_connection}
 use Rattle.bus_transcript.specs.Rows.{TranscriberValue, under_reset, on_bus, by_change}
 

@@ -2,31 +2,31 @@
 use Rattle.std.proofs.Common.{ℕ, ◌≡◌, ◌∙◌, ◌⊎◌, inl, inr, Bool, true, false, not, ◌&&◌, ◌%◌, List, [], ◌∷◌, ◌++◌, Option, Some, None, refl, sym, ap}
 use Rattle.std.specs.Prelude.{is_some, if◌then◌else◌}
 use Rattle.std.proofs.lemmas.Option.{same_Some}
-use Rattle.bus_trace.specs.LineSet.{LineSet}
-use Rattle.bus_trace.specs.Phases.{changes_phase, is_message_in, is_message_out}
-use Rattle.bus_trace.specs.Terms.{receiver_in}
-use Rattle.bus_trace.specs.declared.changes.Change.{Change}
-use Rattle.bus_trace.specs.declared.connection.Connection.{Connection}
-use Rattle.bus_trace.specs.declared.rows.Row.{Row}
-use Rattle.msg_grammar.specs.declared.message.Got.{Got}
-use Rattle.msg_grammar.specs.declared.message.Got.TheVariants as gots
-use Rattle.msg_grammar.specs.declared.message.MsgIn.{MsgIn}
-use Rattle.msg_grammar.specs.declared.message.MsgIn.TheVariants as to_initiator
-use Rattle.msg_grammar.specs.declared.message.MsgOut.{MsgOut}
-use Rattle.msg_grammar.specs.Messages.{got_in, got_out}
-use Rattle.bus_phases.specs.Dialogue.{fresh_bytes}
-use Rattle.bus_phases.specs.Half.{left_of, is_nil}
-use Rattle.bus_phases.specs.Reading.{reading_out}
-use Rattle.bus_rules.specs.Messages.{is_unknown}
-use Rattle.scenario.specs.Value.{ScenarioValue}
-use Rattle.bus_story.specs.BusState.{whole_in, whole_out, message_in, message_out}
-use Rattle.bus_story.specs.HistoryEvents as story_of
-use Rattle.bus_story.specs.Links.{Link, last_in, last_out}
+use Rattle.bus_due.specs.bus_trace.specs.LineSet.{LineSet}
+use Rattle.bus_due.specs.bus_trace.specs.Phases.{changes_phase, is_message_in, is_message_out}
+use Rattle.bus_due.specs.bus_trace.specs.Terms.{receiver_in}
+use Rattle.bus_due.specs.bus_trace.specs.declared.changes.Change.{Change}
+use Rattle.bus_due.specs.bus_trace.specs.declared.connection.Connection.{Connection}
+use Rattle.bus_due.specs.bus_trace.specs.declared.rows.Row.{Row}
+use Rattle.bus_due.specs.msg_grammar.specs.declared.message.Got.{Got}
+use Rattle.bus_due.specs.msg_grammar.specs.declared.message.Got.TheVariants as gots
+use Rattle.bus_due.specs.msg_grammar.specs.declared.message.MsgIn.{MsgIn}
+use Rattle.bus_due.specs.msg_grammar.specs.declared.message.MsgIn.TheVariants as to_initiator
+use Rattle.bus_due.specs.msg_grammar.specs.declared.message.MsgOut.{MsgOut}
+use Rattle.bus_due.specs.msg_grammar.specs.Messages.{got_in, got_out}
+use Rattle.bus_due.specs.bus_phases.specs.Dialogue.{fresh_bytes}
+use Rattle.bus_due.specs.bus_phases.specs.Half.{left_of, is_nil}
+use Rattle.bus_due.specs.bus_phases.specs.Reading.{reading_out}
+use Rattle.bus_due.specs.bus_rules.specs.Messages.{is_unknown}
+use Rattle.bus_due.specs.scenario.specs.Value.{ScenarioValue}
+use Rattle.bus_due.specs.bus_story.specs.BusState.{whole_in, whole_out, message_in, message_out}
+use Rattle.bus_due.specs.bus_story.specs.HistoryEvents as story_of
+use Rattle.bus_due.specs.bus_story.specs.Links.{Link, last_in, last_out}
 use Rattle.bus_due.specs.RunState.{RunState, bus_of}
 use Rattle.bus_due.specs.RunSteps.{run_state}
-use Rattle.bus_books.specs.Listening.{Understanding, nothing_understood, understood_byte, form_messages}
-use Rattle.bus_books.specs.Speaking.{IsSpeaking}
-use Rattle.bus_books.proofs.Given.{in_is_whole}
+use Rattle.trace_laws.specs.bus_books.specs.Listening.{Understanding, nothing_understood, understood_byte, form_messages}
+use Rattle.trace_laws.specs.bus_books.specs.Speaking.{IsSpeaking}
+use Rattle.trace_laws.specs.bus_books.proofs.Given.{in_is_whole}
 use Rattle.bus_transcript.specs.declared.part.Incoming.TheVariants.{Whole, Broken}
 use Rattle.bus_transcript.specs.Opened.{OpenedValue, is_complete, messages_of, with_all_out, with_in, with_in_if, spoken, phase_over}
 use Rattle.trace_laws.specs.ItemTalks.{TalksBy, IsTaken, talk_of}
@@ -34,13 +34,13 @@ use Rattle.trace_laws.proofs.Joint.{link_unbegun}
 use Rattle.trace_laws.proofs.NamedSteps.{out_last}
 use Rattle.trace_laws.proofs.PhaseLines.{out_phase, in_out}
 use Rattle.trace_laws.proofs.RowItems.{heard_link, LinkAfter, says, hears, stays, link_crossed, link_still}
-use Rattle.bus_books.proofs.Gives.{not_both}
+use Rattle.trace_laws.specs.bus_books.proofs.Gives.{not_both}
 use Rattle.trace_laws.proofs.TalkSteps.{last_before}
 use Rattle.transcript_laws.proofs.OpenedBytes.{OpenedBytes, still_keeps, turned, CrossingMade, crossed_out, crossed_in, crossed_status, crossed_else, crossing_made, lines_same, out_same}
 use Rattle.transcript_laws.proofs.OpenedFacts.{Going, RowMade, made_still, made_crossing, made_turn, plain_before, knows_before}
 use Rattle.transcript_laws.proofs.PartLists.{none_held}
 use Rattle.transcript_laws.proofs.SaidWords.{SaidWords, said_of}
-use Rattle.bus_base.proofs.Tests.{wrong, wrong'}
+use Rattle.bus_due.specs.bus_base.proofs.Tests.{wrong, wrong'}
 
 pub record HeldLast (k : RunState) (o : OpenedValue) : Type 0 where
   pub same : is_message_out (bus_of k) ≡ false → (l : Link) → k.story.link ≡ Some l → story_of.is_complete l.last ≡ is_complete o.held

@@ -4,46 +4,46 @@ use Rattle.std.proofs.Common.{ℕ, ◌≡◌, ◌∙◌, ◌⊎◌, inl, inr, Bo
 use Rattle.std.specs.Prelude.{◌||◌, is_some, if◌then◌else◌}
 use Rattle.std.proofs.lemmas.Option.{same_Some}
 use Rattle.std.proofs.lemmas.List.{append-nil}
-use Rattle.bus_base.specs.declared.ProcId.{ProcId}
-use Rattle.bus_base.specs.Faults.{counted_on}
-use Rattle.bus_trace.specs.LineSet.{LineSet}
-use Rattle.bus_trace.specs.Changes.{rises}
-use Rattle.bus_trace.specs.Phases.{changes_phase, is_command, is_data, is_message_in, is_message_out}
-use Rattle.bus_trace.specs.Terms.{is_fault, receiver_in}
-use Rattle.bus_trace.specs.declared.changes.Change.{Change}
-use Rattle.bus_trace.specs.declared.connection.Connection.{Connection}
-use Rattle.bus_trace.specs.declared.rows.Row.{Row}
-use Rattle.bus_lines.specs.Handshakes.{Handshakes}
-use Rattle.msg_grammar.specs.declared.message.Got.{Got}
-use Rattle.msg_grammar.specs.declared.message.Got.TheVariants as gots
-use Rattle.msg_grammar.specs.declared.message.MsgIn.{MsgIn}
-use Rattle.msg_grammar.specs.declared.message.MsgOut.{MsgOut}
-use Rattle.msg_grammar.specs.Messages.{got_in, got_out}
-use Rattle.bus_phases.specs.Half.{left_of, is_nil}
-use Rattle.bus_phases.specs.Reading.{reading_out, reading_in}
-use Rattle.bus_phases.specs.declared.reading.Reading.TheVariants as readings
-use Rattle.bus_rules.specs.Messages.{is_unknown}
-use Rattle.scenario.specs.Value.{ScenarioValue}
-use Rattle.bus_story.specs.BusState.{whole_in, whole_out, message_in, message_out}
-use Rattle.bus_story.specs.CarriedBytes.{is_status_phase}
-use Rattle.bus_story.specs.HistoryEvents as story_of
-use Rattle.bus_story.specs.HistoryEvents.{carried_if}
-use Rattle.bus_story.specs.Items.{Item, process, abort, has_item}
-use Rattle.bus_story.specs.Links.{Link, last_out}
-use Rattle.bus_dialogue.specs.declared.exchange.Cause.{Cause}
-use Rattle.bus_dialogue.specs.declared.exchange.Cause.TheVariants as causes
-use Rattle.bus_phases.specs.declared.dialogue.Dialogue.{Dialogue}
-use Rattle.bus_phases.specs.Dialogue.{fresh_bytes, byte_out, byte_in, byte_else}
-use Rattle.bus_dialogue.specs.Exchange.{Exchange, plan_anew, plan_after_message, struck_plan}
-use Rattle.bus_dialogue.specs.Planning.{plan_in_message_out}
-use Rattle.bus_books.specs.Rows.{reading_in as row_reading_in}
-use Rattle.bus_books.specs.Speaking.{IsAboutToSpeak}
-use Rattle.bus_books.specs.Tests.{is_selected}
-use Rattle.bus_books.proofs.Given.{in_is_known}
+use Rattle.bus_due.specs.bus_base.specs.declared.ProcId.{ProcId}
+use Rattle.bus_due.specs.bus_base.specs.Faults.{counted_on}
+use Rattle.bus_due.specs.bus_trace.specs.LineSet.{LineSet}
+use Rattle.bus_due.specs.bus_trace.specs.Changes.{rises}
+use Rattle.bus_due.specs.bus_trace.specs.Phases.{changes_phase, is_command, is_data, is_message_in, is_message_out}
+use Rattle.bus_due.specs.bus_trace.specs.Terms.{is_fault, receiver_in}
+use Rattle.bus_due.specs.bus_trace.specs.declared.changes.Change.{Change}
+use Rattle.bus_due.specs.bus_trace.specs.declared.connection.Connection.{Connection}
+use Rattle.bus_due.specs.bus_trace.specs.declared.rows.Row.{Row}
+use Rattle.bus_due.specs.bus_lines.specs.Handshakes.{Handshakes}
+use Rattle.bus_due.specs.msg_grammar.specs.declared.message.Got.{Got}
+use Rattle.bus_due.specs.msg_grammar.specs.declared.message.Got.TheVariants as gots
+use Rattle.bus_due.specs.msg_grammar.specs.declared.message.MsgIn.{MsgIn}
+use Rattle.bus_due.specs.msg_grammar.specs.declared.message.MsgOut.{MsgOut}
+use Rattle.bus_due.specs.msg_grammar.specs.Messages.{got_in, got_out}
+use Rattle.bus_due.specs.bus_phases.specs.Half.{left_of, is_nil}
+use Rattle.bus_due.specs.bus_phases.specs.Reading.{reading_out, reading_in}
+use Rattle.bus_due.specs.bus_phases.specs.declared.reading.Reading.TheVariants as readings
+use Rattle.bus_due.specs.bus_rules.specs.Messages.{is_unknown}
+use Rattle.bus_due.specs.scenario.specs.Value.{ScenarioValue}
+use Rattle.bus_due.specs.bus_story.specs.BusState.{whole_in, whole_out, message_in, message_out}
+use Rattle.bus_due.specs.bus_story.specs.CarriedBytes.{is_status_phase}
+use Rattle.bus_due.specs.bus_story.specs.HistoryEvents as story_of
+use Rattle.bus_due.specs.bus_story.specs.HistoryEvents.{carried_if}
+use Rattle.bus_due.specs.bus_story.specs.Items.{Item, process, abort, has_item}
+use Rattle.bus_due.specs.bus_story.specs.Links.{Link, last_out}
+use Rattle.bus_due.specs.bus_dialogue.specs.declared.exchange.Cause.{Cause}
+use Rattle.bus_due.specs.bus_dialogue.specs.declared.exchange.Cause.TheVariants as causes
+use Rattle.bus_due.specs.bus_phases.specs.declared.dialogue.Dialogue.{Dialogue}
+use Rattle.bus_due.specs.bus_phases.specs.Dialogue.{fresh_bytes, byte_out, byte_in, byte_else}
+use Rattle.bus_due.specs.bus_dialogue.specs.Exchange.{Exchange, plan_anew, plan_after_message, struck_plan}
+use Rattle.bus_due.specs.bus_dialogue.specs.Planning.{plan_in_message_out}
+use Rattle.trace_laws.specs.bus_books.specs.Rows.{reading_in as row_reading_in}
+use Rattle.trace_laws.specs.bus_books.specs.Speaking.{IsAboutToSpeak}
+use Rattle.trace_laws.specs.bus_books.specs.Tests.{is_selected}
+use Rattle.trace_laws.specs.bus_books.proofs.Given.{in_is_known}
 use Rattle.bus_due.specs.Sights.{hearing_of, leaving}
-use Rattle.bus_books.specs.Knowing.{Knows}
-use Rattle.bus_books.proofs.Gives.{in_io, not_both}
-use Rattle.bus_books.proofs.InConnection.{InConnection, in_connection, SamePhase}
+use Rattle.trace_laws.specs.bus_books.specs.Knowing.{Knows}
+use Rattle.trace_laws.specs.bus_books.proofs.Gives.{in_io, not_both}
+use Rattle.trace_laws.specs.bus_books.proofs.InConnection.{InConnection, in_connection, SamePhase}
 use Rattle.bus_due.specs.RunState.{RunState, bus_of}
 use Rattle.bus_due.specs.RunSteps.{run_state}
 use Rattle.bus_transcript.specs.declared.part.Incoming.{Incoming}
@@ -65,7 +65,7 @@ use Rattle.transcript_laws.proofs.PartLists.{over_keeps}
 use Rattle.transcript_laws.proofs.OpenedFacts.{Going, RowMade, made_still, made_crossing, made_turn, knows_before}
 use Rattle.transcript_laws.proofs.TalkNamed.{TalkNamed, base_talk, in_talk, turn_talk}
 use Rattle.transcript_laws.proofs.TurnFits.{item_served}
-use Rattle.bus_base.proofs.Tests.{wrong, wrong', or_true}
+use Rattle.bus_due.specs.bus_base.proofs.Tests.{wrong, wrong', or_true}
 
 -- In MESSAGE IN, with no message half heard, once a byte has crossed; and in a MESSAGE OUT that follows.
 pub record IsHeardIn (k : RunState) : Type 0 where

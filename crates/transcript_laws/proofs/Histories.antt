@@ -3,20 +3,20 @@ use Rattle.std.proofs.Common.{◌≡◌, ◌∙◌, Bool, true, false, ◌||◌,
 use Rattle.std.specs.List.{flat_map, list_any}
 use Rattle.std.proofs.lemmas.Bool.{or_right}
 use Rattle.std.proofs.lemmas.List.{reverse-append}
-use Rattle.bus_base.specs.declared.Event.{Event}
-use Rattle.bus_base.specs.declared.Event.TheVariants as events
-use Rattle.bus_base.specs.declared.ProcId.{ProcId}
-use Rattle.bus_trace.specs.declared.rows.Row.{Row}
-use Rattle.scenario.specs.Value.{ScenarioValue}
-use Rattle.bus_story.specs.Items as told
-use Rattle.bus_story.specs.TraceHistory.{story, trace_history}
-use Rattle.bus_books.proofs.Lookups.{self_id, id_is}
+use Rattle.bus_due.specs.bus_base.specs.declared.Event.{Event}
+use Rattle.bus_due.specs.bus_base.specs.declared.Event.TheVariants as events
+use Rattle.bus_due.specs.bus_base.specs.declared.ProcId.{ProcId}
+use Rattle.bus_due.specs.bus_trace.specs.declared.rows.Row.{Row}
+use Rattle.bus_due.specs.scenario.specs.Value.{ScenarioValue}
+use Rattle.bus_due.specs.bus_story.specs.Items as told
+use Rattle.bus_due.specs.bus_story.specs.TraceHistory.{story, trace_history}
+use Rattle.trace_laws.specs.bus_books.proofs.Lookups.{self_id, id_is}
 use Rattle.bus_transcript.specs.declared.item.Name.{Name}
 use Rattle.bus_transcript.specs.Events.{same_name, names_begun, name_sent, named_if, refused_name, refused_names, TellsHistory}
 use Rattle.bus_transcript.specs.Rows.{transcript_of}
 use Rattle.transcript_laws.specs.Told.{is_refusal, has_refusal, is_listed}
 use Rattle.transcript_laws.specs.Past.{IsPast, AreApart}
-use Rattle.bus_base.proofs.Tests.{wrong'}
+use Rattle.bus_due.specs.bus_base.proofs.Tests.{wrong'}
 use Rattle.bus_transcript.proofs.Inside.{name_same}
 use Rattle.transcript_laws.proofs.SentNames.{or_turned}
 

@@ -2,28 +2,28 @@
 use Rattle.std.proofs.Common.{ℕ, ◌≡◌, ◌∙◌, ◌+◌, Bool, true, false, not, ◌&&◌, ◌||◌, List, [], ◌∷◌, ◌++◌, Option, Some, None, refl, sym, ap, subst}
 use Rattle.std.specs.Prelude.{◌%◌, is_none, if◌then◌else◌}
 use Rattle.std.proofs.lemmas.Option.{same_Some}
-use Rattle.bus_base.specs.declared.Event.{Event}
-use Rattle.bus_base.specs.declared.ProcId.{ProcId}
-use Rattle.bus_trace.specs.LineSet.{LineSet}
-use Rattle.bus_trace.specs.Phases.{is_command, is_data, is_message_in, is_message_out}
-use Rattle.bus_trace.specs.declared.changes.Change.{Change}
-use Rattle.bus_trace.specs.declared.rows.Row.{Row}
-use Rattle.msg_grammar.specs.declared.message.MsgIn.{MsgIn}
-use Rattle.msg_grammar.specs.declared.message.MsgIn.TheVariants as to_initiator
-use Rattle.scenario.specs.declared.value.CmdDef.{CmdDef}
-use Rattle.scenario.specs.Value.{ScenarioValue}
-use Rattle.disk_array.specs.Processes.{same_id}
-use Rattle.disk_array.specs.Order.{same_number, tag_number}
-use Rattle.bus_story.specs.BusState.{RowReading, row_reading}
-use Rattle.bus_story.specs.CarriedBytes.{CarriedBytes, carried_of, with_restored_pointers, carried_after_message, is_status_phase}
-use Rattle.bus_story.specs.HistoryEvents.{carried_if}
-use Rattle.bus_story.specs.Items.{Item, process, abort, Sent, is_open, command_item, sense_item}
-use Rattle.bus_story.specs.Links.{Link, last_in, is_of_nexus, is_open_sense, named_item_from, link_after_name}
-use Rattle.bus_story.specs.Story.{Story}
-use Rattle.bus_story.specs.TraceHistory.{story_with_carried, carried_after_message_if, story}
-use Rattle.bus_story.proofs.CarriedLists.{carried_id}
-use Rattle.bus_books.specs.RowTests.{same_item_if}
-use Rattle.bus_books.proofs.RowTies.{item_if_is}
+use Rattle.bus_due.specs.bus_base.specs.declared.Event.{Event}
+use Rattle.bus_due.specs.bus_base.specs.declared.ProcId.{ProcId}
+use Rattle.bus_due.specs.bus_trace.specs.LineSet.{LineSet}
+use Rattle.bus_due.specs.bus_trace.specs.Phases.{is_command, is_data, is_message_in, is_message_out}
+use Rattle.bus_due.specs.bus_trace.specs.declared.changes.Change.{Change}
+use Rattle.bus_due.specs.bus_trace.specs.declared.rows.Row.{Row}
+use Rattle.bus_due.specs.msg_grammar.specs.declared.message.MsgIn.{MsgIn}
+use Rattle.bus_due.specs.msg_grammar.specs.declared.message.MsgIn.TheVariants as to_initiator
+use Rattle.bus_due.specs.scenario.specs.declared.value.CmdDef.{CmdDef}
+use Rattle.bus_due.specs.scenario.specs.Value.{ScenarioValue}
+use Rattle.bus_due.specs.disk_array.specs.Processes.{same_id}
+use Rattle.bus_due.specs.disk_array.specs.Order.{same_number, tag_number}
+use Rattle.bus_due.specs.bus_story.specs.BusState.{RowReading, row_reading}
+use Rattle.bus_due.specs.bus_story.specs.CarriedBytes.{CarriedBytes, carried_of, with_restored_pointers, carried_after_message, is_status_phase}
+use Rattle.bus_due.specs.bus_story.specs.HistoryEvents.{carried_if}
+use Rattle.bus_due.specs.bus_story.specs.Items.{Item, process, abort, Sent, is_open, command_item, sense_item}
+use Rattle.bus_due.specs.bus_story.specs.Links.{Link, last_in, is_of_nexus, is_open_sense, named_item_from, link_after_name}
+use Rattle.bus_due.specs.bus_story.specs.Story.{Story}
+use Rattle.bus_due.specs.bus_story.specs.TraceHistory.{story_with_carried, carried_after_message_if, story}
+use Rattle.bus_due.specs.bus_story.proofs.CarriedLists.{carried_id}
+use Rattle.trace_laws.specs.bus_books.specs.RowTests.{same_item_if}
+use Rattle.trace_laws.specs.bus_books.proofs.RowTies.{item_if_is}
 use Rattle.trace_laws.proofs.OverItems.{grows_same}
 use Rattle.trace_laws.proofs.Impossible.{none_some}
 use Rattle.trace_laws.proofs.PointerStorySteps.{named_story}
@@ -48,7 +48,7 @@ use Rattle.transcript_laws.proofs.OutRows.{lines_on, crossed_on}
 use Rattle.transcript_laws.proofs.ServingSteps.{in_serves}
 use Rattle.transcript_laws.proofs.StageRows.{stage_on}
 use Rattle.transcript_laws.proofs.TalkServes.{talk_in, talk_first}
-use Rattle.bus_base.proofs.Tests.{wrong', or_second}
+use Rattle.bus_due.specs.bus_base.proofs.Tests.{wrong', or_second}
 
 -- ---- a process that was known is known
 

@@ -12,8 +12,8 @@ use Rattle.bus_transcript.specs.Keys.{Key, key_of, key_cmp}
 use Rattle.bus_transcript.specs.Processes.{process_of, with_last, same_nexus, IsLast}
 use Rattle.bus_transcript.proofs.Nexuses.{by_key}
 use Rattle.std.proofs.lemmas.Bool.{eqb-true, and_parts}
-use Rattle.bus_base.proofs.Tests.{wrong', eq_turned}
-use Rattle.disk_array.specs.Order.{same_number}
+use Rattle.bus_due.specs.bus_base.proofs.Tests.{wrong', eq_turned}
+use Rattle.bus_due.specs.disk_array.specs.Order.{same_number}
 
 -- ---- keys that are the same
 

@@ -1,22 +1,22 @@
 -- A phase is left only after a byte of it was asked for (6.1.5.1, 6.1.5.2).
 use Rattle.std.proofs.Common.{ℕ, ◌≡◌, ◌∙◌, Bool, true, false, not, ◌&&◌, List, refl, sym, ap}
-use Rattle.bus_trace.specs.LineSet.{LineSet}
-use Rattle.bus_trace.specs.Changes.{change_of}
-use Rattle.bus_trace.specs.Phases.{changes_phase}
-use Rattle.bus_trace.specs.Trace.{drives, last_time}
-use Rattle.bus_trace.specs.declared.connection.Connection.{Connection}
-use Rattle.bus_trace.specs.declared.rows.Row.{Row}
-use Rattle.bus_trace.proofs.Sets.{same_self}
-use Rattle.scenario.specs.Value.{ScenarioValue}
-use Rattle.bus_dialogue.specs.Hearing.{begun}
-use Rattle.bus_laws.specs.Ends.{EndLines, Linked, connected_bus, initiator_side, target_side}
-use Rattle.bus_laws.specs.Rows.{row_of_fault, row_of_lines}
-use Rattle.bus_laws.proofs.Rows.{fault_change}
-use Rattle.link_laws.specs.Phases.{ends}
-use Rattle.link_laws.proofs.Moves.{initiator_moves, target_moves, phase_same}
+use Rattle.bus_due.specs.bus_trace.specs.LineSet.{LineSet}
+use Rattle.bus_due.specs.bus_trace.specs.Changes.{change_of}
+use Rattle.bus_due.specs.bus_trace.specs.Phases.{changes_phase}
+use Rattle.bus_due.specs.bus_trace.specs.Trace.{drives, last_time}
+use Rattle.bus_due.specs.bus_trace.specs.declared.connection.Connection.{Connection}
+use Rattle.bus_due.specs.bus_trace.specs.declared.rows.Row.{Row}
+use Rattle.bus_due.specs.bus_trace.proofs.Sets.{same_self}
+use Rattle.bus_due.specs.scenario.specs.Value.{ScenarioValue}
+use Rattle.bus_due.specs.bus_dialogue.specs.Hearing.{begun}
+use Rattle.trace_laws.specs.bus_laws.specs.Ends.{EndLines, Linked, connected_bus, initiator_side, target_side}
+use Rattle.trace_laws.specs.bus_laws.specs.Rows.{row_of_fault, row_of_lines}
+use Rattle.trace_laws.specs.bus_laws.proofs.Rows.{fault_change}
+use Rattle.trace_laws.specs.link_laws.specs.Phases.{ends}
+use Rattle.trace_laws.specs.link_laws.proofs.Moves.{initiator_moves, target_moves, phase_same}
 use Rattle.trace_laws.proofs.LinkRows as rows
 use Rattle.trace_laws.proofs.LinkRows.{LinkRow, is_unasked}
-use Rattle.bus_base.proofs.Tests.{wrong, wrong'}
+use Rattle.bus_due.specs.bus_base.proofs.Tests.{wrong, wrong'}
 
 -- ---- rows with which the phase stays
 

@@ -2,13 +2,13 @@
 use Rattle.std.proofs.Common.{ℕ, ◌≡◌, ◌∙◌, ◌+◌, ◌≤◌, Bool, true, false, List, [], ◌∷◌, ◌++◌, length, Option, Some, None, refl, sym, ap, arith}
 use Rattle.std.specs.Prelude.{if◌then◌else◌, is_none}
 use Rattle.std.proofs.lemmas.List.{append_assoc, append-nil, length-append}
-use Rattle.bus_trace.specs.Changes.{falls, rises}
-use Rattle.bus_trace.specs.declared.changes.Change.{Change}
-use Rattle.bus_trace.specs.declared.connection.Connection.{Connection}
-use Rattle.bus_trace.specs.declared.rows.Row.{Row}
-use Rattle.bus_trace.specs.declared.selection.Call.{Call}
-use Rattle.bus_trace.specs.declared.selection.Calling.{Calling}
-use Rattle.bus_story.specs.BusState.{RowReading, row_reading}
+use Rattle.bus_due.specs.bus_trace.specs.Changes.{falls, rises}
+use Rattle.bus_due.specs.bus_trace.specs.declared.changes.Change.{Change}
+use Rattle.bus_due.specs.bus_trace.specs.declared.connection.Connection.{Connection}
+use Rattle.bus_due.specs.bus_trace.specs.declared.rows.Row.{Row}
+use Rattle.bus_due.specs.bus_trace.specs.declared.selection.Call.{Call}
+use Rattle.bus_due.specs.bus_trace.specs.declared.selection.Calling.{Calling}
+use Rattle.bus_due.specs.bus_story.specs.BusState.{RowReading, row_reading}
 use Rattle.bus_transcript.specs.declared.item.Item.{Item}
 use Rattle.bus_transcript.specs.declared.item.Item.TheVariants as items
 use Rattle.bus_transcript.specs.declared.item.Name.{Name}

@@ -1,12 +1,12 @@
 -- Of a prompt trace whose rows fit, the transcript begins few names: one for each item that an initiator sent.
 use Rattle.std.proofs.Common.{◌≡◌, ◌∙◌, ◌≤◌, ◌<◌, true, ◌&&◌, List, [], ◌∷◌, length, sym, ap, arith}
 use Rattle.std.proofs.lemmas.List.{length-reverse}
-use Rattle.bus_base.proofs.Tests.{and_first}
-use Rattle.bus_trace.specs.declared.rows.Row.{Row}
-use Rattle.scenario.specs.Value.{ScenarioValue}
-use Rattle.scenario.specs.Writing.{Obeys}
-use Rattle.bus_story.specs.Story.{Story}
-use Rattle.bus_story.specs.TraceHistory.{story}
+use Rattle.bus_due.specs.bus_base.proofs.Tests.{and_first}
+use Rattle.bus_due.specs.bus_trace.specs.declared.rows.Row.{Row}
+use Rattle.bus_due.specs.scenario.specs.Value.{ScenarioValue}
+use Rattle.bus_due.specs.scenario.specs.Writing.{Obeys}
+use Rattle.bus_due.specs.bus_story.specs.Story.{Story}
+use Rattle.bus_due.specs.bus_story.specs.TraceHistory.{story}
 use Rattle.bus_due.specs.Next.{IsPrompt}
 use Rattle.bus_due.specs.RunSteps.{run_state}
 use Rattle.bus_due.proofs.Plains.{run_state_plain}

@@ -2,38 +2,38 @@
 use Rattle.std.proofs.Common.{◌≡◌, ◌∙◌, Bool, true, false, ◌&&◌, List, [], ◌∷◌, ◌++◌, Option, Some, None, refl, sym, ap, subst}
 use Rattle.std.specs.Prelude.{◌||◌, is_some, is_none, not, if◌then◌else◌}
 use Rattle.std.proofs.lemmas.Option.{same_Some}
-use Rattle.bus_base.specs.declared.ProcId.{ProcId}
-use Rattle.bus_trace.specs.LineSet.{LineSet}
-use Rattle.bus_trace.specs.Phases.{changes_phase, is_message_in}
-use Rattle.bus_trace.specs.Terms.{connection, is_fault, receiver_in}
-use Rattle.bus_trace.specs.Trace.{bus}
-use Rattle.bus_trace.specs.declared.connection.Connection.{Connection}
-use Rattle.bus_trace.specs.declared.rows.Row.{Row}
-use Rattle.bus_lines.specs.Handshakes.{Handshakes, no_handshakes}
-use Rattle.msg_grammar.specs.declared.message.MsgIn.{MsgIn}
-use Rattle.scenario.specs.Value.{ScenarioValue}
-use Rattle.scenario.specs.Writing.{Obeys}
-use Rattle.disk_array.specs.Processes.{Process, process_of}
-use Rattle.bus_story.specs.BusState.{row_reading}
-use Rattle.bus_story.specs.Items.{Item, process, abort}
-use Rattle.bus_story.specs.Links.{Link}
-use Rattle.bus_story.specs.TraceHistory.{aim_of}
-use Rattle.bus_dialogue.specs.declared.exchange.Plan.{Plan}
-use Rattle.bus_dialogue.specs.Exchange.{no_messages, bytes_of_messages}
-use Rattle.bus_dialogue.specs.Planning.{first_plan}
-use Rattle.bus_dialogue.specs.Words.{naming_messages, is_naming}
+use Rattle.bus_due.specs.bus_base.specs.declared.ProcId.{ProcId}
+use Rattle.bus_due.specs.bus_trace.specs.LineSet.{LineSet}
+use Rattle.bus_due.specs.bus_trace.specs.Phases.{changes_phase, is_message_in}
+use Rattle.bus_due.specs.bus_trace.specs.Terms.{connection, is_fault, receiver_in}
+use Rattle.bus_due.specs.bus_trace.specs.Trace.{bus}
+use Rattle.bus_due.specs.bus_trace.specs.declared.connection.Connection.{Connection}
+use Rattle.bus_due.specs.bus_trace.specs.declared.rows.Row.{Row}
+use Rattle.bus_due.specs.bus_lines.specs.Handshakes.{Handshakes, no_handshakes}
+use Rattle.bus_due.specs.msg_grammar.specs.declared.message.MsgIn.{MsgIn}
+use Rattle.bus_due.specs.scenario.specs.Value.{ScenarioValue}
+use Rattle.bus_due.specs.scenario.specs.Writing.{Obeys}
+use Rattle.bus_due.specs.disk_array.specs.Processes.{Process, process_of}
+use Rattle.bus_due.specs.bus_story.specs.BusState.{row_reading}
+use Rattle.bus_due.specs.bus_story.specs.Items.{Item, process, abort}
+use Rattle.bus_due.specs.bus_story.specs.Links.{Link}
+use Rattle.bus_due.specs.bus_story.specs.TraceHistory.{aim_of}
+use Rattle.bus_due.specs.bus_dialogue.specs.declared.exchange.Plan.{Plan}
+use Rattle.bus_due.specs.bus_dialogue.specs.Exchange.{no_messages, bytes_of_messages}
+use Rattle.bus_due.specs.bus_dialogue.specs.Planning.{first_plan}
+use Rattle.bus_due.specs.bus_dialogue.specs.Words.{naming_messages, is_naming}
 use Rattle.bus_due.specs.Next.{IsPrompt}
 use Rattle.bus_due.specs.Plain.{IsPlain}
 use Rattle.bus_due.specs.RunState.{RunState, bus_of, process_item}
 use Rattle.bus_due.specs.RunSteps.{run_state, exchange_after, leaving_of, served_after, item_if, may_negotiate, messages_if}
 use Rattle.bus_due.specs.Wants.{ready_of}
 use Rattle.bus_due.proofs.Plains.{run_state_plain}
-use Rattle.bus_books.specs.Giving.{AreGiven, OnMessage}
-use Rattle.bus_books.specs.Knowing.{IsNoName}
-use Rattle.bus_books.specs.Listening.{half_after}
-use Rattle.bus_books.specs.Traces.{Begins, IsReadyFor}
-use Rattle.bus_books.proofs.InConnection.{in_connection}
-use Rattle.scsi_device.proofs.FitLines.{obeys_fits, units_are}
+use Rattle.trace_laws.specs.bus_books.specs.Giving.{AreGiven, OnMessage}
+use Rattle.trace_laws.specs.bus_books.specs.Knowing.{IsNoName}
+use Rattle.trace_laws.specs.bus_books.specs.Listening.{half_after}
+use Rattle.trace_laws.specs.bus_books.specs.Traces.{Begins, IsReadyFor}
+use Rattle.trace_laws.specs.bus_books.proofs.InConnection.{in_connection}
+use Rattle.trace_laws.specs.scsi_device.proofs.FitLines.{obeys_fits, units_are}
 use Rattle.bus_transcript.specs.Nexus.{no_summary}
 use Rattle.bus_transcript.specs.Opened.{OpenedValue, opened_connection}
 use Rattle.bus_transcript.specs.Rows.{transcribed}
@@ -54,7 +54,7 @@ use Rattle.transcript_laws.proofs.OutWords.{unit_small}
 use Rattle.transcript_laws.proofs.SaidNames.{SaidNames, NoNames, mild_said, speaking, names_hold}
 use Rattle.transcript_laws.proofs.TalkNamed.{talk_more}
 use Rattle.transcript_laws.proofs.TurnSteps.{outs_talk}
-use Rattle.bus_base.proofs.Tests.{wrong, wrong', nil_of, or_true}
+use Rattle.bus_due.specs.bus_base.proofs.Tests.{wrong, wrong', nil_of, or_true}
 
 pub record NamesAgain (s : ScenarioValue) (k : RunState) (n : Connection) (o : OpenedValue) : Type 0 where
   pub names : SaidNames s k n o

@@ -3,27 +3,27 @@
 use Rattle.std.proofs.Common.{ℕ, ◌≡◌, ◌∙◌, ◌+◌, ◌<◌, Bool, true, false, not, List, [], ◌∷◌, ◌++◌, length, Option, Some, None, refl, sym, ap, subst, arith}
 use Rattle.std.specs.Prelude.{◌-◌, ◌==◌, is_some, is_none, slice_index_or, if◌then◌else◌}
 use Rattle.std.proofs.lemmas.List.{append_assoc, append-nil}
-use Rattle.bus_trace.specs.declared.connection.Connection.{Connection}
-use Rattle.msg_grammar.specs.declared.message.MsgIn.{MsgIn}
-use Rattle.msg_grammar.specs.declared.message.MsgIn.TheVariants as to_initiator
-use Rattle.msg_grammar.specs.declared.message.MsgOut.{MsgOut}
-use Rattle.msg_grammar.specs.Messages.{form_in, got_in}
-use Rattle.disk_array.specs.Processes.{Process}
-use Rattle.disk_array.specs.Order.{tag_number}
-use Rattle.bus_phases.specs.Half.{is_nil, left_of}
-use Rattle.bus_story.specs.BusState.{whole_in}
-use Rattle.bus_dialogue.specs.declared.exchange.Messages.{Messages}
-use Rattle.bus_dialogue.specs.Exchange.{bytes_of_messages, message_bytes, from_byte, one_message}
-use Rattle.bus_dialogue.specs.Words.{naming_messages, tag_named, is_name, is_naming}
+use Rattle.bus_due.specs.bus_trace.specs.declared.connection.Connection.{Connection}
+use Rattle.bus_due.specs.msg_grammar.specs.declared.message.MsgIn.{MsgIn}
+use Rattle.bus_due.specs.msg_grammar.specs.declared.message.MsgIn.TheVariants as to_initiator
+use Rattle.bus_due.specs.msg_grammar.specs.declared.message.MsgOut.{MsgOut}
+use Rattle.bus_due.specs.msg_grammar.specs.Messages.{form_in, got_in}
+use Rattle.bus_due.specs.disk_array.specs.Processes.{Process}
+use Rattle.bus_due.specs.disk_array.specs.Order.{tag_number}
+use Rattle.bus_due.specs.bus_phases.specs.Half.{is_nil, left_of}
+use Rattle.bus_due.specs.bus_story.specs.BusState.{whole_in}
+use Rattle.bus_due.specs.bus_dialogue.specs.declared.exchange.Messages.{Messages}
+use Rattle.bus_due.specs.bus_dialogue.specs.Exchange.{bytes_of_messages, message_bytes, from_byte, one_message}
+use Rattle.bus_due.specs.bus_dialogue.specs.Words.{naming_messages, tag_named, is_name, is_naming}
 use Rattle.bus_transcript.specs.declared.part.Part.{Part}
 use Rattle.bus_transcript.specs.declared.part.Part.TheVariants as parts_of
 use Rattle.bus_transcript.specs.declared.summary.Departure.TheVariants.{Loss}
 use Rattle.bus_transcript.specs.declared.summary.Summary.{Summary}
 use Rattle.bus_transcript.specs.Nexus.{no_summary, named, unit_in, tag_in, summary_of, summary_in, summary_out}
-use Rattle.msg_grammar.specs.Grammar.{is_abort}
+use Rattle.bus_due.specs.msg_grammar.specs.Grammar.{is_abort}
 use Rattle.transcript_laws.specs.Parts.{out_parts, summary_by}
 use Rattle.transcript_laws.proofs.OutNames.{outs_of, is_tame, are_tame}
-use Rattle.bus_base.proofs.Tests.{wrong, wrong', and_first, and_second}
+use Rattle.bus_due.specs.bus_base.proofs.Tests.{wrong, wrong', and_first, and_second}
 use Rattle.trace_laws.proofs.NamedBytes.{all_bytes, identify_got, Tagged, bare, numbered, tagged_is}
 
 -- ---- the messages of a target among parts

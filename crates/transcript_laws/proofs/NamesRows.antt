@@ -2,38 +2,38 @@
 -- makes void is said again, and once no names follow they are told (6.1.4, 6.6.7, 6.6.13, 6.6.17).
 use Rattle.std.proofs.Common.{ℕ, ◌≡◌, ◌∙◌, ◌+◌, ◌<◌, Bool, true, false, not, ◌&&◌, ◌%◌, List, [], ◌∷◌, ◌++◌, length, Option, Some, None, refl, sym, ap, subst}
 use Rattle.std.specs.Prelude.{◌==◌, is_some, if◌then◌else◌}
-use Rattle.bus_base.specs.Faults.{counted_on}
-use Rattle.bus_trace.specs.Changes.{rises}
-use Rattle.bus_trace.specs.Phases.{changes_phase, is_message_in, is_message_out}
-use Rattle.bus_trace.specs.Terms.{is_fault, receiver_in}
-use Rattle.bus_trace.specs.declared.changes.Change.{Change}
-use Rattle.bus_trace.specs.declared.connection.Connection.{Connection}
-use Rattle.bus_trace.specs.declared.rows.Row.{Row}
-use Rattle.msg_grammar.specs.declared.message.MsgIn.{MsgIn}
-use Rattle.msg_grammar.specs.declared.message.MsgOut.{MsgOut}
-use Rattle.msg_grammar.specs.Messages.{got_in, got_out}
-use Rattle.bus_phases.specs.declared.dialogue.Dialogue.{Dialogue}
-use Rattle.bus_phases.specs.Dialogue.{byte_in, byte_out, byte_else}
-use Rattle.bus_phases.specs.Half.{left_of}
-use Rattle.bus_phases.specs.Reading.{reading_in, reading_out}
-use Rattle.bus_phases.specs.declared.reading.Reading.TheVariants as readings
-use Rattle.bus_rules.specs.Messages.{is_unknown}
-use Rattle.scenario.specs.Value.{ScenarioValue}
-use Rattle.disk_array.specs.Processes.{Process}
-use Rattle.bus_story.specs.BusState.{whole_in, message_in, message_out}
-use Rattle.bus_story.specs.TraceHistory.{is_parity_error}
-use Rattle.bus_dialogue.specs.declared.exchange.Cause.TheVariants as causes
-use Rattle.bus_dialogue.specs.declared.exchange.Messages.{Messages}
-use Rattle.bus_dialogue.specs.declared.exchange.Next.TheVariants as nexts
-use Rattle.bus_dialogue.specs.Exchange.{Exchange, bytes_of_messages, plan_after_message, struck_plan}
+use Rattle.bus_due.specs.bus_base.specs.Faults.{counted_on}
+use Rattle.bus_due.specs.bus_trace.specs.Changes.{rises}
+use Rattle.bus_due.specs.bus_trace.specs.Phases.{changes_phase, is_message_in, is_message_out}
+use Rattle.bus_due.specs.bus_trace.specs.Terms.{is_fault, receiver_in}
+use Rattle.bus_due.specs.bus_trace.specs.declared.changes.Change.{Change}
+use Rattle.bus_due.specs.bus_trace.specs.declared.connection.Connection.{Connection}
+use Rattle.bus_due.specs.bus_trace.specs.declared.rows.Row.{Row}
+use Rattle.bus_due.specs.msg_grammar.specs.declared.message.MsgIn.{MsgIn}
+use Rattle.bus_due.specs.msg_grammar.specs.declared.message.MsgOut.{MsgOut}
+use Rattle.bus_due.specs.msg_grammar.specs.Messages.{got_in, got_out}
+use Rattle.bus_due.specs.bus_phases.specs.declared.dialogue.Dialogue.{Dialogue}
+use Rattle.bus_due.specs.bus_phases.specs.Dialogue.{byte_in, byte_out, byte_else}
+use Rattle.bus_due.specs.bus_phases.specs.Half.{left_of}
+use Rattle.bus_due.specs.bus_phases.specs.Reading.{reading_in, reading_out}
+use Rattle.bus_due.specs.bus_phases.specs.declared.reading.Reading.TheVariants as readings
+use Rattle.bus_due.specs.bus_rules.specs.Messages.{is_unknown}
+use Rattle.bus_due.specs.scenario.specs.Value.{ScenarioValue}
+use Rattle.bus_due.specs.disk_array.specs.Processes.{Process}
+use Rattle.bus_due.specs.bus_story.specs.BusState.{whole_in, message_in, message_out}
+use Rattle.bus_due.specs.bus_story.specs.TraceHistory.{is_parity_error}
+use Rattle.bus_due.specs.bus_dialogue.specs.declared.exchange.Cause.TheVariants as causes
+use Rattle.bus_due.specs.bus_dialogue.specs.declared.exchange.Messages.{Messages}
+use Rattle.bus_due.specs.bus_dialogue.specs.declared.exchange.Next.TheVariants as nexts
+use Rattle.bus_due.specs.bus_dialogue.specs.Exchange.{Exchange, bytes_of_messages, plan_after_message, struck_plan}
 use Rattle.bus_due.specs.RunState.{RunState, bus_of}
 use Rattle.bus_due.specs.RunSteps.{run_state}
-use Rattle.bus_books.specs.Giving.{OnMessages}
-use Rattle.bus_books.specs.Knowing.{IsNoName}
-use Rattle.bus_books.specs.Speaking.{IsSpeaking}
-use Rattle.bus_books.proofs.Gives.{counted, few_messages, in_io}
-use Rattle.bus_books.proofs.Given.{in_is_known}
-use Rattle.bus_books.proofs.InConnection.{InConnection, in_connection, SamePhase}
+use Rattle.trace_laws.specs.bus_books.specs.Giving.{OnMessages}
+use Rattle.trace_laws.specs.bus_books.specs.Knowing.{IsNoName}
+use Rattle.trace_laws.specs.bus_books.specs.Speaking.{IsSpeaking}
+use Rattle.trace_laws.specs.bus_books.proofs.Gives.{counted, few_messages, in_io}
+use Rattle.trace_laws.specs.bus_books.proofs.Given.{in_is_known}
+use Rattle.trace_laws.specs.bus_books.proofs.InConnection.{InConnection, in_connection, SamePhase}
 use Rattle.bus_transcript.specs.declared.part.Incoming.{Incoming}
 use Rattle.bus_transcript.specs.Nexus.{no_summary}
 use Rattle.bus_transcript.specs.Opened.{OpenedValue, held_part, with_in_if}
@@ -49,7 +49,7 @@ use Rattle.transcript_laws.proofs.OpenedBytes.{KeepsTalk, CrossingMade, crossed_
 use Rattle.transcript_laws.proofs.OpenedFacts.{Going}
 use Rattle.transcript_laws.proofs.OutWords.{SaysParity, refusing, plain_words, says_parity, is_plain_said}
 use Rattle.transcript_laws.proofs.SaidNames.{Speaking, IsOpened, words_front}
-use Rattle.bus_base.proofs.Tests.{wrong, wrong', rises_some}
+use Rattle.bus_due.specs.bus_base.proofs.Tests.{wrong, wrong', rises_some}
 
 -- ---- what is kept
 

@@ -13,9 +13,9 @@ use Rattle.bus_transcript.specs.Numbers.{next_number}
 use Rattle.bus_transcript.specs.Processes.{process_of, with_last, same_nexus, process_after}
 use Rattle.transcript_laws.specs.Numbered.{OnNames, AreOther, AreDistinct, HasLast, AreNumbered}
 use Rattle.transcript_laws.proofs.LastProcesses.{is_last, nexus_is, nexus_turned}
-use Rattle.bus_base.proofs.Tests.{wrong}
+use Rattle.bus_due.specs.bus_base.proofs.Tests.{wrong}
 use Rattle.trace_laws.proofs.Impossible.{none_some}
-use Rattle.disk_array.proofs.SeatLookups.{number_same}
+use Rattle.bus_due.specs.disk_array.proofs.SeatLookups.{number_same}
 
 -- ---- numbers
 

@@ -1,16 +1,16 @@
 -- What is open after a row was open before it, and what is kept of it stays.
 use Rattle.std.proofs.Common.{ℕ, ◌≡◌, ◌∙◌, Bool, true, false, List, Option, refl, sym, ap, subst}
 use Rattle.std.specs.Prelude.{if◌then◌else◌}
-use Rattle.bus_base.specs.declared.ProcId.{ProcId}
-use Rattle.bus_trace.specs.declared.connection.Connection.{Connection}
-use Rattle.scenario.specs.Value.{ScenarioValue}
-use Rattle.disk_array.specs.Processes.{same_id}
-use Rattle.bus_story.specs.CarriedBytes.{CarriedBytes, carried_of, with_carried}
-use Rattle.bus_story.specs.Items.{Item}
-use Rattle.bus_story.specs.Story.{Story}
-use Rattle.bus_story.proofs.CarriedLists.{carried_with}
-use Rattle.bus_books.specs.Accounts.{is_open_in}
-use Rattle.bus_books.proofs.Lookups.{id_is}
+use Rattle.bus_due.specs.bus_base.specs.declared.ProcId.{ProcId}
+use Rattle.bus_due.specs.bus_trace.specs.declared.connection.Connection.{Connection}
+use Rattle.bus_due.specs.scenario.specs.Value.{ScenarioValue}
+use Rattle.bus_due.specs.disk_array.specs.Processes.{same_id}
+use Rattle.bus_due.specs.bus_story.specs.CarriedBytes.{CarriedBytes, carried_of, with_carried}
+use Rattle.bus_due.specs.bus_story.specs.Items.{Item}
+use Rattle.bus_due.specs.bus_story.specs.Story.{Story}
+use Rattle.bus_due.specs.bus_story.proofs.CarriedLists.{carried_with}
+use Rattle.trace_laws.specs.bus_books.specs.Accounts.{is_open_in}
+use Rattle.trace_laws.specs.bus_books.proofs.Lookups.{id_is}
 use Rattle.bus_transcript.specs.declared.item.Name.{Name}
 use Rattle.bus_transcript.specs.declared.process.Process.{Process}
 use Rattle.bus_transcript.specs.Events.{names_begun, name_sent}

@@ -1,24 +1,24 @@
 -- All that is kept of the connection of a transcript, row by row of a prompt trace.
 use Rattle.std.proofs.Common.{◌≡◌, ◌∙◌, ◌==◌, Bool, true, false, List, ◌∷◌, Option, Some, None, refl, sym, ap}
 use Rattle.std.specs.Prelude.{if◌then◌else◌}
-use Rattle.bus_trace.specs.Terms.{connection}
-use Rattle.bus_trace.specs.Trace.{bus}
-use Rattle.bus_trace.specs.declared.connection.Connection.{Connection}
-use Rattle.bus_trace.specs.declared.rows.Row.{Row}
-use Rattle.bus_lines.specs.Handshakes.{Handshakes}
-use Rattle.scenario.specs.Value.{ScenarioValue}
-use Rattle.scenario.specs.Writing.{Obeys}
-use Rattle.bus_story.specs.BusState.{RowReading, row_reading}
-use Rattle.bus_story.specs.HistoryEvents as story_of
-use Rattle.bus_story.specs.HistoryEvents.{row_events_by}
-use Rattle.bus_story.specs.Items.{Item, process, abort}
-use Rattle.bus_story.specs.Links.{Link, link_of}
-use Rattle.bus_story.specs.Story.{Story}
-use Rattle.bus_story.specs.TraceHistory.{aim_of, story_on_bus, story_by_change, story_after_connection, story_with_restored, story_with_sent}
+use Rattle.bus_due.specs.bus_trace.specs.Terms.{connection}
+use Rattle.bus_due.specs.bus_trace.specs.Trace.{bus}
+use Rattle.bus_due.specs.bus_trace.specs.declared.connection.Connection.{Connection}
+use Rattle.bus_due.specs.bus_trace.specs.declared.rows.Row.{Row}
+use Rattle.bus_due.specs.bus_lines.specs.Handshakes.{Handshakes}
+use Rattle.bus_due.specs.scenario.specs.Value.{ScenarioValue}
+use Rattle.bus_due.specs.scenario.specs.Writing.{Obeys}
+use Rattle.bus_due.specs.bus_story.specs.BusState.{RowReading, row_reading}
+use Rattle.bus_due.specs.bus_story.specs.HistoryEvents as story_of
+use Rattle.bus_due.specs.bus_story.specs.HistoryEvents.{row_events_by}
+use Rattle.bus_due.specs.bus_story.specs.Items.{Item, process, abort}
+use Rattle.bus_due.specs.bus_story.specs.Links.{Link, link_of}
+use Rattle.bus_due.specs.bus_story.specs.Story.{Story}
+use Rattle.bus_due.specs.bus_story.specs.TraceHistory.{aim_of, story_on_bus, story_by_change, story_after_connection, story_with_restored, story_with_sent}
 use Rattle.bus_due.specs.Next.{IsPrompt}
 use Rattle.bus_due.specs.RunState.{RunState}
 use Rattle.bus_due.specs.RunSteps.{run_state}
-use Rattle.bus_story.proofs.StorySteps.{events_link}
+use Rattle.bus_due.specs.bus_story.proofs.StorySteps.{events_link}
 use Rattle.bus_transcript.specs.Opened.{OpenedValue, opened_connection}
 use Rattle.bus_transcript.specs.Rows.{transcribed}
 use Rattle.transcript_laws.proofs.HeldLast.{HeldLast, held_row}
@@ -28,7 +28,7 @@ use Rattle.transcript_laws.proofs.OpenedFacts.{Starts, Holds, always}
 use Rattle.transcript_laws.proofs.SaidWords.{SaidWords, words_hold}
 use Rattle.transcript_laws.proofs.StatusTalk.{StatusTalk, status_starts, status_row}
 use Rattle.transcript_laws.proofs.TalkNamed.{TalkNamed, named_row}
-use Rattle.bus_base.proofs.Tests.{wrong, wrong'}
+use Rattle.bus_due.specs.bus_base.proofs.Tests.{wrong, wrong'}
 
 pub record OpenedAll (k : RunState) (n : Connection) (o : OpenedValue) : Type 0 where
   pub bytes : OpenedBytes k n o

@@ -1,29 +1,29 @@
 -- The connection of a transcript is that of the bus; messages are said in MESSAGE OUT alone, and bytes taken in COMMAND and data.
 use Rattle.std.proofs.Common.{ℕ, ◌≡◌, ◌∙◌, Bool, true, false, not, ◌&&◌, ◌%◌, List, [], ◌∷◌, ◌++◌, Option, Some, None, refl, sym, ap}
 use Rattle.std.specs.Prelude.{◌||◌, is_some, if◌then◌else◌}
-use Rattle.bus_trace.specs.LineSet.{LineSet}
-use Rattle.bus_trace.specs.Phases.{changes_phase, is_command, is_data, is_message_in, is_message_out}
-use Rattle.bus_trace.specs.Terms.{is_fault, receiver_in}
-use Rattle.bus_trace.specs.declared.changes.Change.{Change}
-use Rattle.bus_trace.specs.declared.connection.Connection.{Connection}
-use Rattle.bus_trace.specs.declared.rows.Row.{Row}
-use Rattle.msg_grammar.specs.declared.message.MsgIn.{MsgIn}
-use Rattle.msg_grammar.specs.declared.message.MsgOut.{MsgOut}
-use Rattle.bus_story.specs.BusState.{BusState, RowReading, row_reading, message_in, message_out}
-use Rattle.bus_dialogue.specs.Exchange.{Exchange}
-use Rattle.bus_story.specs.CarriedBytes.{is_status_phase}
+use Rattle.bus_due.specs.bus_trace.specs.LineSet.{LineSet}
+use Rattle.bus_due.specs.bus_trace.specs.Phases.{changes_phase, is_command, is_data, is_message_in, is_message_out}
+use Rattle.bus_due.specs.bus_trace.specs.Terms.{is_fault, receiver_in}
+use Rattle.bus_due.specs.bus_trace.specs.declared.changes.Change.{Change}
+use Rattle.bus_due.specs.bus_trace.specs.declared.connection.Connection.{Connection}
+use Rattle.bus_due.specs.bus_trace.specs.declared.rows.Row.{Row}
+use Rattle.bus_due.specs.msg_grammar.specs.declared.message.MsgIn.{MsgIn}
+use Rattle.bus_due.specs.msg_grammar.specs.declared.message.MsgOut.{MsgOut}
+use Rattle.bus_due.specs.bus_story.specs.BusState.{BusState, RowReading, row_reading, message_in, message_out}
+use Rattle.bus_due.specs.bus_dialogue.specs.Exchange.{Exchange}
+use Rattle.bus_due.specs.bus_story.specs.CarriedBytes.{is_status_phase}
 use Rattle.bus_due.specs.RunState.{RunState, bus_of}
 use Rattle.bus_due.specs.RunSteps.{run_state}
-use Rattle.bus_books.specs.Rows.{reading_in}
-pub use Rattle.bus_books.proofs.Gives.{in_same}
-pub use Rattle.bus_books.proofs.Speaks.{out_same}
-use Rattle.bus_books.proofs.InConnection.{reading_is, in_connection, SamePhase, same_phase_is}
-use Rattle.scenario.specs.Value.{ScenarioValue}
+use Rattle.trace_laws.specs.bus_books.specs.Rows.{reading_in}
+pub use Rattle.trace_laws.specs.bus_books.proofs.Gives.{in_same}
+pub use Rattle.trace_laws.specs.bus_books.proofs.Speaks.{out_same}
+use Rattle.trace_laws.specs.bus_books.proofs.InConnection.{reading_is, in_connection, SamePhase, same_phase_is}
+use Rattle.bus_due.specs.scenario.specs.Value.{ScenarioValue}
 use Rattle.bus_transcript.specs.declared.part.Part.TheVariants.{Completion, StatusPhase, Status}
 use Rattle.bus_transcript.specs.Opened.{OpenedValue, with_part, with_in_if, with_said, with_crossing, with_fault, is_completion, with_still_row, phase_entered, phase_over}
 use Rattle.transcript_laws.proofs.PartLists.{over_keeps}
 use Rattle.transcript_laws.proofs.OpenedFacts.{Going, RowMade, made_still, made_crossing, made_turn, Holds}
-use Rattle.bus_base.proofs.Tests.{wrong, wrong'}
+use Rattle.bus_due.specs.bus_base.proofs.Tests.{wrong, wrong'}
 
 pub record OpenedBytes (k : RunState) (n : Connection) (o : OpenedValue) : Type 0 where
   pub connection_is : o.connection ≡ n

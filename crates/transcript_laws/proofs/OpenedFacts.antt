@@ -2,30 +2,30 @@
 use Rattle.std.proofs.Common.{ℕ, ◌≡◌, ◌∙◌, ◌<◌, Bool, true, false, List, [], ◌∷◌, Option, Some, None, sym, ap, subst}
 use Rattle.std.specs.Prelude.{is_some, if◌then◌else◌}
 use Rattle.std.proofs.lemmas.Option.{same_Some}
-use Rattle.bus_trace.specs.Changes.{change_of}
-use Rattle.bus_trace.specs.Phases.{changes_phase, is_message_in, is_message_out}
-use Rattle.bus_trace.specs.Terms.{is_fault, connection, connection_after, receiver_in}
-use Rattle.bus_trace.specs.Trace.{bus}
-use Rattle.bus_trace.specs.declared.changes.Change.{Change}
-use Rattle.bus_trace.specs.declared.connection.Connection.{Connection}
-use Rattle.bus_trace.specs.declared.rows.Row.{Row}
-use Rattle.scenario.specs.Value.{ScenarioValue}
-use Rattle.scenario.specs.Writing.{Obeys}
-use Rattle.bus_story.specs.BusState.{BusState, RowReading, row_reading}
+use Rattle.bus_due.specs.bus_trace.specs.Changes.{change_of}
+use Rattle.bus_due.specs.bus_trace.specs.Phases.{changes_phase, is_message_in, is_message_out}
+use Rattle.bus_due.specs.bus_trace.specs.Terms.{is_fault, connection, connection_after, receiver_in}
+use Rattle.bus_due.specs.bus_trace.specs.Trace.{bus}
+use Rattle.bus_due.specs.bus_trace.specs.declared.changes.Change.{Change}
+use Rattle.bus_due.specs.bus_trace.specs.declared.connection.Connection.{Connection}
+use Rattle.bus_due.specs.bus_trace.specs.declared.rows.Row.{Row}
+use Rattle.bus_due.specs.scenario.specs.Value.{ScenarioValue}
+use Rattle.bus_due.specs.scenario.specs.Writing.{Obeys}
+use Rattle.bus_due.specs.bus_story.specs.BusState.{BusState, RowReading, row_reading}
 use Rattle.bus_due.specs.Next.{IsPrompt}
 use Rattle.bus_due.specs.Plain.{IsPlain}
 use Rattle.bus_due.specs.RunState.{RunState, bus_of}
 use Rattle.bus_due.specs.RunSteps.{run_state}
 use Rattle.bus_due.proofs.Plains.{run_state_plain}
-use Rattle.bus_books.specs.Knowing.{Knows}
-use Rattle.bus_books.specs.Rows.{RowKind, still, strikes, crosses, turns, reading_in}
-use Rattle.bus_books.proofs.InConnection.{reading_is}
-use Rattle.bus_laws.proofs.Apart.{change_plain}
-use Rattle.bus_laws.proofs.Prompt.{least_is}
-use Rattle.bus_laws.specs.Ends.{BeginsConnection, by_selection, by_reselection}
+use Rattle.trace_laws.specs.bus_books.specs.Knowing.{Knows}
+use Rattle.trace_laws.specs.bus_books.specs.Rows.{RowKind, still, strikes, crosses, turns, reading_in}
+use Rattle.trace_laws.specs.bus_books.proofs.InConnection.{reading_is}
+use Rattle.trace_laws.specs.bus_laws.proofs.Apart.{change_plain}
+use Rattle.trace_laws.specs.bus_laws.proofs.Prompt.{least_is}
+use Rattle.trace_laws.specs.bus_laws.specs.Ends.{BeginsConnection, by_selection, by_reselection}
 use Rattle.bus_transcript.specs.Opened.{OpenedValue, opened_connection, with_crossing, phase_entered, phase_over, with_still_row, with_row}
 use Rattle.bus_transcript.specs.Rows.{transcribed}
-use Rattle.bus_lines.specs.Handshakes.{no_handshakes}
+use Rattle.bus_due.specs.bus_lines.specs.Handshakes.{no_handshakes}
 use Rattle.trace_laws.proofs.CloseCounts.{first_handshakes}
 use Rattle.trace_laws.proofs.ConnectionRows.{ConnectionRow, connection_row, GoingRow, going_row, RowKindOf, begins_now, goes_now, row_kind}
 use Rattle.trace_laws.proofs.Impossible.{none_some}

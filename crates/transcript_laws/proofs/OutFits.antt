@@ -1,28 +1,28 @@
 -- A byte of MESSAGE OUT: MESSAGE PARITY ERROR comes right after the message that it refuses, and alone (6.6.13).
 use Rattle.std.proofs.Common.{ℕ, ◌≡◌, ◌∙◌, Bool, true, false, not, ◌&&◌, ◌%◌, List, [], ◌∷◌, ◌++◌, Option, Some, None, refl, sym, ap}
 use Rattle.std.specs.Prelude.{◌||◌, is_some, if◌then◌else◌}
-use Rattle.bus_trace.specs.Phases.{is_message_out}
-use Rattle.bus_trace.specs.Terms.{receiver_in}
-use Rattle.bus_trace.specs.declared.changes.Change.{Change}
-use Rattle.bus_trace.specs.declared.connection.Connection.{Connection}
-use Rattle.bus_trace.specs.declared.rows.Row.{Row}
-use Rattle.msg_grammar.specs.declared.message.MsgOut.{MsgOut}
-use Rattle.msg_grammar.specs.declared.message.MsgOut.TheVariants as to_target
-use Rattle.msg_grammar.specs.Messages.{form_out, got_out}
-use Rattle.bus_phases.specs.declared.dialogue.Dialogue.{Dialogue}
-use Rattle.bus_phases.specs.Dialogue.{fresh_bytes}
-use Rattle.bus_phases.specs.Half.{left_of}
-use Rattle.scenario.specs.Value.{ScenarioValue}
-use Rattle.bus_story.specs.BusState.{whole_out, message_out}
-use Rattle.bus_story.specs.Links.{Link}
-use Rattle.bus_story.specs.TraceHistory.{is_parity_error}
-use Rattle.bus_dialogue.specs.Words.{parity_error}
+use Rattle.bus_due.specs.bus_trace.specs.Phases.{is_message_out}
+use Rattle.bus_due.specs.bus_trace.specs.Terms.{receiver_in}
+use Rattle.bus_due.specs.bus_trace.specs.declared.changes.Change.{Change}
+use Rattle.bus_due.specs.bus_trace.specs.declared.connection.Connection.{Connection}
+use Rattle.bus_due.specs.bus_trace.specs.declared.rows.Row.{Row}
+use Rattle.bus_due.specs.msg_grammar.specs.declared.message.MsgOut.{MsgOut}
+use Rattle.bus_due.specs.msg_grammar.specs.declared.message.MsgOut.TheVariants as to_target
+use Rattle.bus_due.specs.msg_grammar.specs.Messages.{form_out, got_out}
+use Rattle.bus_due.specs.bus_phases.specs.declared.dialogue.Dialogue.{Dialogue}
+use Rattle.bus_due.specs.bus_phases.specs.Dialogue.{fresh_bytes}
+use Rattle.bus_due.specs.bus_phases.specs.Half.{left_of}
+use Rattle.bus_due.specs.scenario.specs.Value.{ScenarioValue}
+use Rattle.bus_due.specs.bus_story.specs.BusState.{whole_out, message_out}
+use Rattle.bus_due.specs.bus_story.specs.Links.{Link}
+use Rattle.bus_due.specs.bus_story.specs.TraceHistory.{is_parity_error}
+use Rattle.bus_due.specs.bus_dialogue.specs.Words.{parity_error}
 use Rattle.bus_due.specs.RunState.{RunState, bus_of}
 use Rattle.bus_due.specs.RunSteps.{run_state}
-use Rattle.scsi_device.proofs.FitLines.{obeys_fits, units_are}
-use Rattle.bus_books.specs.Listening.{Understanding, nothing_understood}
-use Rattle.bus_books.specs.Speaking.{AreWordsHeard, IsSpeaking}
-use Rattle.bus_books.proofs.Saying.{says_byte}
+use Rattle.trace_laws.specs.scsi_device.proofs.FitLines.{obeys_fits, units_are}
+use Rattle.trace_laws.specs.bus_books.specs.Listening.{Understanding, nothing_understood}
+use Rattle.trace_laws.specs.bus_books.specs.Speaking.{AreWordsHeard, IsSpeaking}
+use Rattle.trace_laws.specs.bus_books.proofs.Saying.{says_byte}
 use Rattle.bus_transcript.specs.Opened.{OpenedValue, messages_of}
 use Rattle.transcript_laws.specs.Parts.{is_void, is_known}
 use Rattle.transcript_laws.specs.RowTests.{is_empty, says_first, is_broken, fits_out}
@@ -31,7 +31,7 @@ use Rattle.transcript_laws.proofs.OpenedBytes.{begun_crossing}
 use Rattle.transcript_laws.proofs.OpenedFacts.{Going}
 use Rattle.transcript_laws.proofs.OutWords.{is_plain_said, SaysParity, refusing, plain_words, says_parity}
 use Rattle.transcript_laws.proofs.SaidWords.{SaidWords, left_half, said_of, said_append, half_heard}
-use Rattle.bus_base.proofs.Tests.{wrong', and_first, and_second}
+use Rattle.bus_due.specs.bus_base.proofs.Tests.{wrong', and_first, and_second}
 
 -- ---- words without it
 

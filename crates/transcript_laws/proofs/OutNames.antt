@@ -2,16 +2,16 @@
 use Rattle.std.proofs.Common.{ℕ, ◌≡◌, ◌∙◌, Bool, true, false, not, ◌&&◌, List, [], ◌∷◌, ◌++◌, Option, Some, None, refl, sym, ap}
 use Rattle.std.specs.Prelude.{◌==◌, is_some, is_none, nat_lt, if◌then◌else◌}
 use Rattle.std.proofs.lemmas.List.{append_assoc}
-use Rattle.bus_trace.specs.declared.connection.Connection.{Connection}
-use Rattle.bus_base.specs.declared.ProcId.{ProcId}
-use Rattle.msg_grammar.specs.declared.message.MsgOut.{MsgOut}
-use Rattle.msg_grammar.specs.declared.message.MsgOut.TheVariants as to_target
-use Rattle.scenario.specs.declared.value.HostDef.{HostDef}
-use Rattle.scenario.specs.declared.value.Tag.{Tag}
-use Rattle.scenario.specs.declared.value.Tag.TheVariants as tags
-use Rattle.scenario.specs.Value.{ScenarioValue}
-use Rattle.disk_array.specs.Processes.{Process, process_of}
-use Rattle.disk_array.specs.Order.{same_number, tag_number}
+use Rattle.bus_due.specs.bus_trace.specs.declared.connection.Connection.{Connection}
+use Rattle.bus_due.specs.bus_base.specs.declared.ProcId.{ProcId}
+use Rattle.bus_due.specs.msg_grammar.specs.declared.message.MsgOut.{MsgOut}
+use Rattle.bus_due.specs.msg_grammar.specs.declared.message.MsgOut.TheVariants as to_target
+use Rattle.bus_due.specs.scenario.specs.declared.value.HostDef.{HostDef}
+use Rattle.bus_due.specs.scenario.specs.declared.value.Tag.{Tag}
+use Rattle.bus_due.specs.scenario.specs.declared.value.Tag.TheVariants as tags
+use Rattle.bus_due.specs.scenario.specs.Value.{ScenarioValue}
+use Rattle.bus_due.specs.disk_array.specs.Processes.{Process, process_of}
+use Rattle.bus_due.specs.disk_array.specs.Order.{same_number, tag_number}
 use Rattle.bus_transcript.specs.declared.part.Incoming.{Incoming}
 use Rattle.bus_transcript.specs.declared.part.Incoming.TheVariants.{Whole, Broken}
 use Rattle.bus_transcript.specs.declared.part.Part.{Part}
@@ -20,12 +20,12 @@ use Rattle.bus_transcript.specs.declared.summary.Departure.{Departure}
 use Rattle.bus_transcript.specs.declared.summary.Departure.TheVariants.{Loss}
 use Rattle.bus_transcript.specs.declared.summary.Summary.{Summary}
 use Rattle.bus_transcript.specs.Nexus.{no_summary, named, unit_out, tag_out, last_abort, departure_out, summary_out, summary_in, summary_of}
-use Rattle.msg_grammar.specs.Grammar.{is_abort}
+use Rattle.bus_due.specs.msg_grammar.specs.Grammar.{is_abort}
 use Rattle.bus_transcript.specs.Opened.{OpenedValue, held_part}
-use Rattle.disk_array.proofs.SeatLookups.{number_same}
+use Rattle.bus_due.specs.disk_array.proofs.SeatLookups.{number_same}
 use Rattle.transcript_laws.specs.Parts.{held_parts, base_parts, out_parts, parts_now, summary_by, is_of, name_process}
 use Rattle.transcript_laws.proofs.OutWords.{tag_messages, offers_if}
-use Rattle.bus_base.proofs.Tests.{wrong', and_first, and_second, eq_self}
+use Rattle.bus_due.specs.bus_base.proofs.Tests.{wrong', and_first, and_second, eq_self}
 
 -- ---- the messages of an initiator among parts
 

@@ -3,22 +3,22 @@ use Rattle.std.proofs.Common.{ℕ, ◌≡◌, ◌∙◌, Bool, true, false, not,
 use Rattle.std.specs.Prelude.{◌%◌, is_some, if◌then◌else◌}
 use Rattle.std.proofs.lemmas.Bool.{not-true}
 use Rattle.std.proofs.lemmas.Option.{same_Some}
-use Rattle.bus_base.specs.declared.ProcId.{ProcId}
-use Rattle.bus_trace.specs.LineSet.{LineSet}
-use Rattle.bus_trace.specs.Phases.{is_command, is_data, is_message_in, is_message_out}
-use Rattle.bus_trace.specs.declared.changes.Change.{Change}
-use Rattle.bus_trace.specs.declared.rows.Row.{Row}
-use Rattle.msg_grammar.specs.declared.message.MsgOut.{MsgOut}
-use Rattle.scenario.specs.Value.{ScenarioValue}
-use Rattle.disk_array.specs.Processes.{same_id}
-use Rattle.bus_story.specs.BusState.{RowReading, row_reading}
-use Rattle.bus_story.specs.CarriedBytes.{CarriedBytes, carried_of, with_carried, is_status_phase}
-use Rattle.bus_story.specs.Items.{process, Sent}
-use Rattle.bus_story.specs.Links.{Link, last_out}
-use Rattle.bus_story.specs.Story.{Story}
-use Rattle.bus_story.specs.TraceHistory.{story_with_carried, story_after_crossing, is_parity_error, story}
-use Rattle.bus_books.proofs.InConnection.{same_phase_is}
-use Rattle.bus_books.proofs.Lookups.{put_own, put_other}
+use Rattle.bus_due.specs.bus_base.specs.declared.ProcId.{ProcId}
+use Rattle.bus_due.specs.bus_trace.specs.LineSet.{LineSet}
+use Rattle.bus_due.specs.bus_trace.specs.Phases.{is_command, is_data, is_message_in, is_message_out}
+use Rattle.bus_due.specs.bus_trace.specs.declared.changes.Change.{Change}
+use Rattle.bus_due.specs.bus_trace.specs.declared.rows.Row.{Row}
+use Rattle.bus_due.specs.msg_grammar.specs.declared.message.MsgOut.{MsgOut}
+use Rattle.bus_due.specs.scenario.specs.Value.{ScenarioValue}
+use Rattle.bus_due.specs.disk_array.specs.Processes.{same_id}
+use Rattle.bus_due.specs.bus_story.specs.BusState.{RowReading, row_reading}
+use Rattle.bus_due.specs.bus_story.specs.CarriedBytes.{CarriedBytes, carried_of, with_carried, is_status_phase}
+use Rattle.bus_due.specs.bus_story.specs.Items.{process, Sent}
+use Rattle.bus_due.specs.bus_story.specs.Links.{Link, last_out}
+use Rattle.bus_due.specs.bus_story.specs.Story.{Story}
+use Rattle.bus_due.specs.bus_story.specs.TraceHistory.{story_with_carried, story_after_crossing, is_parity_error, story}
+use Rattle.trace_laws.specs.bus_books.proofs.InConnection.{same_phase_is}
+use Rattle.trace_laws.specs.bus_books.proofs.Lookups.{put_own, put_other}
 use Rattle.trace_laws.proofs.OverItems.{grows_same}
 use Rattle.trace_laws.proofs.Impossible.{none_some}
 use Rattle.bus_transcript.specs.declared.part.Incoming.{Incoming}
@@ -42,8 +42,8 @@ use Rattle.transcript_laws.proofs.OpenProcesses.{alike_self, alike_on, alike_tur
 use Rattle.transcript_laws.proofs.ServingSteps.{said_serves, void_serves, broken_serves}
 use Rattle.transcript_laws.proofs.StageRows.{stage_on}
 use Rattle.transcript_laws.proofs.TalkServes.{talk_append, talk_first}
-use Rattle.bus_base.proofs.Tests.{wrong, wrong'}
-use Rattle.target_units.proofs.LiveQueue.{id_turned}
+use Rattle.bus_due.specs.bus_base.proofs.Tests.{wrong, wrong'}
+use Rattle.trace_laws.specs.target_units.proofs.LiveQueue.{id_turned}
 
 -- ---- what is said
 

@@ -2,17 +2,17 @@
 use Rattle.std.proofs.Common.{◌≡◌, ◌∙◌, Bool, true, false, List, [], ◌∷◌, ◌++◌, Some, None, refl, sym, ap}
 use Rattle.std.specs.Prelude.{not, ◌&&◌, ℕ, if◌then◌else◌}
 use Rattle.std.proofs.lemmas.List.{append_assoc, append-nil}
-use Rattle.bus_trace.specs.LineSet.{LineSet}
-use Rattle.bus_trace.specs.Phases.{is_message_in}
-use Rattle.msg_grammar.specs.declared.message.MsgOut.{MsgOut}
-use Rattle.bus_phases.specs.Half.{is_nil}
+use Rattle.bus_due.specs.bus_trace.specs.LineSet.{LineSet}
+use Rattle.bus_due.specs.bus_trace.specs.Phases.{is_message_in}
+use Rattle.bus_due.specs.msg_grammar.specs.declared.message.MsgOut.{MsgOut}
+use Rattle.bus_due.specs.bus_phases.specs.Half.{is_nil}
 use Rattle.bus_transcript.specs.declared.part.Incoming.{Incoming}
 use Rattle.bus_transcript.specs.declared.part.Incoming.TheVariants.{Broken}
 use Rattle.bus_transcript.specs.declared.part.Part.{Part}
 use Rattle.bus_transcript.specs.declared.part.Part.TheVariants as parts_of
 use Rattle.bus_transcript.specs.Opened.{OpenedValue, held_part, settled, with_out, with_all_out, with_in, spoken, broken_off, phase_parts, with_phase, phase_over}
 use Rattle.transcript_laws.specs.Parts.{is_void, out_parts, parts_now}
-use Rattle.bus_story.specs.TraceHistory.{is_parity_error}
+use Rattle.bus_due.specs.bus_story.specs.TraceHistory.{is_parity_error}
 use Rattle.trace_laws.proofs.Impossible.{none_some}
 
 -- ---- as the messages of MESSAGE OUT stand

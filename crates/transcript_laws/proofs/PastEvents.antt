@@ -3,12 +3,12 @@ use Rattle.std.proofs.Common.{◌≡◌, ◌∙◌, ◌+◌, ◌==◌, Bool, tru
 use Rattle.std.specs.List.{flat_map, list_any}
 use Rattle.std.proofs.lemmas.List.{reverse-append, length-append}
 use Rattle.std.proofs.lemmas.Grind.{flat_map-append}
-use Rattle.bus_base.specs.declared.Event.{Event}
-use Rattle.bus_base.specs.declared.Event.TheVariants as events
-use Rattle.bus_base.specs.declared.ProcId.{ProcId}
-use Rattle.bus_story.specs.Items as told
-use Rattle.bus_story.specs.Items.{process, has_item}
-use Rattle.bus_books.proofs.Lookups.{id_is}
+use Rattle.bus_due.specs.bus_base.specs.declared.Event.{Event}
+use Rattle.bus_due.specs.bus_base.specs.declared.Event.TheVariants as events
+use Rattle.bus_due.specs.bus_base.specs.declared.ProcId.{ProcId}
+use Rattle.bus_due.specs.bus_story.specs.Items as told
+use Rattle.bus_due.specs.bus_story.specs.Items.{process, has_item}
+use Rattle.trace_laws.specs.bus_books.proofs.Lookups.{id_is}
 use Rattle.bus_transcript.specs.declared.item.Item.{Item}
 use Rattle.bus_transcript.specs.declared.item.Name.{Name}
 use Rattle.bus_transcript.specs.Events.{name_begun, names_begun, name_sent, event_shown, items_if, items_told, named_events}
@@ -16,7 +16,7 @@ use Rattle.transcript_laws.specs.Told.{is_refusal, is_answer, has_refusal, has_a
 use Rattle.transcript_laws.specs.Past.{IsEventOf, AreEventsOf, IsEventSent, AreEventsSent, items_by, AreRefused, IsPast}
 use Rattle.transcript_laws.proofs.SentNames.{name_before, name_later, has_append}
 use Rattle.std.proofs.lemmas.Bool.{or_right, or_left}
-use Rattle.bus_base.proofs.Tests.{wrong'}
+use Rattle.bus_due.specs.bus_base.proofs.Tests.{wrong'}
 
 -- ---- what was said before
 

@@ -2,31 +2,31 @@
 use Rattle.std.proofs.Common.{ℕ, ◌≡◌, ◌∙◌, ◌⊎◌, inl, inr, Bool, true, false, not, ◌&&◌, List, [], ◌∷◌, Option, Some, None, refl, sym, ap, subst}
 use Rattle.std.specs.Prelude.{◌||◌, is_some, if◌then◌else◌}
 use Rattle.std.proofs.lemmas.Option.{same_Some}
-use Rattle.bus_base.specs.declared.ProcId.{ProcId}
-use Rattle.bus_trace.specs.LineSet.{LineSet}
-use Rattle.bus_trace.specs.Changes.{rises}
-use Rattle.bus_trace.specs.Phases.{changes_phase, is_command, is_message_in, is_message_out}
-use Rattle.bus_trace.specs.Terms.{receiver_in}
-use Rattle.bus_trace.specs.declared.changes.Change.{Change}
-use Rattle.bus_trace.specs.declared.connection.Connection.{Connection}
-use Rattle.bus_trace.specs.declared.rows.Row.{Row}
-use Rattle.msg_grammar.specs.declared.message.MsgIn.TheVariants as to_initiator
-use Rattle.bus_phases.specs.Half.{is_nil}
-use Rattle.scenario.specs.Value.{ScenarioValue}
-use Rattle.disk_array.specs.Processes.{same_bool}
-use Rattle.bus_story.specs.BusState.{RowReading, row_reading, message_in, message_out}
-use Rattle.bus_story.specs.CarriedBytes.{carried_of}
-use Rattle.bus_story.specs.HistoryEvents as story_of
-use Rattle.bus_story.specs.Items.{Item, process}
-use Rattle.bus_story.specs.Links.{Link, LastMessage, plain}
-use Rattle.bus_dialogue.specs.declared.exchange.Phase.{Phase}
-use Rattle.bus_dialogue.specs.declared.exchange.Phase.TheVariants as phases
-use Rattle.bus_dialogue.specs.Exchange.{one_message}
+use Rattle.bus_due.specs.bus_base.specs.declared.ProcId.{ProcId}
+use Rattle.bus_due.specs.bus_trace.specs.LineSet.{LineSet}
+use Rattle.bus_due.specs.bus_trace.specs.Changes.{rises}
+use Rattle.bus_due.specs.bus_trace.specs.Phases.{changes_phase, is_command, is_message_in, is_message_out}
+use Rattle.bus_due.specs.bus_trace.specs.Terms.{receiver_in}
+use Rattle.bus_due.specs.bus_trace.specs.declared.changes.Change.{Change}
+use Rattle.bus_due.specs.bus_trace.specs.declared.connection.Connection.{Connection}
+use Rattle.bus_due.specs.bus_trace.specs.declared.rows.Row.{Row}
+use Rattle.bus_due.specs.msg_grammar.specs.declared.message.MsgIn.TheVariants as to_initiator
+use Rattle.bus_due.specs.bus_phases.specs.Half.{is_nil}
+use Rattle.bus_due.specs.scenario.specs.Value.{ScenarioValue}
+use Rattle.bus_due.specs.disk_array.specs.Processes.{same_bool}
+use Rattle.bus_due.specs.bus_story.specs.BusState.{RowReading, row_reading, message_in, message_out}
+use Rattle.bus_due.specs.bus_story.specs.CarriedBytes.{carried_of}
+use Rattle.bus_due.specs.bus_story.specs.HistoryEvents as story_of
+use Rattle.bus_due.specs.bus_story.specs.Items.{Item, process}
+use Rattle.bus_due.specs.bus_story.specs.Links.{Link, LastMessage, plain}
+use Rattle.bus_due.specs.bus_dialogue.specs.declared.exchange.Phase.{Phase}
+use Rattle.bus_due.specs.bus_dialogue.specs.declared.exchange.Phase.TheVariants as phases
+use Rattle.bus_due.specs.bus_dialogue.specs.Exchange.{one_message}
 use Rattle.bus_due.specs.RunState.{RunState, bus_of}
 use Rattle.bus_due.specs.RunSteps.{run_state}
-use Rattle.bus_books.specs.Knowing.{Knows}
-use Rattle.bus_books.specs.Rows.{RowKind, still, strikes, crosses, turns, reading_in}
-use Rattle.bus_books.proofs.Given.{in_is_whole}
+use Rattle.trace_laws.specs.bus_books.specs.Knowing.{Knows}
+use Rattle.trace_laws.specs.bus_books.specs.Rows.{RowKind, still, strikes, crosses, turns, reading_in}
+use Rattle.trace_laws.specs.bus_books.proofs.Given.{in_is_whole}
 use Rattle.bus_transcript.specs.Opened.{OpenedValue, is_complete}
 use Rattle.trace_laws.specs.ItemTalks.{TalksBy, IsTaken, talk_of}
 use Rattle.trace_laws.specs.LastTalks.{LastBy, LastGiven, still_stays, to_close, to_save, closed}
@@ -34,7 +34,7 @@ use Rattle.trace_laws.specs.Statuses.{CarriesBy, HasStatus}
 use Rattle.trace_laws.specs.Tells.{IsServed, of_process, of_abort}
 use Rattle.trace_laws.proofs.PhaseLines.{in_phase, out_in, out_lines}
 use Rattle.trace_laws.proofs.CloseStays.{complete_is}
-use Rattle.bus_books.proofs.Gives.{not_both}
+use Rattle.trace_laws.specs.bus_books.proofs.Gives.{not_both}
 use Rattle.transcript_laws.specs.Parts.{are_talk, base_parts, is_known}
 use Rattle.transcript_laws.specs.RowTests.{is_broken, fits_out, fits_in, is_no_abort, fits_crossing, undoes_nothing, arrives_first, gets_known, is_open_item, fits_turn, has_status, fits_still, fits_on}
 use Rattle.transcript_laws.proofs.CrossingFits.{completes_none, no_message_line, takes_none, names_fit}
@@ -45,7 +45,7 @@ use Rattle.transcript_laws.proofs.OpenedFacts.{Going, knows_before}
 use Rattle.transcript_laws.proofs.OutFits.{out_fits}
 use Rattle.transcript_laws.proofs.TurnFits.{talk_leaves, arrives, known_open}
 use Rattle.transcript_laws.proofs.UndoneMessages.{UndoesNothing}
-use Rattle.bus_base.proofs.Tests.{wrong, wrong', implication}
+use Rattle.bus_due.specs.bus_base.proofs.Tests.{wrong, wrong', implication}
 
 -- ---- a byte crosses
 

@@ -1,21 +1,21 @@
 -- RST that ends a connection begins with the row: while RST is true a transcript keeps no connection open (6.2.2).
 use Rattle.std.proofs.Common.{◌≡◌, ◌∙◌, ◌<◌, Bool, true, false, List, [], ◌∷◌, Option, None, refl, ap}
 use Rattle.std.specs.Prelude.{◌||◌, is_none}
-use Rattle.bus_trace.specs.Changes.{change_of, rises}
-use Rattle.bus_trace.specs.Trace.{bus}
-use Rattle.bus_trace.specs.declared.changes.Change.{Change}
-use Rattle.bus_trace.specs.declared.rows.Row.{Row}
-use Rattle.scenario.specs.Value.{ScenarioValue}
-use Rattle.bus_story.specs.BusState.{row_reading}
+use Rattle.bus_due.specs.bus_trace.specs.Changes.{change_of, rises}
+use Rattle.bus_due.specs.bus_trace.specs.Trace.{bus}
+use Rattle.bus_due.specs.bus_trace.specs.declared.changes.Change.{Change}
+use Rattle.bus_due.specs.bus_trace.specs.declared.rows.Row.{Row}
+use Rattle.bus_due.specs.scenario.specs.Value.{ScenarioValue}
+use Rattle.bus_due.specs.bus_story.specs.BusState.{row_reading}
 use Rattle.bus_due.specs.Plain.{AreOfDevices}
 use Rattle.bus_due.specs.RunSteps.{run_state}
 use Rattle.bus_due.proofs.Plains.{run_state_plain}
-use Rattle.bus_laws.proofs.Apart.{change_plain}
+use Rattle.trace_laws.specs.bus_laws.proofs.Apart.{change_plain}
 use Rattle.bus_transcript.specs.Opened.{OpenedValue}
 use Rattle.bus_transcript.specs.Rows.{transcribed}
 use Rattle.trace_laws.proofs.UnderRst.{raises_or_stands}
 use Rattle.transcript_laws.proofs.OpenedRows.{opened_reset}
-use Rattle.bus_base.proofs.Tests.{or_true, or_second}
+use Rattle.bus_due.specs.bus_base.proofs.Tests.{or_true, or_second}
 
 pub rst_none : (s : ScenarioValue) (rows : List Row) → AreOfDevices rows → (bus rows).rst ≡ true → (transcribed rows).opened ≡ None
 rst_none s [] dv on = refl

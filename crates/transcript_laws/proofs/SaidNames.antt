@@ -4,43 +4,43 @@ use Rattle.std.proofs.Common.{ℕ, ◌≡◌, ◌∙◌, Bool, true, false, not,
 use Rattle.std.specs.Prelude.{is_some, if◌then◌else◌}
 use Rattle.std.proofs.lemmas.List.{append-nil}
 use Rattle.std.proofs.lemmas.Option.{same_Some}
-use Rattle.bus_base.specs.declared.ProcId.{ProcId}
-use Rattle.bus_trace.specs.LineSet.{LineSet}
-use Rattle.bus_trace.specs.Changes.{rises}
-use Rattle.bus_trace.specs.Phases.{changes_phase, is_command, is_data, is_message_in, is_message_out}
-use Rattle.bus_trace.specs.Terms.{is_fault, connection, receiver_in}
-use Rattle.bus_trace.specs.declared.changes.Change.{Change}
-use Rattle.bus_trace.specs.declared.connection.Connection.{Connection}
-use Rattle.bus_trace.specs.declared.rows.Row.{Row}
-use Rattle.msg_grammar.specs.declared.message.MsgIn.{MsgIn}
-use Rattle.msg_grammar.specs.declared.message.MsgOut.{MsgOut}
-use Rattle.msg_grammar.specs.declared.message.MsgOut.TheVariants as to_target
-use Rattle.bus_phases.specs.Half.{is_nil}
-use Rattle.scenario.specs.declared.value.CmdDef.{CmdDef}
-use Rattle.scenario.specs.Value.{ScenarioValue}
-use Rattle.disk_array.specs.Processes.{Process, command_at, process_by, process_if, process_of}
-use Rattle.bus_story.specs.BusState.{message_in, message_out}
-use Rattle.bus_story.specs.CarriedBytes.{is_status_phase}
-use Rattle.bus_story.specs.Items.{Item, Sent, process, abort}
-use Rattle.bus_story.specs.TraceHistory.{aim_of}
-use Rattle.bus_dialogue.specs.declared.exchange.Cause.{Cause}
-use Rattle.bus_dialogue.specs.declared.exchange.Cause.TheVariants as causes
-use Rattle.bus_dialogue.specs.Exchange.{Exchange, plan_anew, plan_after_message, struck_plan}
-use Rattle.bus_dialogue.specs.Planning.{cause_after, plan_in_message_out}
-use Rattle.bus_dialogue.specs.Words.{host_answer, process_opening}
+use Rattle.bus_due.specs.bus_base.specs.declared.ProcId.{ProcId}
+use Rattle.bus_due.specs.bus_trace.specs.LineSet.{LineSet}
+use Rattle.bus_due.specs.bus_trace.specs.Changes.{rises}
+use Rattle.bus_due.specs.bus_trace.specs.Phases.{changes_phase, is_command, is_data, is_message_in, is_message_out}
+use Rattle.bus_due.specs.bus_trace.specs.Terms.{is_fault, connection, receiver_in}
+use Rattle.bus_due.specs.bus_trace.specs.declared.changes.Change.{Change}
+use Rattle.bus_due.specs.bus_trace.specs.declared.connection.Connection.{Connection}
+use Rattle.bus_due.specs.bus_trace.specs.declared.rows.Row.{Row}
+use Rattle.bus_due.specs.msg_grammar.specs.declared.message.MsgIn.{MsgIn}
+use Rattle.bus_due.specs.msg_grammar.specs.declared.message.MsgOut.{MsgOut}
+use Rattle.bus_due.specs.msg_grammar.specs.declared.message.MsgOut.TheVariants as to_target
+use Rattle.bus_due.specs.bus_phases.specs.Half.{is_nil}
+use Rattle.bus_due.specs.scenario.specs.declared.value.CmdDef.{CmdDef}
+use Rattle.bus_due.specs.scenario.specs.Value.{ScenarioValue}
+use Rattle.bus_due.specs.disk_array.specs.Processes.{Process, command_at, process_by, process_if, process_of}
+use Rattle.bus_due.specs.bus_story.specs.BusState.{message_in, message_out}
+use Rattle.bus_due.specs.bus_story.specs.CarriedBytes.{is_status_phase}
+use Rattle.bus_due.specs.bus_story.specs.Items.{Item, Sent, process, abort}
+use Rattle.bus_due.specs.bus_story.specs.TraceHistory.{aim_of}
+use Rattle.bus_due.specs.bus_dialogue.specs.declared.exchange.Cause.{Cause}
+use Rattle.bus_due.specs.bus_dialogue.specs.declared.exchange.Cause.TheVariants as causes
+use Rattle.bus_due.specs.bus_dialogue.specs.Exchange.{Exchange, plan_anew, plan_after_message, struck_plan}
+use Rattle.bus_due.specs.bus_dialogue.specs.Planning.{cause_after, plan_in_message_out}
+use Rattle.bus_due.specs.bus_dialogue.specs.Words.{host_answer, process_opening}
 use Rattle.bus_due.specs.Defs.{host_of, opening}
 use Rattle.bus_due.specs.RunState.{RunState, bus_of, process_item}
 use Rattle.bus_due.specs.RunSteps.{run_state, served_after, item_if}
 use Rattle.bus_due.specs.Sights.{hearing_of, leaving}
 use Rattle.bus_due.specs.Wants.{ready_of}
-use Rattle.bus_laws.specs.Ends.{connected_bus, ends_selected}
-use Rattle.bus_books.specs.Rows.{reading_in}
-use Rattle.bus_books.specs.Speaking.{AreWordsFor, AreWordsHeard, IsSpeaking, opens, refuses, answers, rejects_data, rejects_status}
-use Rattle.bus_books.specs.Tests.{is_selected}
-use Rattle.bus_books.specs.Traces.{Begins}
-use Rattle.bus_books.proofs.InConnection.{InConnection, in_connection}
-use Rattle.scsi_device.specs.Lines.{AreUnits}
-use Rattle.scsi_device.proofs.FitLines.{obeys_fits, units_are}
+use Rattle.trace_laws.specs.bus_laws.specs.Ends.{connected_bus, ends_selected}
+use Rattle.trace_laws.specs.bus_books.specs.Rows.{reading_in}
+use Rattle.trace_laws.specs.bus_books.specs.Speaking.{AreWordsFor, AreWordsHeard, IsSpeaking, opens, refuses, answers, rejects_data, rejects_status}
+use Rattle.trace_laws.specs.bus_books.specs.Tests.{is_selected}
+use Rattle.trace_laws.specs.bus_books.specs.Traces.{Begins}
+use Rattle.trace_laws.specs.bus_books.proofs.InConnection.{InConnection, in_connection}
+use Rattle.trace_laws.specs.scsi_device.specs.Lines.{AreUnits}
+use Rattle.trace_laws.specs.scsi_device.proofs.FitLines.{obeys_fits, units_are}
 use Rattle.bus_transcript.specs.declared.part.Part.{Part}
 use Rattle.bus_transcript.specs.declared.part.Part.TheVariants as parts_of
 use Rattle.bus_transcript.specs.Opened.{OpenedValue, held_part, is_complete, is_completion, with_part, with_fault, with_in_if, phase_entered, phase_over, phase_parts, data_parts}
@@ -61,7 +61,7 @@ use Rattle.transcript_laws.proofs.PartLists.{broken_parts}
 use Rattle.transcript_laws.proofs.SaidWords.{SaidWords, said_of, said_append, left_half}
 use Rattle.transcript_laws.proofs.TalkNamed.{base_talk, talk_more}
 use Rattle.transcript_laws.proofs.TurnSteps.{outs_talk}
-use Rattle.bus_base.proofs.Tests.{wrong, wrong', and_true}
+use Rattle.bus_due.specs.bus_base.proofs.Tests.{wrong, wrong', and_true}
 
 -- ---- what is kept
 

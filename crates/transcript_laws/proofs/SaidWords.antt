@@ -2,37 +2,37 @@
 use Rattle.std.proofs.Common.{ℕ, ◌≡◌, ◌∙◌, ◌+◌, Bool, true, false, not, ◌&&◌, ◌%◌, List, [], ◌∷◌, ◌++◌, length, take, Option, None, refl, sym, ap}
 use Rattle.std.specs.Prelude.{is_some, if◌then◌else◌}
 use Rattle.std.proofs.lemmas.List.{append_assoc, append-nil}
-use Rattle.bus_trace.specs.Phases.{is_message_in, is_message_out}
-use Rattle.bus_trace.specs.Terms.{is_fault, receiver_in}
-use Rattle.bus_trace.specs.declared.changes.Change.{Change}
-use Rattle.bus_trace.specs.declared.connection.Connection.{Connection}
-use Rattle.bus_trace.specs.declared.rows.Row.{Row}
-use Rattle.msg_grammar.specs.declared.message.MsgOut.{MsgOut}
-use Rattle.msg_grammar.specs.Messages.{got_out}
-use Rattle.bus_phases.specs.declared.dialogue.Dialogue.{Dialogue}
-use Rattle.bus_phases.specs.Dialogue.{fresh_bytes, byte_out, byte_in, byte_else}
-use Rattle.bus_phases.specs.Half.{left_of, is_nil}
-use Rattle.scenario.specs.declared.value.HostDef.{HostDef}
-use Rattle.scenario.specs.Value.{ScenarioValue}
-use Rattle.bus_story.specs.BusState.{whole_out, message_in, message_out}
-use Rattle.bus_dialogue.specs.Exchange.{Speech, Exchange, attends_with, speech_after_byte, speech_after_request, speech_of}
-use Rattle.bus_dialogue.specs.Speaking.{words_after, speech_in_phase}
-use Rattle.bus_dialogue.specs.declared.exchange.Hearing.{Hearing}
+use Rattle.bus_due.specs.bus_trace.specs.Phases.{is_message_in, is_message_out}
+use Rattle.bus_due.specs.bus_trace.specs.Terms.{is_fault, receiver_in}
+use Rattle.bus_due.specs.bus_trace.specs.declared.changes.Change.{Change}
+use Rattle.bus_due.specs.bus_trace.specs.declared.connection.Connection.{Connection}
+use Rattle.bus_due.specs.bus_trace.specs.declared.rows.Row.{Row}
+use Rattle.bus_due.specs.msg_grammar.specs.declared.message.MsgOut.{MsgOut}
+use Rattle.bus_due.specs.msg_grammar.specs.Messages.{got_out}
+use Rattle.bus_due.specs.bus_phases.specs.declared.dialogue.Dialogue.{Dialogue}
+use Rattle.bus_due.specs.bus_phases.specs.Dialogue.{fresh_bytes, byte_out, byte_in, byte_else}
+use Rattle.bus_due.specs.bus_phases.specs.Half.{left_of, is_nil}
+use Rattle.bus_due.specs.scenario.specs.declared.value.HostDef.{HostDef}
+use Rattle.bus_due.specs.scenario.specs.Value.{ScenarioValue}
+use Rattle.bus_due.specs.bus_story.specs.BusState.{whole_out, message_in, message_out}
+use Rattle.bus_due.specs.bus_dialogue.specs.Exchange.{Speech, Exchange, attends_with, speech_after_byte, speech_after_request, speech_of}
+use Rattle.bus_due.specs.bus_dialogue.specs.Speaking.{words_after, speech_in_phase}
+use Rattle.bus_due.specs.bus_dialogue.specs.declared.exchange.Hearing.{Hearing}
 use Rattle.bus_due.specs.Defs.{host_of}
 use Rattle.bus_due.specs.RunState.{RunState, bus_of}
 use Rattle.bus_due.specs.RunSteps.{run_state}
 use Rattle.bus_due.specs.Sights.{hearing_of}
-use Rattle.bus_books.specs.Listening.{Understanding, nothing_understood, understood, understood_byte}
-use Rattle.bus_books.specs.Rows.{reading_in}
-use Rattle.bus_books.specs.Speaking.{AreWordsHeard, IsSpeaking}
-use Rattle.bus_books.proofs.InConnection.{in_connection}
-use Rattle.bus_books.proofs.Saying.{says_byte, says_more}
+use Rattle.trace_laws.specs.bus_books.specs.Listening.{Understanding, nothing_understood, understood, understood_byte}
+use Rattle.trace_laws.specs.bus_books.specs.Rows.{reading_in}
+use Rattle.trace_laws.specs.bus_books.specs.Speaking.{AreWordsHeard, IsSpeaking}
+use Rattle.trace_laws.specs.bus_books.proofs.InConnection.{in_connection}
+use Rattle.trace_laws.specs.bus_books.proofs.Saying.{says_byte, says_more}
 use Rattle.bus_transcript.specs.Opened.{OpenedValue, messages_of, phase_over}
 use Rattle.trace_laws.proofs.OneMessages.{take_front}
 use Rattle.transcript_laws.proofs.OpenedBytes.{still_keeps, turned, CrossingMade, crossed_out, crossed_in, crossed_status, crossed_else, crossing_made, lines_same, out_same, begun_crossing}
 use Rattle.transcript_laws.proofs.OpenedFacts.{Going, RowMade, made_still, made_crossing, made_turn, Holds}
 use Rattle.transcript_laws.proofs.PartLists.{over_keeps}
-use Rattle.bus_base.proofs.Tests.{wrong, wrong', length_more, nil_of}
+use Rattle.bus_due.specs.bus_base.proofs.Tests.{wrong, wrong', length_more, nil_of}
 
 -- ---- the messages of some bytes
 

@@ -2,12 +2,12 @@
 use Rattle.std.proofs.Common.{◌≡◌, ◌∙◌, Bool, true, false, ◌||◌, List, [], ◌∷◌, ◌++◌, length, reverse, Some, None, refl, ap, arith}
 use Rattle.std.specs.Prelude.{if◌then◌else◌}
 use Rattle.std.proofs.lemmas.List.{reverse-append}
-use Rattle.bus_base.specs.declared.ProcId.{ProcId}
-use Rattle.bus_story.specs.Items.{Item, process, same_item, has_item}
-use Rattle.bus_books.proofs.Lookups.{self_id}
+use Rattle.bus_due.specs.bus_base.specs.declared.ProcId.{ProcId}
+use Rattle.bus_due.specs.bus_story.specs.Items.{Item, process, same_item, has_item}
+use Rattle.trace_laws.specs.bus_books.proofs.Lookups.{self_id}
 use Rattle.bus_transcript.specs.declared.item.Name.{Name}
 use Rattle.bus_transcript.specs.Events.{name_sent}
-use Rattle.bus_base.proofs.Tests.{wrong, wrong'}
+use Rattle.bus_due.specs.bus_base.proofs.Tests.{wrong, wrong'}
 
 -- What was sent keeps its name.
 pub name_before : (sent more : List Item) (names later : List Name) (id : ProcId) → length names ≡ length sent → has_item sent (process id) ≡ true

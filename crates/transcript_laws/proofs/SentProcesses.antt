@@ -2,34 +2,34 @@
 use Rattle.std.proofs.Common.{ℕ, zero, suc, ◌≡◌, ◌∙◌, ◌+◌, Bool, true, false, not, ◌&&◌, List, [], ◌∷◌, Option, Some, None, refl, sym, ap, subst, arith}
 use Rattle.std.specs.Prelude.{◌||◌, is_some, if◌then◌else◌}
 use Rattle.std.specs.List.{list_any}
-use Rattle.bus_base.specs.declared.Event.TheVariants as events
-use Rattle.bus_base.specs.declared.ProcId.{ProcId}
-use Rattle.bus_trace.specs.declared.connection.Connection.{Connection}
-use Rattle.bus_trace.specs.declared.rows.Row.{Row}
-use Rattle.scenario.specs.declared.value.CmdDef.{CmdDef}
-use Rattle.scenario.specs.Value.{ScenarioValue}
-use Rattle.disk_array.specs.Processes.{command_at, process_if, process_of}
-use Rattle.bus_story.specs.BusState.{RowReading, row_reading}
-use Rattle.bus_story.specs.HistoryEvents.{row_events_by}
-use Rattle.bus_story.specs.Items.{Item, Sent, process, abort, same_item, has_item, sense_item}
-use Rattle.bus_story.specs.Links.{Link, link_of}
-use Rattle.bus_story.specs.Story.{Story, by_reset, story_with_ends, story_after_event}
-use Rattle.bus_story.specs.TraceHistory.{aim_of, story_with_sent, story_with_restored, story_after_connection, story_in_connection, story_on_bus, story_by_change}
+use Rattle.bus_due.specs.bus_base.specs.declared.Event.TheVariants as events
+use Rattle.bus_due.specs.bus_base.specs.declared.ProcId.{ProcId}
+use Rattle.bus_due.specs.bus_trace.specs.declared.connection.Connection.{Connection}
+use Rattle.bus_due.specs.bus_trace.specs.declared.rows.Row.{Row}
+use Rattle.bus_due.specs.scenario.specs.declared.value.CmdDef.{CmdDef}
+use Rattle.bus_due.specs.scenario.specs.Value.{ScenarioValue}
+use Rattle.bus_due.specs.disk_array.specs.Processes.{command_at, process_if, process_of}
+use Rattle.bus_due.specs.bus_story.specs.BusState.{RowReading, row_reading}
+use Rattle.bus_due.specs.bus_story.specs.HistoryEvents.{row_events_by}
+use Rattle.bus_due.specs.bus_story.specs.Items.{Item, Sent, process, abort, same_item, has_item, sense_item}
+use Rattle.bus_due.specs.bus_story.specs.Links.{Link, link_of}
+use Rattle.bus_due.specs.bus_story.specs.Story.{Story, by_reset, story_with_ends, story_after_event}
+use Rattle.bus_due.specs.bus_story.specs.TraceHistory.{aim_of, story_with_sent, story_with_restored, story_after_connection, story_in_connection, story_on_bus, story_by_change}
 use Rattle.bus_due.specs.RunState.{RunState}
 use Rattle.bus_due.specs.RunSteps.{run_state, run_state_after}
-use Rattle.bus_books.specs.Items.{IsItem, is_process, is_abort}
-use Rattle.bus_books.proofs.Aims.{aims_are}
-use Rattle.bus_books.proofs.Lookups.{id_is}
+use Rattle.trace_laws.specs.bus_books.specs.Items.{IsItem, is_process, is_abort}
+use Rattle.trace_laws.specs.bus_books.proofs.Aims.{aims_are}
+use Rattle.trace_laws.specs.bus_books.proofs.Lookups.{id_is}
 use Rattle.trace_laws.specs.ItemFacts.{AreChecked, IsChecked}
 use Rattle.trace_laws.proofs.OverItems.{reset_senses}
-use Rattle.disk_array.proofs.SeatLookups.{none_at}
+use Rattle.bus_due.specs.disk_array.proofs.SeatLookups.{none_at}
 use Rattle.trace_laws.proofs.PointerEnds.{reset_over}
 use Rattle.trace_laws.proofs.RowItems.{inside_sent}
 use Rattle.trace_laws.proofs.SentItems.{own_has, more_has, free_keeps, restored_sent}
-use Rattle.bus_story.proofs.StorySteps.{event_sent, events_sent}
+use Rattle.bus_due.specs.bus_story.proofs.StorySteps.{event_sent, events_sent}
 use Rattle.trace_laws.proofs.Impossible.{none_some}
 use Rattle.transcript_laws.specs.RowTests.{is_open_process, ends_all}
-use Rattle.bus_base.proofs.Tests.{wrong', and_false}
+use Rattle.bus_due.specs.bus_base.proofs.Tests.{wrong', and_false}
 
 -- ---- what a row sends
 

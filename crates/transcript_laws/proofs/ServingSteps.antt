@@ -4,13 +4,13 @@ use Rattle.std.specs.Prelude.{slice_index, if◌then◌else◌}
 use Rattle.std.specs.List.{flat_map}
 use Rattle.std.proofs.lemmas.List.{append_assoc, append-nil, reverse-append}
 use Rattle.std.proofs.lemmas.Grind.{flat_map-append}
-use Rattle.bus_base.specs.declared.Event.{Event}
-use Rattle.bus_base.specs.declared.Event.TheVariants as events
-use Rattle.bus_base.specs.declared.ProcId.{ProcId}
-use Rattle.msg_grammar.specs.declared.message.MsgIn.{MsgIn}
-use Rattle.msg_grammar.specs.declared.message.MsgOut.{MsgOut}
-use Rattle.bus_phases.specs.Half.{is_nil}
-use Rattle.bus_story.specs.CarriedBytes.{Area, CarriedBytes, area_with, carried_after_message}
+use Rattle.bus_due.specs.bus_base.specs.declared.Event.{Event}
+use Rattle.bus_due.specs.bus_base.specs.declared.Event.TheVariants as events
+use Rattle.bus_due.specs.bus_base.specs.declared.ProcId.{ProcId}
+use Rattle.bus_due.specs.msg_grammar.specs.declared.message.MsgIn.{MsgIn}
+use Rattle.bus_due.specs.msg_grammar.specs.declared.message.MsgOut.{MsgOut}
+use Rattle.bus_due.specs.bus_phases.specs.Half.{is_nil}
+use Rattle.bus_due.specs.bus_story.specs.CarriedBytes.{Area, CarriedBytes, area_with, carried_after_message}
 use Rattle.bus_transcript.specs.declared.item.Item.{Item}
 use Rattle.bus_transcript.specs.declared.item.Item.TheVariants as items
 use Rattle.bus_transcript.specs.declared.item.Name.{Name}
@@ -30,7 +30,7 @@ use Rattle.transcript_laws.proofs.Accounts.{all_after, parts_name}
 use Rattle.transcript_laws.proofs.AccountSteps.{same_account, in_step, status_step, completion_step}
 use Rattle.transcript_laws.proofs.BaseParts.{base_more, base_in, base_said, base_void, base_held}
 use Rattle.transcript_laws.proofs.ShownParts.{part_more, talk_more}
-use Rattle.bus_base.proofs.Tests.{wrong, or_false}
+use Rattle.bus_due.specs.bus_base.proofs.Tests.{wrong, or_false}
 
 -- ---- lists
 

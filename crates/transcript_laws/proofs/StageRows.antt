@@ -1,15 +1,15 @@
 -- What stands of a connection after a row with no event that adds no part: one of MESSAGE OUT, of COMMAND or of data, or a fault.
 use Rattle.std.proofs.Common.{ℕ, ◌≡◌, ◌∙◌, Bool, false, not, ◌||◌, List, Option, Some, sym, ap, subst}
-use Rattle.bus_base.specs.declared.Event.{Event}
-use Rattle.bus_base.specs.declared.ProcId.{ProcId}
-use Rattle.bus_trace.specs.Phases.{is_command}
-use Rattle.bus_trace.specs.declared.connection.Connection.{Connection}
-use Rattle.scenario.specs.Value.{ScenarioValue}
-use Rattle.disk_array.specs.Processes.{same_id}
-use Rattle.bus_story.specs.CarriedBytes.{CarriedBytes, carried_of, is_status_phase}
-use Rattle.bus_story.specs.Items.{Item, process}
-use Rattle.bus_story.specs.Links.{Link}
-use Rattle.bus_story.specs.Story.{Story}
+use Rattle.bus_due.specs.bus_base.specs.declared.Event.{Event}
+use Rattle.bus_due.specs.bus_base.specs.declared.ProcId.{ProcId}
+use Rattle.bus_due.specs.bus_trace.specs.Phases.{is_command}
+use Rattle.bus_due.specs.bus_trace.specs.declared.connection.Connection.{Connection}
+use Rattle.bus_due.specs.scenario.specs.Value.{ScenarioValue}
+use Rattle.bus_due.specs.disk_array.specs.Processes.{same_id}
+use Rattle.bus_due.specs.bus_story.specs.CarriedBytes.{CarriedBytes, carried_of, is_status_phase}
+use Rattle.bus_due.specs.bus_story.specs.Items.{Item, process}
+use Rattle.bus_due.specs.bus_story.specs.Links.{Link}
+use Rattle.bus_due.specs.bus_story.specs.Story.{Story}
 use Rattle.bus_transcript.specs.Opened.{OpenedValue}
 use Rattle.bus_transcript.specs.Rows.{TranscriberValue}
 use Rattle.transcript_laws.specs.Parts.{are_talk, base_parts, is_known}

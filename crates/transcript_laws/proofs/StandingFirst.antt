@@ -1,9 +1,9 @@
 -- Before any row nothing was sent, told or kept.
 use Rattle.std.proofs.Common.{[], refl}
-use Rattle.scenario.specs.Value.{ScenarioValue}
+use Rattle.bus_due.specs.scenario.specs.Value.{ScenarioValue}
 use Rattle.trace_laws.proofs.Impossible.{none_some}
 use Rattle.transcript_laws.specs.Standing.{Standing, apart}
-use Rattle.bus_base.proofs.Tests.{wrong'}
+use Rattle.bus_due.specs.bus_base.proofs.Tests.{wrong'}
 
 pub standing_first : (s : ScenarioValue) → Standing s []
 standing_first s = record {

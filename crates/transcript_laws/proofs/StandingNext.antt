@@ -3,24 +3,24 @@ use Rattle.std.proofs.Common.{◌≡◌, ◌∙◌, ◌<◌, Bool, true, false, 
 use Rattle.std.specs.Prelude.{is_some, is_none, if◌then◌else◌}
 use Rattle.std.proofs.lemmas.Bool.{not-true}
 use Rattle.std.proofs.lemmas.Option.{same_Some}
-use Rattle.bus_base.specs.declared.ProcId.{ProcId}
-use Rattle.bus_trace.specs.Changes.{rises}
-use Rattle.bus_trace.specs.Phases.{is_command, is_message_in, is_message_out, changes_phase}
-use Rattle.bus_trace.specs.Terms.{connection_after}
-use Rattle.bus_trace.specs.declared.changes.Change.{Change}
-use Rattle.bus_trace.specs.declared.connection.Connection.{Connection}
-use Rattle.bus_trace.specs.declared.rows.Row.{Row}
-use Rattle.scenario.specs.Value.{ScenarioValue}
-use Rattle.disk_array.specs.Processes as array_of
-use Rattle.disk_array.specs.Processes.{same_id}
-use Rattle.bus_story.specs.BusState.{BusState, RowReading, row_reading, change_by}
-use Rattle.bus_story.specs.CarriedBytes.{carried_at, is_status_phase}
-use Rattle.bus_story.specs.HistoryEvents as story_of
-use Rattle.bus_story.specs.Items.{Item, process, abort, has_item}
-use Rattle.bus_story.specs.Story.{Story}
-use Rattle.bus_story.specs.TraceHistory.{aim_of, story}
-use Rattle.bus_story.proofs.CarriedLists.{carried_id}
-use Rattle.bus_books.proofs.Lookups.{id_is}
+use Rattle.bus_due.specs.bus_base.specs.declared.ProcId.{ProcId}
+use Rattle.bus_due.specs.bus_trace.specs.Changes.{rises}
+use Rattle.bus_due.specs.bus_trace.specs.Phases.{is_command, is_message_in, is_message_out, changes_phase}
+use Rattle.bus_due.specs.bus_trace.specs.Terms.{connection_after}
+use Rattle.bus_due.specs.bus_trace.specs.declared.changes.Change.{Change}
+use Rattle.bus_due.specs.bus_trace.specs.declared.connection.Connection.{Connection}
+use Rattle.bus_due.specs.bus_trace.specs.declared.rows.Row.{Row}
+use Rattle.bus_due.specs.scenario.specs.Value.{ScenarioValue}
+use Rattle.bus_due.specs.disk_array.specs.Processes as array_of
+use Rattle.bus_due.specs.disk_array.specs.Processes.{same_id}
+use Rattle.bus_due.specs.bus_story.specs.BusState.{BusState, RowReading, row_reading, change_by}
+use Rattle.bus_due.specs.bus_story.specs.CarriedBytes.{carried_at, is_status_phase}
+use Rattle.bus_due.specs.bus_story.specs.HistoryEvents as story_of
+use Rattle.bus_due.specs.bus_story.specs.Items.{Item, process, abort, has_item}
+use Rattle.bus_due.specs.bus_story.specs.Story.{Story}
+use Rattle.bus_due.specs.bus_story.specs.TraceHistory.{aim_of, story}
+use Rattle.bus_due.specs.bus_story.proofs.CarriedLists.{carried_id}
+use Rattle.trace_laws.specs.bus_books.proofs.Lookups.{id_is}
 use Rattle.trace_laws.proofs.Impossible.{none_some}
 use Rattle.bus_transcript.specs.declared.item.Name.{Name}
 use Rattle.bus_transcript.specs.Events.{same_name, names_begun, name_sent, TellsHistory}
@@ -50,7 +50,7 @@ use Rattle.transcript_laws.proofs.StandingFirst.{standing_first}
 use Rattle.transcript_laws.proofs.StandingPast.{standing_past}
 use Rattle.transcript_laws.proofs.StillRows.{still_next}
 use Rattle.transcript_laws.proofs.TurnRows.{turn_next}
-use Rattle.bus_base.proofs.Tests.{wrong, wrong', and_first, and_second, or_second, is_nothing}
+use Rattle.bus_due.specs.bus_base.proofs.Tests.{wrong, wrong', and_first, and_second, or_second, is_nothing}
 
 -- ---- a connection begins
 

@@ -2,18 +2,18 @@
 use Rattle.std.proofs.Common.{ℕ, ◌≡◌, ◌∙◌, ◌==◌, Bool, true, false, ◌||◌, List, [], ◌∷◌, ◌++◌, Option, Some, None, refl, sym, ap, subst, arith}
 use Rattle.std.specs.Prelude.{◌&&◌, is_none, is_some, if◌then◌else◌}
 use Rattle.std.proofs.lemmas.Option.{same_Some}
-use Rattle.bus_base.specs.declared.Event.{Event}
-use Rattle.bus_base.specs.declared.ProcId.{ProcId}
-use Rattle.bus_trace.specs.declared.connection.Connection.{Connection}
-use Rattle.msg_grammar.specs.declared.message.MsgOut.{MsgOut}
-use Rattle.bus_trace.specs.declared.rows.Row.{Row}
-use Rattle.bus_trace.specs.Phases.{is_command}
-use Rattle.scenario.specs.Value.{ScenarioValue}
-use Rattle.disk_array.specs.Processes as array_of
-use Rattle.bus_story.specs.CarriedBytes.{CarriedBytes, carried_of}
-use Rattle.bus_story.specs.Items.{Item, process, abort, same_item, has_item}
-use Rattle.bus_story.specs.Story.{Story}
-use Rattle.bus_story.specs.TraceHistory.{story}
+use Rattle.bus_due.specs.bus_base.specs.declared.Event.{Event}
+use Rattle.bus_due.specs.bus_base.specs.declared.ProcId.{ProcId}
+use Rattle.bus_due.specs.bus_trace.specs.declared.connection.Connection.{Connection}
+use Rattle.bus_due.specs.msg_grammar.specs.declared.message.MsgOut.{MsgOut}
+use Rattle.bus_due.specs.bus_trace.specs.declared.rows.Row.{Row}
+use Rattle.bus_due.specs.bus_trace.specs.Phases.{is_command}
+use Rattle.bus_due.specs.scenario.specs.Value.{ScenarioValue}
+use Rattle.bus_due.specs.disk_array.specs.Processes as array_of
+use Rattle.bus_due.specs.bus_story.specs.CarriedBytes.{CarriedBytes, carried_of}
+use Rattle.bus_due.specs.bus_story.specs.Items.{Item, process, abort, same_item, has_item}
+use Rattle.bus_due.specs.bus_story.specs.Story.{Story}
+use Rattle.bus_due.specs.bus_story.specs.TraceHistory.{story}
 use Rattle.trace_laws.proofs.Impossible.{none_some}
 use Rattle.trace_laws.proofs.WritePremises.{some_there}
 use Rattle.bus_transcript.specs.declared.item.Item as item_of
@@ -40,7 +40,7 @@ use Rattle.transcript_laws.proofs.OwnConnections.{Leaves, leaves, IsClosing, fir
 use Rattle.transcript_laws.proofs.PartLists.{spoken_parts, spoken_keeps}
 use Rattle.transcript_laws.proofs.TalkServes.{talk_first}
 use Rattle.transcript_laws.proofs.ShownParts.{talk_more}
-use Rattle.bus_base.proofs.Tests.{wrong, wrong', and_first, and_second, or_second}
+use Rattle.bus_due.specs.bus_base.proofs.Tests.{wrong, wrong', and_first, and_second, or_second}
 
 -- What has a name was sent.
 pub named_sent : (sent : List Item) (names : List Name) (id : ProcId) (name : Name) → name_sent sent names id ≡ Some name → has_item sent (process id) ≡ true

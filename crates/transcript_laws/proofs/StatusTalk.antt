@@ -1,36 +1,36 @@
 -- COMMAND COMPLETE is said only after STATUS in the same connection.
 use Rattle.std.proofs.Common.{ℕ, ◌≡◌, ◌∙◌, ◌-◌, ◌⊎◌, inl, inr, Bool, true, false, not, ◌&&◌, ◌%◌, List, [], ◌∷◌, ◌++◌, Option, Some, None, refl, sym, ap, subst}
 use Rattle.std.specs.Prelude.{is_some, if◌then◌else◌}
-use Rattle.bus_trace.specs.LineSet.{LineSet}
-use Rattle.bus_trace.specs.Phases.{changes_phase, is_message_in, is_message_out}
-use Rattle.bus_trace.specs.Terms.{is_fault, receiver_in}
-use Rattle.bus_trace.specs.declared.changes.Change.{Change}
-use Rattle.bus_trace.specs.declared.connection.Connection.{Connection}
-use Rattle.bus_trace.specs.declared.rows.Row.{Row}
-use Rattle.msg_grammar.specs.declared.message.MsgIn.TheVariants as to_initiator
-use Rattle.scenario.specs.Value.{ScenarioValue}
-use Rattle.bus_story.specs.BusState.{RowReading, row_reading, message_in, message_out}
-use Rattle.bus_story.specs.CarriedBytes.{is_status_phase}
-use Rattle.bus_story.specs.HistoryEvents.{row_events_by}
-use Rattle.bus_story.specs.Links.{Link, link_of}
-use Rattle.bus_story.specs.Story.{Story}
-use Rattle.bus_story.specs.TraceHistory.{aim_of, story_on_bus, story_by_change, story_after_connection, story_with_restored, story_with_sent}
-use Rattle.bus_dialogue.specs.declared.exchange.Cause.TheVariants as causes
-use Rattle.bus_dialogue.specs.declared.exchange.Leaving.{Leaving}
-use Rattle.bus_dialogue.specs.declared.exchange.Messages.{Messages}
-use Rattle.bus_dialogue.specs.declared.exchange.Phase.{Phase}
-use Rattle.bus_dialogue.specs.declared.exchange.Phase.TheVariants as phases
-use Rattle.bus_dialogue.specs.Exchange.{Exchange, from_byte, one_message, plan_anew, plan_after_message, struck_plan}
-use Rattle.bus_dialogue.specs.NextPhase.{phase_of, phase_leaving, leaving_by}
-use Rattle.bus_dialogue.specs.Planning.{plan_in_message_out}
-use Rattle.bus_dialogue.specs.Words.{is_naming}
+use Rattle.bus_due.specs.bus_trace.specs.LineSet.{LineSet}
+use Rattle.bus_due.specs.bus_trace.specs.Phases.{changes_phase, is_message_in, is_message_out}
+use Rattle.bus_due.specs.bus_trace.specs.Terms.{is_fault, receiver_in}
+use Rattle.bus_due.specs.bus_trace.specs.declared.changes.Change.{Change}
+use Rattle.bus_due.specs.bus_trace.specs.declared.connection.Connection.{Connection}
+use Rattle.bus_due.specs.bus_trace.specs.declared.rows.Row.{Row}
+use Rattle.bus_due.specs.msg_grammar.specs.declared.message.MsgIn.TheVariants as to_initiator
+use Rattle.bus_due.specs.scenario.specs.Value.{ScenarioValue}
+use Rattle.bus_due.specs.bus_story.specs.BusState.{RowReading, row_reading, message_in, message_out}
+use Rattle.bus_due.specs.bus_story.specs.CarriedBytes.{is_status_phase}
+use Rattle.bus_due.specs.bus_story.specs.HistoryEvents.{row_events_by}
+use Rattle.bus_due.specs.bus_story.specs.Links.{Link, link_of}
+use Rattle.bus_due.specs.bus_story.specs.Story.{Story}
+use Rattle.bus_due.specs.bus_story.specs.TraceHistory.{aim_of, story_on_bus, story_by_change, story_after_connection, story_with_restored, story_with_sent}
+use Rattle.bus_due.specs.bus_dialogue.specs.declared.exchange.Cause.TheVariants as causes
+use Rattle.bus_due.specs.bus_dialogue.specs.declared.exchange.Leaving.{Leaving}
+use Rattle.bus_due.specs.bus_dialogue.specs.declared.exchange.Messages.{Messages}
+use Rattle.bus_due.specs.bus_dialogue.specs.declared.exchange.Phase.{Phase}
+use Rattle.bus_due.specs.bus_dialogue.specs.declared.exchange.Phase.TheVariants as phases
+use Rattle.bus_due.specs.bus_dialogue.specs.Exchange.{Exchange, from_byte, one_message, plan_anew, plan_after_message, struck_plan}
+use Rattle.bus_due.specs.bus_dialogue.specs.NextPhase.{phase_of, phase_leaving, leaving_by}
+use Rattle.bus_due.specs.bus_dialogue.specs.Planning.{plan_in_message_out}
+use Rattle.bus_due.specs.bus_dialogue.specs.Words.{is_naming}
 use Rattle.bus_due.specs.RunState.{RunState, bus_of, item_of}
 use Rattle.bus_due.specs.RunSteps.{run_state}
 use Rattle.bus_due.specs.Sights.{hearing_of, leaving, serving_of}
-use Rattle.bus_books.specs.Rows.{reading_in}
-use Rattle.bus_books.proofs.Gives.{byte_messages, not_both}
-use Rattle.bus_books.proofs.InConnection.{InConnection, in_connection}
-use Rattle.bus_story.proofs.StorySteps.{events_link}
+use Rattle.trace_laws.specs.bus_books.specs.Rows.{reading_in}
+use Rattle.trace_laws.specs.bus_books.proofs.Gives.{byte_messages, not_both}
+use Rattle.trace_laws.specs.bus_books.proofs.InConnection.{InConnection, in_connection}
+use Rattle.bus_due.specs.bus_story.proofs.StorySteps.{events_link}
 use Rattle.bus_transcript.specs.declared.part.Part.{Part}
 use Rattle.bus_transcript.specs.declared.part.Part.TheVariants as parts_of
 use Rattle.bus_transcript.specs.Opened.{OpenedValue, is_completion, with_part, with_fault, phase_entered, phase_over, phase_parts}
@@ -47,7 +47,7 @@ use Rattle.transcript_laws.proofs.OpenedBytes.{CrossingMade, crossed_out, crosse
 use Rattle.transcript_laws.proofs.OpenedFacts.{Going, Starts, RowMade, made_still, made_crossing, made_turn, plain_before, knows_before}
 use Rattle.transcript_laws.proofs.PartLists.{broken_parts}
 use Rattle.transcript_laws.proofs.TalkNamed.{talk_more, base_talk, in_talk}
-use Rattle.bus_base.proofs.Tests.{wrong, wrong', and_false}
+use Rattle.bus_due.specs.bus_base.proofs.Tests.{wrong, wrong', and_false}
 
 pub record StatusTalk (k : RunState) (o : OpenedValue) : Type 0 where
   pub status : k.exchange.begun ≡ true → is_status_phase (bus_of k) ≡ true → are_talk (base_parts o) ≡ false

@@ -2,32 +2,32 @@
 use Rattle.std.proofs.Common.{ℕ, ◌≡◌, ◌∙◌, Bool, true, false, not, ◌&&◌, ◌||◌, List, [], ◌∷◌, ◌++◌, Option, Some, None, refl, sym, ap, subst}
 use Rattle.std.specs.Prelude.{is_some, slice_index, if◌then◌else◌}
 use Rattle.std.proofs.lemmas.Bool.{and_parts}
-use Rattle.bus_base.specs.declared.Event.{Event}
-use Rattle.bus_base.specs.declared.Event.TheVariants as events
-use Rattle.bus_base.specs.declared.ProcId.{ProcId}
-use Rattle.bus_trace.specs.LineSet.{LineSet}
-use Rattle.bus_trace.specs.Changes.{rises}
-use Rattle.bus_trace.specs.Phases.{is_command, is_data, is_message_in, changes_phase}
-use Rattle.bus_trace.specs.Terms.{is_fault}
-use Rattle.bus_trace.specs.declared.changes.Change.{Change}
-use Rattle.bus_trace.specs.declared.rows.Kind.{Kind}
-use Rattle.bus_trace.specs.declared.rows.Kind.TheVariants.{Drives, Fault}
-use Rattle.bus_trace.specs.declared.rows.Row.{Row}
-use Rattle.cdb_codec.specs.declared.sense.TheConstants.{PARITY_ERROR, INITIATOR_DETECTED_ERROR}
-use Rattle.scenario.specs.Value.{ScenarioValue}
-use Rattle.disk_array.specs.Processes.{same_id, same_bool}
-use Rattle.disk_array.proofs.SeatLookups.{same_bool_is}
-use Rattle.bus_phases.specs.Half.{is_nil}
-use Rattle.bus_story.specs.BusState.{RowReading, row_reading}
-use Rattle.bus_story.specs.CarriedBytes.{CarriedBytes, carried_of}
-use Rattle.bus_story.specs.HistoryEvents as story_of
-use Rattle.bus_story.specs.HistoryEvents.{carried_if, phase_events, end_events, connection_events}
-use Rattle.bus_story.specs.Items.{Item, process, Sent}
-use Rattle.bus_story.specs.Story.{Story, by_status, story_with_end, story_after_events}
-use Rattle.bus_story.specs.TraceHistory.{story_with_carried, carried_after_fault_if, story_after_fault, story_after_crossing, story_in_connection, story}
-use Rattle.bus_story.proofs.StorySteps.{check_keeps, events_sent}
-use Rattle.bus_story.proofs.CarriedLists.{carried_id}
-use Rattle.bus_books.proofs.InConnection.{same_phase_is}
+use Rattle.bus_due.specs.bus_base.specs.declared.Event.{Event}
+use Rattle.bus_due.specs.bus_base.specs.declared.Event.TheVariants as events
+use Rattle.bus_due.specs.bus_base.specs.declared.ProcId.{ProcId}
+use Rattle.bus_due.specs.bus_trace.specs.LineSet.{LineSet}
+use Rattle.bus_due.specs.bus_trace.specs.Changes.{rises}
+use Rattle.bus_due.specs.bus_trace.specs.Phases.{is_command, is_data, is_message_in, changes_phase}
+use Rattle.bus_due.specs.bus_trace.specs.Terms.{is_fault}
+use Rattle.bus_due.specs.bus_trace.specs.declared.changes.Change.{Change}
+use Rattle.bus_due.specs.bus_trace.specs.declared.rows.Kind.{Kind}
+use Rattle.bus_due.specs.bus_trace.specs.declared.rows.Kind.TheVariants.{Drives, Fault}
+use Rattle.bus_due.specs.bus_trace.specs.declared.rows.Row.{Row}
+use Rattle.bus_due.specs.cdb_codec.specs.declared.sense.TheConstants.{PARITY_ERROR, INITIATOR_DETECTED_ERROR}
+use Rattle.bus_due.specs.scenario.specs.Value.{ScenarioValue}
+use Rattle.bus_due.specs.disk_array.specs.Processes.{same_id, same_bool}
+use Rattle.bus_due.specs.disk_array.proofs.SeatLookups.{same_bool_is}
+use Rattle.bus_due.specs.bus_phases.specs.Half.{is_nil}
+use Rattle.bus_due.specs.bus_story.specs.BusState.{RowReading, row_reading}
+use Rattle.bus_due.specs.bus_story.specs.CarriedBytes.{CarriedBytes, carried_of}
+use Rattle.bus_due.specs.bus_story.specs.HistoryEvents as story_of
+use Rattle.bus_due.specs.bus_story.specs.HistoryEvents.{carried_if, phase_events, end_events, connection_events}
+use Rattle.bus_due.specs.bus_story.specs.Items.{Item, process, Sent}
+use Rattle.bus_due.specs.bus_story.specs.Story.{Story, by_status, story_with_end, story_after_events}
+use Rattle.bus_due.specs.bus_story.specs.TraceHistory.{story_with_carried, carried_after_fault_if, story_after_fault, story_after_crossing, story_in_connection, story}
+use Rattle.bus_due.specs.bus_story.proofs.StorySteps.{check_keeps, events_sent}
+use Rattle.bus_due.specs.bus_story.proofs.CarriedLists.{carried_id}
+use Rattle.trace_laws.specs.bus_books.proofs.InConnection.{same_phase_is}
 use Rattle.trace_laws.proofs.OverItems.{grows_same, events_grow}
 use Rattle.bus_transcript.specs.declared.part.Part.{Part}
 use Rattle.bus_transcript.specs.declared.part.Part.TheVariants as parts_of
@@ -51,7 +51,7 @@ use Rattle.transcript_laws.proofs.OpenProcesses.{alike_self, alike_on, SameBooks
 use Rattle.transcript_laws.proofs.ServingSteps.{filled, struck_serves, fault_serves, end_serves}
 use Rattle.transcript_laws.proofs.StageRows.{stage_on}
 use Rattle.transcript_laws.proofs.TurnServes.{in_no_command}
-use Rattle.bus_base.proofs.Tests.{wrong', and_first, and_second, and_false, or_false, implied}
+use Rattle.bus_due.specs.bus_base.proofs.Tests.{wrong', and_first, and_second, and_false, or_false, implied}
 
 -- ---- the row
 

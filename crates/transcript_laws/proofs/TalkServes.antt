@@ -2,14 +2,14 @@
 use Rattle.std.proofs.Common.{ℕ, ◌≡◌, ◌∙◌, ◌==◌, Bool, true, false, ◌&&◌, not, List, [], ◌∷◌, ◌++◌, Option, refl, sym, ap}
 use Rattle.std.specs.Prelude.{if◌then◌else◌}
 use Rattle.std.proofs.lemmas.Bool.{and_parts}
-use Rattle.bus_base.specs.declared.Event.{Event}
-use Rattle.bus_base.specs.declared.ProcId.{ProcId}
-use Rattle.bus_trace.specs.LineSet.{LineSet}
-use Rattle.bus_trace.specs.Phases.{is_command, is_data, is_message_in}
-use Rattle.msg_grammar.specs.declared.message.MsgIn.{MsgIn}
-use Rattle.msg_grammar.specs.declared.message.MsgIn.TheVariants as to_initiator
-use Rattle.bus_phases.specs.Half.{is_nil}
-use Rattle.bus_story.specs.CarriedBytes.{CarriedBytes, is_status_phase}
+use Rattle.bus_due.specs.bus_base.specs.declared.Event.{Event}
+use Rattle.bus_due.specs.bus_base.specs.declared.ProcId.{ProcId}
+use Rattle.bus_due.specs.bus_trace.specs.LineSet.{LineSet}
+use Rattle.bus_due.specs.bus_trace.specs.Phases.{is_command, is_data, is_message_in}
+use Rattle.bus_due.specs.msg_grammar.specs.declared.message.MsgIn.{MsgIn}
+use Rattle.bus_due.specs.msg_grammar.specs.declared.message.MsgIn.TheVariants as to_initiator
+use Rattle.bus_due.specs.bus_phases.specs.Half.{is_nil}
+use Rattle.bus_due.specs.bus_story.specs.CarriedBytes.{CarriedBytes, is_status_phase}
 use Rattle.bus_transcript.specs.declared.part.Incoming.TheVariants.{Whole}
 use Rattle.bus_transcript.specs.declared.part.Part.{Part}
 use Rattle.bus_transcript.specs.declared.part.Part.TheVariants as parts_of
@@ -24,7 +24,7 @@ use Rattle.transcript_laws.proofs.PartLists.{broken_parts}
 use Rattle.transcript_laws.proofs.ServingSteps.{no_block}
 use Rattle.transcript_laws.proofs.ShownParts.{talk_more}
 use Rattle.transcript_laws.proofs.TurnSteps.{outs_talk, broken_talk}
-use Rattle.bus_base.proofs.Tests.{wrong'}
+use Rattle.bus_due.specs.bus_base.proofs.Tests.{wrong'}
 
 -- ---- the account
 

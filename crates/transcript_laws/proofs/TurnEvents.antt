@@ -3,21 +3,21 @@ use Rattle.std.proofs.Common.{ℕ, ◌≡◌, ◌∙◌, Bool, true, false, ◌&
 use Rattle.std.specs.Prelude.{◌==◌, if◌then◌else◌}
 use Rattle.std.specs.List.{list_any}
 use Rattle.std.proofs.lemmas.List.{append-nil}
-use Rattle.bus_base.specs.declared.Event.{Event}
-use Rattle.bus_base.specs.declared.Event.TheVariants as events
-use Rattle.bus_base.specs.declared.ProcId.{ProcId}
-use Rattle.bus_story.specs.CarriedBytes.{CarriedBytes}
-use Rattle.bus_story.specs.HistoryEvents.{is_refuse, status_event}
-use Rattle.bus_story.specs.Story.{marked_refused, marked_shown}
-use Rattle.bus_books.proofs.Lookups.{self_id}
-use Rattle.disk_array.specs.Processes.{same_id}
+use Rattle.bus_due.specs.bus_base.specs.declared.Event.{Event}
+use Rattle.bus_due.specs.bus_base.specs.declared.Event.TheVariants as events
+use Rattle.bus_due.specs.bus_base.specs.declared.ProcId.{ProcId}
+use Rattle.bus_due.specs.bus_story.specs.CarriedBytes.{CarriedBytes}
+use Rattle.bus_due.specs.bus_story.specs.HistoryEvents.{is_refuse, status_event}
+use Rattle.bus_due.specs.bus_story.specs.Story.{marked_refused, marked_shown}
+use Rattle.trace_laws.specs.bus_books.proofs.Lookups.{self_id}
+use Rattle.bus_due.specs.disk_array.specs.Processes.{same_id}
 use Rattle.bus_transcript.specs.declared.item.Item.{Item}
 use Rattle.bus_transcript.specs.declared.item.Item.TheVariants as items
 use Rattle.bus_transcript.specs.declared.item.Name.{Name}
 use Rattle.bus_transcript.specs.declared.part.Part.TheVariants as parts_of
 use Rattle.bus_transcript.specs.Accounts.{AccountValue, account_after_all}
 use Rattle.bus_transcript.specs.Events.{items_named}
-use Rattle.bus_phases.specs.Half.{is_nil}
+use Rattle.bus_due.specs.bus_phases.specs.Half.{is_nil}
 use Rattle.transcript_laws.specs.Told.{first_byte, IsAccountOf, is_refusal, is_answer, has_refusal, has_answer, is_listed, shown_items}
 use Rattle.transcript_laws.specs.Serving.{IsRefused, marked_with}
 use Rattle.transcript_laws.proofs.AccountSteps.{shown_step, told_step, refused_step}
@@ -25,7 +25,7 @@ use Rattle.transcript_laws.proofs.ServingSteps.{conn_items, conn_more}
 use Rattle.transcript_laws.proofs.ShownParts.{part_more}
 use Rattle.transcript_laws.proofs.TurnSteps.{arrival}
 use Rattle.transcript_laws.proofs.PastEvents.{any_later}
-use Rattle.bus_base.proofs.Tests.{wrong, and_false}
+use Rattle.bus_due.specs.bus_base.proofs.Tests.{wrong, and_false}
 
 -- ---- the events
 

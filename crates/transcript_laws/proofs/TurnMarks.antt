@@ -2,23 +2,23 @@
 use Rattle.std.proofs.Common.{ℕ, ◌≡◌, ◌∙◌, Bool, true, false, ◌&&◌, ◌||◌, not, List, [], ◌∷◌, ◌++◌, Option, Some, None, refl, sym, ap, subst}
 use Rattle.std.specs.Prelude.{if◌then◌else◌}
 use Rattle.std.specs.List.{list_any}
-use Rattle.bus_base.specs.declared.Event.{Event}
-use Rattle.bus_base.specs.declared.Event.TheVariants as events
-use Rattle.bus_base.specs.declared.ProcId.{ProcId}
-use Rattle.scenario.specs.Value.{ScenarioValue}
-use Rattle.disk_array.specs.Processes.{same_id}
-use Rattle.bus_story.specs.CarriedBytes.{CarriedBytes, carried_of, with_carried}
-use Rattle.bus_story.specs.HistoryEvents.{is_refuse, status_event}
-use Rattle.bus_story.specs.Story.{Story, by_status, marked_refused, marked_shown, story_with_end, story_after_event, story_after_events}
-use Rattle.bus_story.proofs.StorySteps.{check_keeps}
-use Rattle.bus_story.proofs.CarriedLists.{carried_id}
-use Rattle.bus_books.proofs.Lookups.{self_id, put_own, put_other}
+use Rattle.bus_due.specs.bus_base.specs.declared.Event.{Event}
+use Rattle.bus_due.specs.bus_base.specs.declared.Event.TheVariants as events
+use Rattle.bus_due.specs.bus_base.specs.declared.ProcId.{ProcId}
+use Rattle.bus_due.specs.scenario.specs.Value.{ScenarioValue}
+use Rattle.bus_due.specs.disk_array.specs.Processes.{same_id}
+use Rattle.bus_due.specs.bus_story.specs.CarriedBytes.{CarriedBytes, carried_of, with_carried}
+use Rattle.bus_due.specs.bus_story.specs.HistoryEvents.{is_refuse, status_event}
+use Rattle.bus_due.specs.bus_story.specs.Story.{Story, by_status, marked_refused, marked_shown, story_with_end, story_after_event, story_after_events}
+use Rattle.bus_due.specs.bus_story.proofs.StorySteps.{check_keeps}
+use Rattle.bus_due.specs.bus_story.proofs.CarriedLists.{carried_id}
+use Rattle.trace_laws.specs.bus_books.proofs.Lookups.{self_id, put_own, put_other}
 use Rattle.transcript_laws.specs.Past.{IsOwnEvent, AreOwnEvents}
 use Rattle.transcript_laws.specs.Serving.{marked_by, marked_with}
 use Rattle.transcript_laws.specs.Told.{has_refusal, has_answer, IsMarked}
 use Rattle.transcript_laws.proofs.TurnEvents.{arrivals, turn_events, Turn, quiet, shows, turn, refused_turn, event_mark}
-use Rattle.bus_base.proofs.Tests.{wrong}
-use Rattle.target_units.proofs.LiveQueue.{id_turned}
+use Rattle.bus_due.specs.bus_base.proofs.Tests.{wrong}
+use Rattle.trace_laws.specs.target_units.proofs.LiveQueue.{id_turned}
 
 -- ---- what is carried
 

@@ -2,18 +2,18 @@
 use Rattle.std.proofs.Common.{ℕ, ◌≡◌, ◌∙◌, ◌==◌, Bool, true, false, not, ◌&&◌, ◌||◌, List, [], ◌∷◌, ◌++◌, refl, sym, ap}
 use Rattle.std.specs.Prelude.{if◌then◌else◌}
 use Rattle.std.proofs.lemmas.Bool.{eqb-true}
-use Rattle.bus_base.specs.declared.Event.{Event}
-use Rattle.bus_base.specs.declared.ProcId.{ProcId}
-use Rattle.bus_trace.specs.LineSet.{LineSet}
-use Rattle.bus_trace.specs.Phases.{is_command, is_data, is_message_in}
-use Rattle.bus_trace.specs.declared.connection.Connection.{Connection}
-use Rattle.msg_grammar.specs.declared.message.MsgOut.{MsgOut}
-use Rattle.disk_array.specs.Processes.{same_bool}
-use Rattle.disk_array.proofs.SeatLookups.{same_bool_is}
-use Rattle.bus_phases.specs.Half.{is_nil}
-use Rattle.bus_story.specs.CarriedBytes.{CarriedBytes, is_status_phase}
-use Rattle.bus_story.specs.Right.{same_bytes}
-use Rattle.bus_story.proofs.SameBytes.{bytes_are}
+use Rattle.bus_due.specs.bus_base.specs.declared.Event.{Event}
+use Rattle.bus_due.specs.bus_base.specs.declared.ProcId.{ProcId}
+use Rattle.bus_due.specs.bus_trace.specs.LineSet.{LineSet}
+use Rattle.bus_due.specs.bus_trace.specs.Phases.{is_command, is_data, is_message_in}
+use Rattle.bus_due.specs.bus_trace.specs.declared.connection.Connection.{Connection}
+use Rattle.bus_due.specs.msg_grammar.specs.declared.message.MsgOut.{MsgOut}
+use Rattle.bus_due.specs.disk_array.specs.Processes.{same_bool}
+use Rattle.bus_due.specs.disk_array.proofs.SeatLookups.{same_bool_is}
+use Rattle.bus_due.specs.bus_phases.specs.Half.{is_nil}
+use Rattle.bus_due.specs.bus_story.specs.CarriedBytes.{CarriedBytes, is_status_phase}
+use Rattle.bus_due.specs.bus_story.specs.Right.{same_bytes}
+use Rattle.bus_due.specs.bus_story.proofs.SameBytes.{bytes_are}
 use Rattle.bus_transcript.specs.Accounts.{AccountValue}
 use Rattle.bus_transcript.specs.declared.part.Incoming.TheVariants.{Broken}
 use Rattle.bus_transcript.specs.declared.part.Part.{Part}
@@ -27,7 +27,7 @@ use Rattle.transcript_laws.proofs.PartLists.{broken_parts, over_keeps}
 use Rattle.transcript_laws.proofs.StillRows.{talk_second}
 use Rattle.transcript_laws.proofs.TalkServes.{talk_first}
 use Rattle.transcript_laws.proofs.TurnServes.{both_none}
-use Rattle.bus_base.proofs.Tests.{wrong, wrong', and_first, and_second}
+use Rattle.bus_due.specs.bus_base.proofs.Tests.{wrong, wrong', and_first, and_second}
 
 -- ---- the connection with its next phase
 

@@ -2,31 +2,31 @@
 use Rattle.std.proofs.Common.{ℕ, ◌≡◌, ◌∙◌, Bool, true, false, not, ◌&&◌, ◌||◌, List, [], ◌∷◌, ◌++◌, Option, Some, None, refl, sym, ap, subst}
 use Rattle.std.specs.Prelude.{is_some, if◌then◌else◌}
 use Rattle.std.proofs.lemmas.Bool.{or_parts}
-use Rattle.bus_base.specs.declared.Event.{Event}
-use Rattle.bus_base.specs.declared.Event.TheVariants as events
-use Rattle.bus_base.specs.declared.ProcId.{ProcId}
-use Rattle.bus_trace.specs.LineSet.{LineSet}
-use Rattle.bus_trace.specs.Phases.{is_command, is_data, is_message_in, changes_phase}
-use Rattle.bus_trace.specs.declared.changes.Change.{Change}
-use Rattle.bus_trace.specs.declared.connection.Connection.{Connection}
-use Rattle.bus_trace.specs.declared.rows.Kind.{Kind}
-use Rattle.bus_trace.specs.declared.rows.Kind.TheVariants.{Drives, Fault}
-use Rattle.bus_trace.specs.declared.rows.Row.{Row}
-use Rattle.scenario.specs.Value.{ScenarioValue}
-use Rattle.disk_array.specs.Processes.{same_id}
-use Rattle.disk_array.specs.ArrayHistory.{array_after}
-use Rattle.bus_phases.specs.Half.{is_nil}
-use Rattle.bus_story.specs.BusState.{RowReading, row_reading}
-use Rattle.bus_story.specs.CarriedBytes.{CarriedBytes, carried_of, is_whole_block, is_status_phase}
-use Rattle.bus_story.specs.HistoryEvents as story_of
-use Rattle.bus_story.specs.HistoryEvents.{carried_if, phase_events, end_events, connection_events}
-use Rattle.bus_story.specs.Items.{Item, process, abort}
-use Rattle.bus_story.specs.Story.{Story, story_after_events}
-use Rattle.bus_story.specs.TraceHistory.{story_after_fault, story_after_crossing, story_in_connection, story}
-use Rattle.bus_story.proofs.StorySteps.{events_link, events_sent}
-use Rattle.bus_story.proofs.CarriedLists.{carried_id}
-use Rattle.bus_books.proofs.Lookups.{id_is}
-use Rattle.bus_books.proofs.Reading.{nil_is}
+use Rattle.bus_due.specs.bus_base.specs.declared.Event.{Event}
+use Rattle.bus_due.specs.bus_base.specs.declared.Event.TheVariants as events
+use Rattle.bus_due.specs.bus_base.specs.declared.ProcId.{ProcId}
+use Rattle.bus_due.specs.bus_trace.specs.LineSet.{LineSet}
+use Rattle.bus_due.specs.bus_trace.specs.Phases.{is_command, is_data, is_message_in, changes_phase}
+use Rattle.bus_due.specs.bus_trace.specs.declared.changes.Change.{Change}
+use Rattle.bus_due.specs.bus_trace.specs.declared.connection.Connection.{Connection}
+use Rattle.bus_due.specs.bus_trace.specs.declared.rows.Kind.{Kind}
+use Rattle.bus_due.specs.bus_trace.specs.declared.rows.Kind.TheVariants.{Drives, Fault}
+use Rattle.bus_due.specs.bus_trace.specs.declared.rows.Row.{Row}
+use Rattle.bus_due.specs.scenario.specs.Value.{ScenarioValue}
+use Rattle.bus_due.specs.disk_array.specs.Processes.{same_id}
+use Rattle.bus_due.specs.disk_array.specs.ArrayHistory.{array_after}
+use Rattle.bus_due.specs.bus_phases.specs.Half.{is_nil}
+use Rattle.bus_due.specs.bus_story.specs.BusState.{RowReading, row_reading}
+use Rattle.bus_due.specs.bus_story.specs.CarriedBytes.{CarriedBytes, carried_of, is_whole_block, is_status_phase}
+use Rattle.bus_due.specs.bus_story.specs.HistoryEvents as story_of
+use Rattle.bus_due.specs.bus_story.specs.HistoryEvents.{carried_if, phase_events, end_events, connection_events}
+use Rattle.bus_due.specs.bus_story.specs.Items.{Item, process, abort}
+use Rattle.bus_due.specs.bus_story.specs.Story.{Story, story_after_events}
+use Rattle.bus_due.specs.bus_story.specs.TraceHistory.{story_after_fault, story_after_crossing, story_in_connection, story}
+use Rattle.bus_due.specs.bus_story.proofs.StorySteps.{events_link, events_sent}
+use Rattle.bus_due.specs.bus_story.proofs.CarriedLists.{carried_id}
+use Rattle.trace_laws.specs.bus_books.proofs.Lookups.{id_is}
+use Rattle.trace_laws.specs.bus_books.proofs.Reading.{nil_is}
 use Rattle.trace_laws.proofs.OverItems.{events_grow}
 use Rattle.trace_laws.proofs.Impossible.{none_some}
 use Rattle.trace_laws.proofs.TellRows.{no_events}
@@ -52,7 +52,7 @@ use Rattle.transcript_laws.proofs.TurnEvents.{arrivals, turn_events}
 use Rattle.transcript_laws.proofs.TurnMarks.{events_own, events_other, others_marked, turn_marks, turn_own}
 use Rattle.transcript_laws.proofs.TurnParts.{turned, IsTurned, is_turned, talk_parts, known_stays, known_then, IsQuiet, quiet_since, alike_is, alike_account, alike_marked}
 use Rattle.transcript_laws.proofs.TurnServes.{IsVoid, void_turned, cut_turned, turn_serves}
-use Rattle.bus_base.proofs.Tests.{wrong, wrong', implied, or_second}
+use Rattle.bus_due.specs.bus_base.proofs.Tests.{wrong, wrong', implied, or_second}
 
 -- ---- the row
 

@@ -4,12 +4,12 @@ use Rattle.std.specs.Prelude.{if◌then◌else◌}
 use Rattle.std.specs.List.{flat_map}
 use Rattle.std.proofs.lemmas.List.{append_assoc, append-nil, reverse-append}
 use Rattle.std.proofs.lemmas.Grind.{flat_map-append}
-use Rattle.bus_base.specs.declared.Event.{Event}
-use Rattle.bus_base.specs.declared.ProcId.{ProcId}
-use Rattle.bus_trace.specs.LineSet.{LineSet}
-use Rattle.bus_trace.specs.Phases.{is_command, is_data, is_message_in}
-use Rattle.bus_phases.specs.Half.{is_nil}
-use Rattle.bus_story.specs.CarriedBytes.{CarriedBytes, is_whole_block, is_status_phase}
+use Rattle.bus_due.specs.bus_base.specs.declared.Event.{Event}
+use Rattle.bus_due.specs.bus_base.specs.declared.ProcId.{ProcId}
+use Rattle.bus_due.specs.bus_trace.specs.LineSet.{LineSet}
+use Rattle.bus_due.specs.bus_trace.specs.Phases.{is_command, is_data, is_message_in}
+use Rattle.bus_due.specs.bus_phases.specs.Half.{is_nil}
+use Rattle.bus_due.specs.bus_story.specs.CarriedBytes.{CarriedBytes, is_whole_block, is_status_phase}
 use Rattle.bus_transcript.specs.declared.item.Item.{Item}
 use Rattle.bus_transcript.specs.declared.item.Name.{Name}
 use Rattle.bus_transcript.specs.declared.part.Incoming.{Incoming}
@@ -30,7 +30,7 @@ use Rattle.transcript_laws.proofs.ServingSteps.{filled, of_block, conn_items}
 use Rattle.transcript_laws.proofs.TurnSteps.{arrival, over_account, turned_account, over_is, over_name, over_shown, outs_same}
 use Rattle.transcript_laws.proofs.TurnEvents.{arrivals, turn_events, ready, turn_account, status_shown, turn_shown}
 use Rattle.std.proofs.lemmas.Bool.{and_right}
-use Rattle.bus_base.proofs.Tests.{wrong', and_first}
+use Rattle.bus_due.specs.bus_base.proofs.Tests.{wrong', and_first}
 use Rattle.transcript_laws.proofs.Closings.{account_by}
 use Rattle.transcript_laws.proofs.PastEvents.{any_later}
 

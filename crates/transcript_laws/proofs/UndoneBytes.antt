@@ -3,44 +3,44 @@
 use Rattle.std.proofs.Common.{ℕ, ◌≡◌, ◌∙◌, Bool, true, false, List, [], Option, Some, None, refl, sym, ap}
 use Rattle.std.specs.Prelude.{◌&&◌, is_some, is_none, if◌then◌else◌}
 use Rattle.std.proofs.lemmas.Option.{same_Some}
-use Rattle.bus_base.specs.declared.ProcId.{ProcId}
-use Rattle.bus_base.specs.declared.Event.{Event}
-use Rattle.bus_trace.specs.LineSet.{LineSet}
-use Rattle.bus_trace.specs.Phases.{changes_phase, is_command, is_data}
-use Rattle.bus_trace.specs.Terms.{receiver_in}
-use Rattle.bus_trace.specs.declared.Kind.{Kind}
-use Rattle.bus_trace.specs.declared.Kind.TheVariants.{Drives, Fault}
-use Rattle.bus_trace.specs.declared.changes.Change.{Change}
-use Rattle.bus_trace.specs.declared.connection.Connection.{Connection}
-use Rattle.bus_trace.specs.declared.rows.Row.{Row}
-use Rattle.cdb_codec.specs.declared.sense.TheConstants.{PARITY_ERROR, INITIATOR_DETECTED_ERROR}
-use Rattle.msg_grammar.specs.declared.message.MsgIn.{MsgIn}
-use Rattle.msg_grammar.specs.declared.message.MsgIn.TheVariants as to_initiator
-use Rattle.msg_grammar.specs.declared.message.MsgOut.{MsgOut}
-use Rattle.scenario.specs.Value.{ScenarioValue}
-use Rattle.disk_array.specs.Processes.{same_bool}
-use Rattle.bus_story.specs.BusState.{RowReading}
-use Rattle.bus_story.specs.CarriedBytes.{CarriedBytes, carried_of, is_status_phase}
-use Rattle.bus_story.specs.HistoryEvents.{carried_if, phase_events, is_completion, end_events, link_events}
-use Rattle.bus_story.specs.Items.{Item, process, abort}
-use Rattle.bus_story.specs.Links.{Link, last_out, last_in, link_after_name}
-use Rattle.bus_story.specs.Story.{Story, by_status, story_with_end, story_after_events}
-use Rattle.bus_story.specs.TraceHistory.{story_with_carried, story_with_restored, is_parity_error, story_after_out, carried_after_message_if, story_after_message, story_after_in, story_after_byte, carried_after_fault_if, story_after_fault, story_in_connection}
-use Rattle.bus_story.proofs.StorySteps.{check_keeps, out_link, message_id}
-use Rattle.bus_story.proofs.CarriedLists.{carried_id}
+use Rattle.bus_due.specs.bus_base.specs.declared.ProcId.{ProcId}
+use Rattle.bus_due.specs.bus_base.specs.declared.Event.{Event}
+use Rattle.bus_due.specs.bus_trace.specs.LineSet.{LineSet}
+use Rattle.bus_due.specs.bus_trace.specs.Phases.{changes_phase, is_command, is_data}
+use Rattle.bus_due.specs.bus_trace.specs.Terms.{receiver_in}
+use Rattle.bus_due.specs.bus_trace.specs.declared.Kind.{Kind}
+use Rattle.bus_due.specs.bus_trace.specs.declared.Kind.TheVariants.{Drives, Fault}
+use Rattle.bus_due.specs.bus_trace.specs.declared.changes.Change.{Change}
+use Rattle.bus_due.specs.bus_trace.specs.declared.connection.Connection.{Connection}
+use Rattle.bus_due.specs.bus_trace.specs.declared.rows.Row.{Row}
+use Rattle.bus_due.specs.cdb_codec.specs.declared.sense.TheConstants.{PARITY_ERROR, INITIATOR_DETECTED_ERROR}
+use Rattle.bus_due.specs.msg_grammar.specs.declared.message.MsgIn.{MsgIn}
+use Rattle.bus_due.specs.msg_grammar.specs.declared.message.MsgIn.TheVariants as to_initiator
+use Rattle.bus_due.specs.msg_grammar.specs.declared.message.MsgOut.{MsgOut}
+use Rattle.bus_due.specs.scenario.specs.Value.{ScenarioValue}
+use Rattle.bus_due.specs.disk_array.specs.Processes.{same_bool}
+use Rattle.bus_due.specs.bus_story.specs.BusState.{RowReading}
+use Rattle.bus_due.specs.bus_story.specs.CarriedBytes.{CarriedBytes, carried_of, is_status_phase}
+use Rattle.bus_due.specs.bus_story.specs.HistoryEvents.{carried_if, phase_events, is_completion, end_events, link_events}
+use Rattle.bus_due.specs.bus_story.specs.Items.{Item, process, abort}
+use Rattle.bus_due.specs.bus_story.specs.Links.{Link, last_out, last_in, link_after_name}
+use Rattle.bus_due.specs.bus_story.specs.Story.{Story, by_status, story_with_end, story_after_events}
+use Rattle.bus_due.specs.bus_story.specs.TraceHistory.{story_with_carried, story_with_restored, is_parity_error, story_after_out, carried_after_message_if, story_after_message, story_after_in, story_after_byte, carried_after_fault_if, story_after_fault, story_in_connection}
+use Rattle.bus_due.specs.bus_story.proofs.StorySteps.{check_keeps, out_link, message_id}
+use Rattle.bus_due.specs.bus_story.proofs.CarriedLists.{carried_id}
 use Rattle.bus_due.specs.RunState.{RunState}
 use Rattle.bus_due.specs.RunSteps.{run_state_after}
-use Rattle.bus_books.specs.Rows.{IsRowIn, reading_in}
-use Rattle.bus_books.proofs.Blocks.{same_self}
-use Rattle.bus_books.proofs.Knows.{link_after}
-use Rattle.bus_books.proofs.Lookups.{put_own}
+use Rattle.trace_laws.specs.bus_books.specs.Rows.{IsRowIn, reading_in}
+use Rattle.trace_laws.specs.bus_books.proofs.Blocks.{same_self}
+use Rattle.trace_laws.specs.bus_books.proofs.Knows.{link_after}
+use Rattle.trace_laws.specs.bus_books.proofs.Lookups.{put_own}
 use Rattle.trace_laws.proofs.FailureNext.{is_restore}
 use Rattle.trace_laws.proofs.PointerStories.{story_row}
 use Rattle.trace_laws.proofs.PointerStorySteps.{fault_id, message_byte, in_link}
 use Rattle.trace_laws.proofs.TellRows.{no_events}
 use Rattle.transcript_laws.specs.RowTests.{is_alike, undoes_nothing}
 use Rattle.transcript_laws.proofs.ChangedBytes.{KeepsId, changed_each, after_message, after_fault, ChangesBy, by_fault, unchanged, by_none}
-use Rattle.bus_base.proofs.Tests.{wrong, eq_self}
+use Rattle.bus_due.specs.bus_base.proofs.Tests.{wrong, eq_self}
 
 -- ---- one process
 

@@ -5,55 +5,55 @@ use Rattle.std.proofs.Common.{ℕ, ◌≡◌, ◌∙◌, ◌-◌, ◌⊎◌, inl
 use Rattle.std.specs.Prelude.{is_some, nat_lt, if◌then◌else◌}
 use Rattle.std.proofs.lemmas.Option.{same_Some}
 use Rattle.std.proofs.lemmas.List.{append-nil}
-use Rattle.bus_trace.specs.LineSet.{LineSet}
-use Rattle.bus_trace.specs.Phases.{changes_phase, is_command, is_message_in, is_message_out}
-use Rattle.bus_trace.specs.Terms.{is_fault, connection, receiver_in}
-use Rattle.bus_trace.specs.Trace.{bus}
-use Rattle.bus_trace.specs.declared.changes.Change.{Change}
-use Rattle.bus_trace.specs.declared.connection.Connection.{Connection}
-use Rattle.bus_trace.specs.declared.rows.Row.{Row}
-use Rattle.msg_grammar.specs.declared.message.MsgIn.{MsgIn}
-use Rattle.msg_grammar.specs.declared.message.MsgIn.TheVariants as to_initiator
-use Rattle.msg_grammar.specs.Messages.{form_in, got_in}
-use Rattle.bus_phases.specs.Half.{left_of, is_nil}
-use Rattle.scenario.specs.declared.value.Tag.{Tag}
-use Rattle.scenario.specs.declared.value.Tag.TheVariants as tags
-use Rattle.scenario.specs.Value.{ScenarioValue}
-use Rattle.scenario.specs.Writing.{Obeys}
-use Rattle.disk_array.specs.Processes.{Process}
-use Rattle.bus_story.specs.BusState.{RowReading, row_reading, whole_in, message_in, message_out}
-use Rattle.bus_story.specs.CarriedBytes.{is_status_phase}
-use Rattle.bus_story.specs.HistoryEvents.{row_events_by}
-use Rattle.bus_story.specs.Links.{Link, link_of}
-use Rattle.bus_story.specs.Story.{Story}
-use Rattle.bus_story.specs.TraceHistory.{aim_of, story_on_bus, story_by_change}
-use Rattle.bus_story.proofs.StorySteps.{events_link, first_link}
-use Rattle.bus_dialogue.specs.declared.exchange.Cause.TheVariants as causes
-use Rattle.bus_dialogue.specs.declared.exchange.Leaving.{Leaving}
-use Rattle.bus_dialogue.specs.declared.exchange.Messages.{Messages}
-use Rattle.bus_dialogue.specs.declared.exchange.Phase.TheVariants as phases
-use Rattle.bus_dialogue.specs.declared.exchange.Plan.{Plan}
-use Rattle.bus_dialogue.specs.Exchange.{Exchange, from_byte, bytes_of_messages, message_bytes, plan_anew}
-use Rattle.bus_dialogue.specs.NextPhase.{phase_of, phase_leaving, leaving_by}
-use Rattle.bus_dialogue.specs.Planning.{plan_in_message_out}
-use Rattle.bus_dialogue.specs.Words.{tag_named}
+use Rattle.bus_due.specs.bus_trace.specs.LineSet.{LineSet}
+use Rattle.bus_due.specs.bus_trace.specs.Phases.{changes_phase, is_command, is_message_in, is_message_out}
+use Rattle.bus_due.specs.bus_trace.specs.Terms.{is_fault, connection, receiver_in}
+use Rattle.bus_due.specs.bus_trace.specs.Trace.{bus}
+use Rattle.bus_due.specs.bus_trace.specs.declared.changes.Change.{Change}
+use Rattle.bus_due.specs.bus_trace.specs.declared.connection.Connection.{Connection}
+use Rattle.bus_due.specs.bus_trace.specs.declared.rows.Row.{Row}
+use Rattle.bus_due.specs.msg_grammar.specs.declared.message.MsgIn.{MsgIn}
+use Rattle.bus_due.specs.msg_grammar.specs.declared.message.MsgIn.TheVariants as to_initiator
+use Rattle.bus_due.specs.msg_grammar.specs.Messages.{form_in, got_in}
+use Rattle.bus_due.specs.bus_phases.specs.Half.{left_of, is_nil}
+use Rattle.bus_due.specs.scenario.specs.declared.value.Tag.{Tag}
+use Rattle.bus_due.specs.scenario.specs.declared.value.Tag.TheVariants as tags
+use Rattle.bus_due.specs.scenario.specs.Value.{ScenarioValue}
+use Rattle.bus_due.specs.scenario.specs.Writing.{Obeys}
+use Rattle.bus_due.specs.disk_array.specs.Processes.{Process}
+use Rattle.bus_due.specs.bus_story.specs.BusState.{RowReading, row_reading, whole_in, message_in, message_out}
+use Rattle.bus_due.specs.bus_story.specs.CarriedBytes.{is_status_phase}
+use Rattle.bus_due.specs.bus_story.specs.HistoryEvents.{row_events_by}
+use Rattle.bus_due.specs.bus_story.specs.Links.{Link, link_of}
+use Rattle.bus_due.specs.bus_story.specs.Story.{Story}
+use Rattle.bus_due.specs.bus_story.specs.TraceHistory.{aim_of, story_on_bus, story_by_change}
+use Rattle.bus_due.specs.bus_story.proofs.StorySteps.{events_link, first_link}
+use Rattle.bus_due.specs.bus_dialogue.specs.declared.exchange.Cause.TheVariants as causes
+use Rattle.bus_due.specs.bus_dialogue.specs.declared.exchange.Leaving.{Leaving}
+use Rattle.bus_due.specs.bus_dialogue.specs.declared.exchange.Messages.{Messages}
+use Rattle.bus_due.specs.bus_dialogue.specs.declared.exchange.Phase.TheVariants as phases
+use Rattle.bus_due.specs.bus_dialogue.specs.declared.exchange.Plan.{Plan}
+use Rattle.bus_due.specs.bus_dialogue.specs.Exchange.{Exchange, from_byte, bytes_of_messages, message_bytes, plan_anew}
+use Rattle.bus_due.specs.bus_dialogue.specs.NextPhase.{phase_of, phase_leaving, leaving_by}
+use Rattle.bus_due.specs.bus_dialogue.specs.Planning.{plan_in_message_out}
+use Rattle.bus_due.specs.bus_dialogue.specs.Words.{tag_named}
 use Rattle.bus_due.specs.Next.{IsPrompt}
 use Rattle.bus_due.specs.Plain.{IsPlain}
 use Rattle.bus_due.specs.RunState.{RunState, bus_of}
 use Rattle.bus_due.specs.RunSteps.{run_state}
 use Rattle.bus_due.specs.Sights.{hearing_of, leaving, serving_of}
 use Rattle.bus_due.proofs.Plains.{run_state_plain}
-use Rattle.bus_books.specs.Giving.{AreGiven, OnMessage, OnMessages}
-use Rattle.bus_books.specs.Listening.{half_after}
-use Rattle.bus_books.specs.Rows.{reading_in}
-use Rattle.bus_books.specs.Tests.{is_selected}
-use Rattle.bus_books.proofs.Reading.{nil_is}
-use Rattle.bus_books.proofs.InConnection.{InConnection, in_connection}
+use Rattle.trace_laws.specs.bus_books.specs.Giving.{AreGiven, OnMessage, OnMessages}
+use Rattle.trace_laws.specs.bus_books.specs.Listening.{half_after}
+use Rattle.trace_laws.specs.bus_books.specs.Rows.{reading_in}
+use Rattle.trace_laws.specs.bus_books.specs.Tests.{is_selected}
+use Rattle.trace_laws.specs.bus_books.proofs.Reading.{nil_is}
+use Rattle.trace_laws.specs.bus_books.proofs.InConnection.{InConnection, in_connection}
 use Rattle.bus_transcript.specs.Opened.{OpenedValue}
 use Rattle.bus_transcript.specs.Rows.{transcribed}
 use Rattle.trace_laws.specs.Named.{Named, Names, known, said, refused, all, tag_alone}
 use Rattle.trace_laws.proofs.PhaseLines.{in_out, message_line, out_in, out_line, out_lines}
-use Rattle.bus_books.proofs.Gives.{not_both}
+use Rattle.trace_laws.specs.bus_books.proofs.Gives.{not_both}
 use Rattle.trace_laws.proofs.TellRows.{unbegun_lines}
 use Rattle.trace_laws.proofs.UndoneAnswers.{SamePlan, plan_stays}
 use Rattle.trace_laws.proofs.Whole.{Whole, whole}
@@ -65,9 +65,9 @@ use Rattle.transcript_laws.proofs.OpenedBytes.{lines_same, out_same, in_same, be
 use Rattle.transcript_laws.proofs.OpenedFacts.{Going, Starts, Holds, RowMade, made_still, made_crossing, made_turn, always, plain_before, knows_before}
 use Rattle.transcript_laws.proofs.UndoneBytes.{UndoesSo, row_undoes}
 use Rattle.transcript_laws.proofs.UndoneLeavings.{is_brief, are_brief, Leads, briefly, answers, again, leads_from}
-use Rattle.bus_base.proofs.Tests.{wrong, wrong', and_first, and_second, and_true}
-use Rattle.scsi_device.specs.Heard.{is_command_phase}
-use Rattle.scsi_device.proofs.PhaseLines.{command_is}
+use Rattle.bus_due.specs.bus_base.proofs.Tests.{wrong, wrong', and_first, and_second, and_true}
+use Rattle.trace_laws.specs.scsi_device.specs.Heard.{is_command_phase}
+use Rattle.trace_laws.specs.scsi_device.proofs.PhaseLines.{command_is}
 
 -- Each of the messages that the target gives is one byte; or none of them restores pointers, and nothing is to be brought back but data.
 abbrev pub Undone : Story → Messages → Type 0

@@ -6,3 +6,5 @@ pub mod Serving
 pub mod Numbered
 pub mod Keeping
 pub mod Standing
+-- Handed on to the crates above that list this one and not these.
+pub use Rattle.bus_transcript

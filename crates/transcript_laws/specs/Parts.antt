@@ -1,13 +1,13 @@
 -- The parts of the connection that stands, by what is void so far and what is still said, and the name that they give (6.5, 6.6.13).
 use Rattle.std.specs.Prelude.{Bool, true, false, not, ◌&&◌, ◌||◌, List, [], ◌∷◌, ◌++◌, Option, Some, None, if◌then◌else◌}
-use Rattle.bus_base.specs.declared.ProcId.{ProcId}
-use Rattle.bus_trace.specs.LineSet.{LineSet}
-use Rattle.bus_trace.specs.Phases.{is_command}
-use Rattle.bus_trace.specs.declared.connection.Connection.{Connection}
-use Rattle.msg_grammar.specs.declared.message.MsgOut.{MsgOut}
-use Rattle.scenario.specs.Value.{ScenarioValue}
-use Rattle.disk_array.specs.Processes.{Process, process_of}
-use Rattle.disk_array.specs.Order.{tag_number}
+use Rattle.bus_due.specs.bus_base.specs.declared.ProcId.{ProcId}
+use Rattle.bus_due.specs.bus_trace.specs.LineSet.{LineSet}
+use Rattle.bus_due.specs.bus_trace.specs.Phases.{is_command}
+use Rattle.bus_due.specs.bus_trace.specs.declared.connection.Connection.{Connection}
+use Rattle.bus_due.specs.msg_grammar.specs.declared.message.MsgOut.{MsgOut}
+use Rattle.bus_due.specs.scenario.specs.Value.{ScenarioValue}
+use Rattle.bus_due.specs.disk_array.specs.Processes.{Process, process_of}
+use Rattle.bus_due.specs.disk_array.specs.Order.{tag_number}
 use Rattle.bus_transcript.specs.declared.item.Name.{Name}
 use Rattle.bus_transcript.specs.declared.part.Part.{Part}
 use Rattle.bus_transcript.specs.declared.part.Part.TheVariants as parts_of
@@ -16,7 +16,7 @@ use Rattle.bus_transcript.specs.Nexus.{no_summary, summary_of}
 use Rattle.bus_transcript.specs.Opened.{OpenedValue, held_part}
 use Rattle.bus_transcript.specs.Processes.{same_nexus}
 use Rattle.bus_transcript.specs.Rows.{name_of}
-use Rattle.bus_story.specs.TraceHistory.{is_parity_error}
+use Rattle.bus_due.specs.bus_story.specs.TraceHistory.{is_parity_error}
 
 -- ---- messages, and other parts
 

@@ -1,9 +1,9 @@
 // Laws of transcripts, each named by the contract of a function that does nothing.
 
 ghost use Rattle.std.specs.Prelude.{◌≡◌, ◌<◌, ◌^◌, ◌-◌, true, List, length};
-ghost use Rattle.bus_trace.specs.declared.rows.Row.{Row};
-ghost use Rattle.scenario.specs.Value.{ScenarioValue};
-ghost use Rattle.scenario.specs.Writing.{Obeys};
+ghost use Rattle.bus_due.specs.bus_trace.specs.declared.rows.Row.{Row};
+ghost use Rattle.bus_due.specs.scenario.specs.Value.{ScenarioValue};
+ghost use Rattle.bus_due.specs.scenario.specs.Writing.{Obeys};
 ghost use Rattle.bus_due.specs.Next.{IsPrompt};
 ghost use Rattle.bus_transcript.specs.Events.{TellsHistory, names_begun};
 ghost use Rattle.bus_transcript.specs.Rows.{transcript_of};

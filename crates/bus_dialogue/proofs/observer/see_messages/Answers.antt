@@ -1,5 +1,5 @@
 use Rattle.std.proofs.Common.{sym, ◌∙◌}
-use Rattle.bus_phases.specs.Dialogue.{takes_data}
+use Rattle.bus_story.specs.bus_phases.specs.Dialogue.{takes_data}
 use Rattle.bus_dialogue.proofs.Observing.{keeps_messages, keeps_agreements, keeps_begun}
 use Rattle.bus_dialogue.proofs.observer.see_messages.Goals as goal
 

@@ -3,7 +3,7 @@ use Rattle.std.specs.Prelude.{if◌then◌else◌}
 use Rattle.std.specs.List.{find}
 use Rattle.scenario.specs.declared.value.TargetDef.{TargetDef}
 use Rattle.scenario.specs.Value.{ScenarioValue}
-use Rattle.bus_story.specs.Budget.{runs_at}
+use Rattle.bus_due.specs.bus_story.specs.Budget.{runs_at}
 use Rattle.bus_engine.proofs.budget.data_runs.Goals as goal
 
 pub returns : goal.returns

@@ -4,7 +4,7 @@ use Rattle.std.specs.List.{AllByRecursion}
 use Rattle.scenario.specs.declared.bounds.TheConstants.{NEED_LIMIT}
 use Rattle.scenario.specs.declared.value.CmdDef.{CmdDef}
 use Rattle.scenario.specs.Needs.{need_of}
-use Rattle.bus_story.specs.Budget.{longest_need}
+use Rattle.bus_due.specs.bus_story.specs.Budget.{longest_need}
 use Rattle.bus_engine.proofs.budget.longest_need.Given as goal
 
 abbrev pub invariant-loop-index : goal.invariant-loop-index

@@ -2,7 +2,7 @@ use Rattle.std.proofs.Common.{◌≡◌, ◌+◌, ◌*◌, ◌∙◌, length, sy
 use Rattle.std.specs.Prelude.{min}
 use Rattle.std.proofs.lemmas.Grind.{common_steps}
 use Rattle.scenario.specs.Value.{ScenarioValue}
-use Rattle.bus_story.specs.Budget.{bytes_bound, runs_bound}
+use Rattle.bus_due.specs.bus_story.specs.Budget.{bytes_bound, runs_bound}
 use Rattle.bus_engine.specs.Limits.{row_limit}
 use Rattle.bus_engine.proofs.Items.{eighth}
 use Rattle.bus_engine.proofs.budget.most_rows.Goals as goal

@@ -3,7 +3,7 @@ use Rattle.std.specs.List.{AllByRecursion}
 use Rattle.scenario.specs.declared.bounds.TheConstants.{NEED_LIMIT}
 use Rattle.scenario.specs.declared.value.CmdDef.{CmdDef}
 use Rattle.scenario.specs.Needs.{need_of}
-use Rattle.bus_story.specs.Budget.{runs_of_all, data_runs}
+use Rattle.bus_due.specs.bus_story.specs.Budget.{runs_of_all, data_runs}
 use Rattle.bus_engine.proofs.budget.runs_of_all.Goals as goal
 use Rattle.bus_base.proofs.Tests.{item_next}
 

@@ -5,10 +5,10 @@ use Rattle.std.proofs.lemmas.Bool.{and_parts}
 use Rattle.scenario.specs.declared.value.CmdDef.{CmdDef}
 use Rattle.bus_due.specs.RunSteps.{run_state}
 use Rattle.disk_array.specs.Processes.{command_at}
-use Rattle.scsi_device.specs.Lines.{IsCommandLine}
+use Rattle.trace_laws.specs.scsi_device.specs.Lines.{IsCommandLine}
 use Rattle.initiator.specs.Received.{undoes_no_byte}
-use Rattle.bus_members.specs.Answers.{are_answered_from}
-use Rattle.bus_members.specs.Over.{IsPlaceOver}
+use Rattle.bus_engine.specs.Answers.{are_answered_from}
+use Rattle.bus_engine.specs.Over.{IsPlaceOver}
 use Rattle.bus_engine.proofs.Items.{all_drop}
 use Rattle.bus_engine.proofs.Replies.{asked_next, command_is}
 use Rattle.bus_engine.proofs.finishing.replies.Goals as goal

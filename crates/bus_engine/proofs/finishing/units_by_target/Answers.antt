@@ -1,8 +1,8 @@
 use Rattle.std.proofs.Common.{◌≡◌, ◌<◌, ◌∙◌, Option, length, sym, subst, arith}
 use Rattle.bus_run.proofs.OnePlace.{other_at}
-use Rattle.bus_members.specs.declared.member.Member.{Member}
-use Rattle.bus_members.specs.Over.{IsPlaceOver, AreUnitsIf}
-use Rattle.bus_members.proofs.Added.{each_and_one}
+use Rattle.bus_engine.specs.declared.member.Member.{Member}
+use Rattle.bus_engine.specs.Over.{IsPlaceOver, AreUnitsIf}
+use Rattle.bus_engine.proofs.Added.{each_and_one}
 use Rattle.bus_engine.proofs.Places.{place_at}
 use Rattle.bus_engine.proofs.finishing.units_by_target.Goals as goal
 

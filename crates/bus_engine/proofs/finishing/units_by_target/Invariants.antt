@@ -2,7 +2,7 @@ use Rattle.std.proofs.Common.{ℕ, ◌≡◌, ◌<◌, ◌≤◌, List, None, le
 use Rattle.std.specs.Prelude.{slice_index_or}
 use Rattle.bus_trace.specs.declared.Row.{Row}
 use Rattle.scenario.specs.Value.{ScenarioValue}
-use Rattle.bus_members.specs.Over.{AreOver, AreUnitsIf}
+use Rattle.bus_engine.specs.Over.{AreOver, AreUnitsIf}
 use Rattle.bus_engine.proofs.finishing.units_by_target.Given as goal
 
 abbrev pub invariant-loop-dev : goal.invariant-loop-dev

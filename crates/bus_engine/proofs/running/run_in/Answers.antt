@@ -6,19 +6,19 @@ use Rattle.bus_base.specs.declared.Event.{Event}
 use Rattle.bus_trace.specs.declared.Row.{Row}
 use Rattle.bus_trace.specs.LineSet.{none}
 use Rattle.bus_trace.specs.Trace.{bus, last_time}
-use Rattle.bus_rules.specs.Lawful.{IsLawful}
+use Rattle.bus_due.specs.bus_rules.specs.Lawful.{IsLawful}
 use Rattle.disk_array.specs.ArrayHistory.{array_after, disks_of}
-use Rattle.bus_story.specs.Outcomes.{outcomes}
-use Rattle.bus_story.specs.Samples.{expected_strikes, row_strikes}
-use Rattle.bus_story.specs.Story.{Story}
-use Rattle.bus_story.specs.TraceHistory.{story, trace_history}
+use Rattle.bus_due.specs.bus_story.specs.Outcomes.{outcomes}
+use Rattle.bus_due.specs.bus_story.specs.Samples.{expected_strikes, row_strikes}
+use Rattle.bus_due.specs.bus_story.specs.Story.{Story}
+use Rattle.bus_due.specs.bus_story.specs.TraceHistory.{story, trace_history}
 use Rattle.bus_due.specs.Next.{IsPrompt, IsEnded}
 use Rattle.bus_due.specs.Plain.{AreOfDevices}
 use Rattle.bus_run.specs.Runs.{AreEarly, IsLong}
 use Rattle.bus_run.specs.declared.running.RunEnd.{RunEnd}
-use Rattle.bus_story.specs.Right.{all_carried}
-use Rattle.bus_transcript.specs.Events.{TellsHistory}
-use Rattle.progress_laws.proofs.Ended.{joined}
+use Rattle.bus_due.specs.bus_story.specs.Right.{all_carried}
+use Rattle.transcript_laws.specs.bus_transcript.specs.Events.{TellsHistory}
+use Rattle.delivery_laws.specs.progress_laws.proofs.Ended.{joined}
 use Rattle.delivery_laws.specs.Delivery.{AreCaused, AreStoppedSenses, IsDelivered}
 use Rattle.bus_engine.specs.Limits.{row_limit}
 use Rattle.bus_engine.proofs.Answered.{all_answered}

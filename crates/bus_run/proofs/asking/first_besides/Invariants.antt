@@ -4,7 +4,7 @@ use Rattle.bus_trace.specs.declared.Row.{Row}
 use Rattle.scenario.specs.Value.{ScenarioValue}
 use Rattle.bus_due.specs.Next.{due, least}
 use Rattle.bus_due.specs.RunSteps.{run_state}
-use Rattle.scsi_device.specs.Told.{first_fault}
+use Rattle.bus_laws.specs.scsi_device.specs.Told.{first_fault}
 use Rattle.bus_run.specs.Away.{due_besides}
 use Rattle.bus_run.specs.Places.{AreIn}
 use Rattle.bus_run.specs.Seen.{AreSeen}

@@ -1,6 +1,6 @@
 use Rattle.std.proofs.Common.{◌<◌, ◌^◌, arith}
 use Rattle.bus_trace.specs.declared.Row.{Row}
-use Rattle.scsi_device.proofs.Finds.{all_are}
+use Rattle.bus_laws.specs.scsi_device.proofs.Finds.{all_are}
 use Rattle.bus_run.proofs.running.observers_are_timely.Goals as goal
 
 pub returns : goal.returns

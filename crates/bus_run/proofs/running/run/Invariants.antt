@@ -1,5 +1,5 @@
 use Rattle.std.proofs.Common.{◌≡◌, ◌+◌, ◌*◌, [], length, reverse}
-use Rattle.bus_dialogue.specs.Observer.{IsObserverOf}
+use Rattle.bus_due.specs.bus_dialogue.specs.Observer.{IsObserverOf}
 use Rattle.bus_due.specs.Plain.{AreOfDevices}
 use Rattle.bus_run.specs.Places.{AreIn}
 use Rattle.bus_run.specs.Runs.{AreEarly}

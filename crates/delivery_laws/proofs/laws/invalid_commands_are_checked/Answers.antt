@@ -1,4 +1,4 @@
-use Rattle.bus_story.specs.Items.{command_id}
+use Rattle.bus_due.specs.bus_story.specs.Items.{command_id}
 use Rattle.delivery_laws.proofs.CheckedOutcomes.{IsCalmTrace, Laws, unheard, wrong_outcome}
 use Rattle.delivery_laws.proofs.Delivered.{HaveCauses}
 use Rattle.delivery_laws.proofs.laws.invalid_commands_are_checked.Goals as goal

@@ -1,10 +1,10 @@
 use Rattle.std.proofs.Common.{◌∙◌, List, Option, sym, ap, subst}
-use Rattle.bus_base.specs.declared.Event.{Event}
-use Rattle.disk_array.specs.ArrayHistory.{array_after, reply_of}
-use Rattle.disk_array.specs.Units.{Array}
-use Rattle.bus_story.specs.Items.{command_id}
-use Rattle.bus_story.specs.Outcomes.{ending_of}
-use Rattle.bus_story.specs.Story.{Story}
+use Rattle.bus_due.specs.bus_base.specs.declared.Event.{Event}
+use Rattle.bus_due.specs.disk_array.specs.ArrayHistory.{array_after, reply_of}
+use Rattle.bus_due.specs.disk_array.specs.Units.{Array}
+use Rattle.bus_due.specs.bus_story.specs.Items.{command_id}
+use Rattle.bus_due.specs.bus_story.specs.Outcomes.{ending_of}
+use Rattle.bus_due.specs.bus_story.specs.Story.{Story}
 use Rattle.bus_due.specs.RunState.{array_of}
 use Rattle.bus_due.specs.RunSteps.{run_state}
 use Rattle.bus_due.proofs.Plains.{prompt_plain}

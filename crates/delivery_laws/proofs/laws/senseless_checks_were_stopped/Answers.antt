@@ -1,6 +1,6 @@
 use Rattle.std.proofs.Common.{◌≡◌, true, List, ap, subst}
-use Rattle.bus_base.specs.declared.Event.{Event}
-use Rattle.bus_story.specs.Story.{Story}
+use Rattle.bus_due.specs.bus_base.specs.declared.Event.{Event}
+use Rattle.bus_due.specs.bus_story.specs.Story.{Story}
 use Rattle.bus_due.proofs.Plains.{prompt_plain}
 use Rattle.initiator.specs.Causes.{has_sense_stop}
 use Rattle.delivery_laws.proofs.Delivered.{HaveCauses}

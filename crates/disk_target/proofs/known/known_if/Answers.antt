@@ -1,5 +1,5 @@
 use Rattle.std.proofs.Common.{◌∙◌, sym, subst}
-use Rattle.scsi_device.proofs.Finds.{some_is}
+use Rattle.target_course.specs.scsi_device.proofs.Finds.{some_is}
 use Rattle.target_course.specs.Courses.{CourseState}
 use Rattle.disk_target.specs.Knowns.{IsKnownBy}
 use Rattle.disk_target.proofs.known.known_if.Goals as goal

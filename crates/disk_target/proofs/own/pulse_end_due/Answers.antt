@@ -1,6 +1,6 @@
 use Rattle.std.proofs.Common.{◌∙◌, refl, None}
 use Rattle.scenario.specs.declared.value.TargetDef.{TargetDef}
-use Rattle.scsi_device.specs.Told.{told}
+use Rattle.target_course.specs.scsi_device.specs.Told.{told}
 use Rattle.target_course.specs.Dues.{due_of_offering}
 use Rattle.disk_target.proofs.Waiting.{pulse_ends}
 use Rattle.disk_target.proofs.own.pulse_end_due.Goals as goal

@@ -1,7 +1,7 @@
 use Rattle.std.proofs.Common.{◌∙◌, [], ◌∷◌, sym}
 use Rattle.std.proofs.lemmas.Bool.{eqb-true}
 use Rattle.bus_base.specs.declared.Event.TheVariants as events
-use Rattle.scsi_device.proofs.Finds.{none_some}
+use Rattle.target_course.specs.scsi_device.proofs.Finds.{none_some}
 use Rattle.disk_target.specs.Turns.{abort_if, abort_of, is_reset}
 use Rattle.disk_target.proofs.RowEnds.{abort_shown, opening_on, standing_ends}
 use Rattle.disk_target.proofs.turn.see_own.Goals as goal

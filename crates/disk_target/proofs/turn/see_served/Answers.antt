@@ -6,7 +6,7 @@ use Rattle.bus_due.specs.RunState.{array_of}
 use Rattle.bus_due.specs.RunSteps.{run_state, events_of_row}
 use Rattle.disk_array.specs.Processes.{Process}
 use Rattle.disk_array.specs.Seats.{seat_of}
-use Rattle.scsi_device.specs.Writes.{writers}
+use Rattle.target_course.specs.scsi_device.specs.Writes.{writers}
 use Rattle.scenario.specs.Lookups.{has_target}
 use Rattle.target_course.specs.Courses.{name_of}
 use Rattle.target_course.specs.States.{IsOwnConnection}

@@ -1,5 +1,5 @@
 use Rattle.std.proofs.Common.{refl}
-use Rattle.scsi_device.proofs.FitLines.{obeys_fits}
+use Rattle.bus_laws.specs.scsi_device.proofs.FitLines.{obeys_fits}
 use Rattle.bus_laws.proofs.Limits.{obeys_latencies}
 use Rattle.bus_laws.proofs.Prompt.{least_is}
 use Rattle.bus_laws.proofs.Together.{standing_first, stage_first}

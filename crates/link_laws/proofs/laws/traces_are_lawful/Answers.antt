@@ -1,4 +1,4 @@
-use Rattle.scsi_device.proofs.FitLines.{obeys_fits}
+use Rattle.bus_laws.specs.scsi_device.proofs.FitLines.{obeys_fits}
 use Rattle.bus_laws.proofs.Limits.{obeys_latencies}
 use Rattle.link_laws.proofs.RunLengths.{runs_are_short}
 use Rattle.link_laws.proofs.Traces.{stood}

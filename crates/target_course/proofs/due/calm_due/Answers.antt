@@ -1,6 +1,6 @@
 use Rattle.std.proofs.Common.{◌∙◌, sym}
 use Rattle.bus_trace.specs.Terms.{connection}
-use Rattle.scsi_device.specs.Told.{told}
+use Rattle.target_units.specs.scsi_device.specs.Told.{told}
 use Rattle.target_course.specs.States.{state_of}
 use Rattle.target_course.specs.Dues.{calm_by}
 use Rattle.target_course.proofs.due.calm_due.Goals as goal

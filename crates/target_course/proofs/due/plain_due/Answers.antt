@@ -1,6 +1,6 @@
 use Rattle.std.proofs.Common.{ℕ, ◌∙◌, refl, None}
 use Rattle.scenario.specs.declared.value.TargetDef.{TargetDef}
-use Rattle.scsi_device.specs.Told.{told}
+use Rattle.target_units.specs.scsi_device.specs.Told.{told}
 use Rattle.target_course.specs.Dues.{due_of_offering}
 use Rattle.target_course.specs.States.{state_of}
 use Rattle.target_course.proofs.due.plain_due.Goals as goal

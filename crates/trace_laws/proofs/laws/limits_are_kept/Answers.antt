@@ -1,4 +1,4 @@
-use Rattle.scsi_device.proofs.FitLines.{obeys_fits, units_are}
+use Rattle.target_units.specs.scsi_device.proofs.FitLines.{obeys_fits, units_are}
 use Rattle.bus_books.proofs.Traces.{trace_faithful}
 use Rattle.trace_laws.proofs.Whole.{whole}
 use Rattle.trace_laws.proofs.laws.limits_are_kept.Goals as goal

@@ -1,4 +1,4 @@
-use Rattle.scsi_device.proofs.FitLines.{obeys_fits, seats_are, units_are}
+use Rattle.target_units.specs.scsi_device.proofs.FitLines.{obeys_fits, seats_are, units_are}
 use Rattle.bus_books.proofs.Traces.{trace_faithful}
 use Rattle.trace_laws.proofs.ByteValues.{byte_values}
 use Rattle.trace_laws.proofs.Whole.{whole}

@@ -1,7 +1,7 @@
 use Rattle.std.proofs.Common.{◌≡◌, ◌∷◌, ◌∙◌, refl, sym, subst}
-use Rattle.bus_trace.specs.Terms.{receiver_of}
-use Rattle.bus_lines.specs.declared.effect.RowEffect.{RowEffect}
-use Rattle.bus_phases.specs.Dialogue.{agreed}
+use Rattle.bus_story.specs.bus_trace.specs.Terms.{receiver_of}
+use Rattle.bus_reactions.specs.bus_lines.specs.declared.effect.RowEffect.{RowEffect}
+use Rattle.bus_story.specs.bus_phases.specs.Dialogue.{agreed}
 use Rattle.bus_dialogue.specs.Hearing.{hearing_by}
 use Rattle.bus_dialogue.specs.Observer.{ObserverValue, IsObserverOf}
 use Rattle.bus_dialogue.proofs.Observing.{goes_on}

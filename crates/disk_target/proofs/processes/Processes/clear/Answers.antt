@@ -1,5 +1,5 @@
 use Rattle.std.proofs.Common.{sym, subst}
-use Rattle.target_units.specs.Units.{AreUnitsOf, AreUnitsAfter}
+use Rattle.target_course.specs.target_units.specs.Units.{AreUnitsOf, AreUnitsAfter}
 use Rattle.disk_target.specs.Processes.{ProcessesState}
 use Rattle.disk_target.proofs.processes.Processes.clear.Goals as goal
 

@@ -1,6 +1,6 @@
 use Rattle.std.proofs.Common.{sym, subst}
 use Rattle.bus_base.specs.declared.Event.TheVariants as events
-use Rattle.target_units.specs.Units.{AreUnitsOf, AreUnitsAfter, IsStep}
+use Rattle.target_course.specs.target_units.specs.Units.{AreUnitsOf, AreUnitsAfter, IsStep}
 use Rattle.disk_target.specs.Processes.{ProcessesState}
 use Rattle.bus_base.specs.declared.AbortKind.{AbortKind}
 use Rattle.disk_target.proofs.ProcessEvents.{device_is}

@@ -1,7 +1,7 @@
 use Rattle.std.proofs.Common.{ℕ, sym, subst}
 use Rattle.bus_base.specs.declared.Event.TheVariants as events
 use Rattle.bus_base.specs.declared.ProcId.{ProcId}
-use Rattle.target_units.specs.Units.{IsStep}
+use Rattle.target_course.specs.target_units.specs.Units.{IsStep}
 use Rattle.disk_target.specs.Standings.{IsServed}
 use Rattle.disk_target.specs.Processes.{ProcessesState, AreProcessesAt}
 use Rattle.disk_target.proofs.ProcessEvents

@@ -1,6 +1,6 @@
 use Rattle.std.proofs.Common.{◌≡◌, ◌∙◌, sym, subst}
 use Rattle.bus_base.specs.declared.Event.{Event}
-use Rattle.target_units.specs.Units.{IsStep}
+use Rattle.target_course.specs.target_units.specs.Units.{IsStep}
 use Rattle.disk_target.specs.Processes.{IsOwnEvent}
 use Rattle.disk_target.proofs.processes.Processes.take_if.Goals as goal
 

@@ -1,7 +1,7 @@
 use Rattle.std.proofs.Common.{◌∙◌, ◌∷◌, sym, subst, Option, Some, None}
 use Rattle.bus_trace.specs.declared.connection.Connection.{Connection}
 use Rattle.scenario.specs.declared.value.TargetDef.{TargetDef}
-use Rattle.scsi_device.proofs.Finds.{none_some}
+use Rattle.target_course.specs.scsi_device.proofs.Finds.{none_some}
 use Rattle.disk_target.specs.Bytes.{IsOwnIf}
 use Rattle.disk_target.proofs.target.Target.beginning.Goals as goal
 

@@ -5,11 +5,11 @@ use Rattle.bus_due.specs.RunSteps.{run_state}
 use Rattle.bus_due.specs.Wants.{ready_among, seek_of, since_of}
 use Rattle.disk_array.specs.Units.{unit_state_at}
 use Rattle.disk_array.specs.Seats.{current_of}
-use Rattle.scsi_device.proofs.Finds.{none_some}
-use Rattle.target_units.specs.Readies.{ready_unit}
-use Rattle.target_units.specs.Seated.{running_block, running_entry}
-use Rattle.target_units.specs.Units.{UnitsState, AreUnitsOf}
-use Rattle.target_units.specs.declared.ready.Ready.{Ready}
+use Rattle.target_course.specs.scsi_device.proofs.Finds.{none_some}
+use Rattle.target_course.specs.target_units.specs.Readies.{ready_unit}
+use Rattle.target_course.specs.target_units.specs.Seated.{running_block, running_entry}
+use Rattle.target_course.specs.target_units.specs.Units.{UnitsState, AreUnitsOf}
+use Rattle.target_course.specs.target_units.specs.declared.ready.Ready.{Ready}
 use Rattle.target_course.specs.States.{IsReadyWithin}
 use Rattle.disk_target.specs.Targets.{TargetValue, KnowsRows}
 use Rattle.disk_target.proofs.Lines.{seek_is}

@@ -1,6 +1,6 @@
 use Rattle.std.proofs.Common.{ℕ, ◌≡◌, ◌∙◌, refl, sym, subst, None}
 use Rattle.bus_trace.specs.Trace.{bus, drives}
-use Rattle.bus_dialogue.specs.Hearing.{begun}
+use Rattle.bus_due.specs.bus_dialogue.specs.Hearing.{begun}
 use Rattle.bus_lines.specs.Handshakes.{handshakes}
 use Rattle.scenario.specs.declared.value.TargetDef.{TargetDef}
 use Rattle.bus_due.specs.Due.{reset_from}
@@ -9,11 +9,11 @@ use Rattle.bus_due.specs.Own.{own_of}
 use Rattle.bus_due.specs.RunSteps.{run_state}
 use Rattle.bus_due.specs.Sights.{serving_of}
 use Rattle.bus_due.specs.Wants.{ready_of}
-use Rattle.scsi_device.specs.Told.{told, pace_of}
+use Rattle.target_course.specs.scsi_device.specs.Told.{told, pace_of}
 use Rattle.target_course.specs.Dues.{plain_by}
 use Rattle.target_course.specs.States.{AreAlikeIn, IsNoInitiator, IsOwnConnection, TargetState, offering_in}
 use Rattle.target_course.proofs.Alike.{alike_itself}
-use Rattle.target_units.specs.Readies.{ready_unit}
+use Rattle.target_course.specs.target_units.specs.Readies.{ready_unit}
 use Rattle.disk_target.specs.Targets.{TargetValue, KnowsRows}
 use Rattle.disk_target.proofs.target.Target.due_inside.Goals as goal
 

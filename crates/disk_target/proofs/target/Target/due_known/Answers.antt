@@ -8,7 +8,7 @@ use Rattle.bus_due.specs.RunSteps.{run_state}
 use Rattle.bus_due.specs.Sights.{serving_of}
 use Rattle.bus_due.specs.Wants.{ready_of}
 use Rattle.target_course.specs.States.{IsNoInitiator}
-use Rattle.target_units.specs.Readies.{ready_unit}
+use Rattle.target_course.specs.target_units.specs.Readies.{ready_unit}
 use Rattle.disk_target.specs.Bytes.{IsOthersIf}
 use Rattle.disk_target.specs.Targets.{TargetValue, KnowsRows}
 use Rattle.disk_target.proofs.Apart.{never_own}

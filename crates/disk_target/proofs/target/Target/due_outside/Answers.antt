@@ -7,9 +7,9 @@ use Rattle.bus_due.specs.RunState.{array_of}
 use Rattle.bus_due.specs.RunSteps.{run_state}
 use Rattle.bus_due.specs.Wants.{ready_among, since_of}
 use Rattle.target_course.specs.States.{IsNoInitiator, IsReadyWithin, IsTargetLine, IsTargetOf}
-use Rattle.target_units.specs.Readies.{ready_unit}
-use Rattle.target_units.specs.Units.{UnitsState, AreUnitsOf}
-use Rattle.target_units.specs.declared.ready.Ready.{Ready}
+use Rattle.target_course.specs.target_units.specs.Readies.{ready_unit}
+use Rattle.target_course.specs.target_units.specs.Units.{UnitsState, AreUnitsOf}
+use Rattle.target_course.specs.target_units.specs.declared.ready.Ready.{Ready}
 use Rattle.target_course.specs.Servings.{serving_with}
 use Rattle.disk_target.specs.Targets.{TargetValue, KnowsRows}
 use Rattle.disk_target.proofs.Lines.{seek_is}

@@ -1,7 +1,7 @@
 use Rattle.std.proofs.Common.{◌∷◌, subst, List}
 use Rattle.bus_base.specs.declared.Event.{Event}
-use Rattle.bus_dialogue.specs.Hearing.{hearing}
-use Rattle.bus_dialogue.specs.declared.exchange.Hearing.{Hearing}
+use Rattle.bus_due.specs.bus_dialogue.specs.Hearing.{hearing}
+use Rattle.bus_due.specs.bus_dialogue.specs.declared.exchange.Hearing.{Hearing}
 use Rattle.disk_target.specs.Bytes.{StandsInOwn}
 use Rattle.disk_target.specs.Knowns.{IsQuiet}
 use Rattle.disk_target.specs.Targets.{TargetValue}

@@ -3,15 +3,15 @@ use Rattle.std.specs.Prelude.{is_some}
 use Rattle.std.proofs.lemmas.Bool.{and_parts}
 use Rattle.bus_trace.specs.declared.connection.Connection.{Connection}
 use Rattle.bus_trace.specs.Terms.{connection}
-use Rattle.bus_story.specs.BusState.{row_reading}
-use Rattle.bus_dialogue.specs.declared.exchange.Hearing.{Hearing}
+use Rattle.bus_due.specs.bus_story.specs.BusState.{row_reading}
+use Rattle.bus_due.specs.bus_dialogue.specs.declared.exchange.Hearing.{Hearing}
 use Rattle.disk_unit.specs.declared.unit.Reply.{Reply}
 use Rattle.bus_due.specs.Faithful.{faithful, is_faithful}
 use Rattle.bus_due.specs.RunSteps.{run_state}
 use Rattle.target_course.specs.Gathered.{IsAtUnit, IsSentSo}
 use Rattle.target_course.specs.Negotiated.{IsHeardSo}
 use Rattle.target_course.specs.Progress.{IsLeftSo, ProgressValue}
-use Rattle.target_units.specs.Units.{UnitsState}
+use Rattle.target_course.specs.target_units.specs.Units.{UnitsState}
 use Rattle.disk_target.specs.Knowns.{IsKnownIf, refreshed}
 use Rattle.disk_target.specs.Targets.{IsCourseIf, KnowsRows, TargetValue}
 use Rattle.disk_target.specs.Turns.{AreAttendedOf, IsTurnOf}

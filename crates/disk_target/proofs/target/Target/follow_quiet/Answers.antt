@@ -1,7 +1,7 @@
 use Rattle.std.proofs.Common.{ℕ, ◌≡◌, ◌∙◌, ◌∷◌, refl, sym, subst, Option, Some}
 use Rattle.std.specs.Prelude.{is_some}
 use Rattle.bus_trace.specs.LineSet.{LineSet}
-use Rattle.bus_dialogue.specs.Hearing.{hearing}
+use Rattle.bus_due.specs.bus_dialogue.specs.Hearing.{hearing}
 use Rattle.bus_trace.specs.declared.connection.Connection.{Connection}
 use Rattle.disk_target.specs.Bytes.{IsOwnIf, StandsInOwn}
 use Rattle.disk_target.specs.Knowns.{IsQuiet}

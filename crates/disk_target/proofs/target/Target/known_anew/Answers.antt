@@ -1,5 +1,5 @@
 use Rattle.std.proofs.Common.{subst}
-use Rattle.target_units.specs.Units.{UnitsState}
+use Rattle.target_course.specs.target_units.specs.Units.{UnitsState}
 use Rattle.disk_target.specs.Knowns.{IsKnownBy}
 use Rattle.disk_target.specs.Targets.{TargetValue}
 use Rattle.disk_target.proofs.target.Target.known_anew.Goals as goal

@@ -2,13 +2,13 @@ use Rattle.std.proofs.Common.{ℕ, ◌≡◌, ◌==◌, ◌∙◌, Bool, sym, su
 use Rattle.std.specs.Prelude.{◌&&◌}
 use Rattle.bus_trace.specs.Trace.{bus, drives}
 use Rattle.bus_lines.specs.Handshakes.{handshakes}
-use Rattle.bus_dialogue.specs.Ends.{follows_by}
-use Rattle.bus_dialogue.specs.Hearing.{begun}
-use Rattle.bus_dialogue.specs.NextPhase as next_phase
+use Rattle.bus_due.specs.bus_dialogue.specs.Ends.{follows_by}
+use Rattle.bus_due.specs.bus_dialogue.specs.Hearing.{begun}
+use Rattle.bus_due.specs.bus_dialogue.specs.NextPhase as next_phase
 use Rattle.bus_due.specs.RunSteps.{run_state}
 use Rattle.bus_due.specs.Sights.{serving_of}
 use Rattle.bus_reactions.specs.declared.ends.Offering.{Offering}
-use Rattle.scsi_device.specs.Told.{told, pace_of}
+use Rattle.target_course.specs.scsi_device.specs.Told.{told, pace_of}
 use Rattle.target_course.specs.Alike.{is_driven}
 use Rattle.target_course.specs.Servings.{serving_with}
 use Rattle.target_course.specs.States.{AreAlikeIn, offering_in}

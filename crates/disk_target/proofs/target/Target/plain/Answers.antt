@@ -1,6 +1,6 @@
 use Rattle.std.proofs.Common.{◌≡◌, ◌∙◌, sym}
 use Rattle.scenario.specs.declared.value.TargetDef.{TargetDef}
-use Rattle.scsi_device.specs.Told.{told}
+use Rattle.target_course.specs.scsi_device.specs.Told.{told}
 use Rattle.target_course.specs.Dues.{plain_by}
 use Rattle.disk_target.specs.Targets.{TargetValue}
 use Rattle.disk_target.specs.Waits.{is_waiting}

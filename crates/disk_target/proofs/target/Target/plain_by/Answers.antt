@@ -1,13 +1,13 @@
 use Rattle.std.proofs.Common.{◌≡◌, ◌∙◌, refl, sym, None}
 use Rattle.bus_lines.specs.Handshakes.{handshakes}
-use Rattle.bus_dialogue.specs.Hearing.{begun}
+use Rattle.bus_due.specs.bus_dialogue.specs.Hearing.{begun}
 use Rattle.bus_due.specs.RunSteps.{run_state}
 use Rattle.bus_due.specs.Sights.{serving_of}
 use Rattle.bus_reactions.specs.Sight.{sight}
 use Rattle.bus_reactions.specs.declared.ends.Offering.{Offering}
 use Rattle.bus_reactions.specs.declared.ends.Pace.{Pace}
 use Rattle.scenario.specs.declared.value.TargetDef.{TargetDef}
-use Rattle.scsi_device.specs.Told.{told, pace_of}
+use Rattle.target_course.specs.scsi_device.specs.Told.{told, pace_of}
 use Rattle.target_course.specs.Dues.{due_of_offering, myself_by}
 use Rattle.target_course.specs.States.{offering_in}
 use Rattle.target_course.proofs.Alike.{dues_alike}

@@ -1,7 +1,7 @@
 use Rattle.std.proofs.Common.{ℕ, ◌∙◌, ◌∷◌, List, refl, sym, subst, inr}
 use Rattle.bus_base.specs.declared.Event.{Event}
 use Rattle.bus_trace.specs.LineSet.{LineSet}
-use Rattle.scsi_device.proofs.OwnRows.{others_rows}
+use Rattle.target_course.specs.scsi_device.proofs.OwnRows.{others_rows}
 use Rattle.target_course.specs.States.{IsNoInitiator}
 use Rattle.disk_target.specs.Bytes.{IsOthers}
 use Rattle.disk_target.specs.Processes.{AreOutside}

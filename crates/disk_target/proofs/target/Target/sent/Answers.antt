@@ -1,7 +1,7 @@
 use Rattle.std.proofs.Common.{◌≡◌, ◌∙◌, true, false, sym, subst, Option}
 use Rattle.std.specs.Prelude.{is_some}
 use Rattle.bus_trace.specs.declared.connection.Connection.{Connection}
-use Rattle.scsi_device.specs.Writes.{brings_byte}
+use Rattle.target_course.specs.scsi_device.specs.Writes.{brings_byte}
 use Rattle.disk_target.specs.Bytes.{IsOwnIf}
 use Rattle.disk_target.specs.Knowns.{knows_command}
 use Rattle.disk_target.proofs.Quiet.{crosses_by}

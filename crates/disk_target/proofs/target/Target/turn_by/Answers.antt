@@ -5,7 +5,7 @@ use Rattle.std.specs.Prelude.{is_some}
 use Rattle.bus_trace.specs.Terms.{connection}
 use Rattle.disk_array.specs.Processes.{Process}
 use Rattle.disk_array.specs.ArrayHistory.{shows_run}
-use Rattle.bus_dialogue.specs.NextPhase.{leaving_by}
+use Rattle.bus_due.specs.bus_dialogue.specs.NextPhase.{leaving_by}
 use Rattle.bus_due.specs.RunState.{process_served}
 use Rattle.bus_due.specs.RunSteps.{run_state}
 use Rattle.bus_due.specs.Tasks.{given_of}

@@ -5,7 +5,7 @@ use Rattle.bus_due.specs.RunSteps.{run_state}
 use Rattle.bus_due.specs.Telling.{initiator_events}
 use Rattle.initiator.proofs.TransferRows.{completion_is, own_is}
 use Rattle.initiator.proofs.transfers.Transfers.completion.Goals as goal
-use Rattle.bus_dialogue.specs.Events.{event_if}
+use Rattle.bus_due.specs.bus_dialogue.specs.Events.{event_if}
 
 pub returns-clause-rows : goal.returns-clause-rows
 returns-clause-rows c = λ s rows row d told h.

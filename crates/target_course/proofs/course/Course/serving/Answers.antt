@@ -1,5 +1,5 @@
 use Rattle.std.proofs.Common.{sym, subst}
-use Rattle.bus_dialogue.specs.NextPhase as next_phase
+use Rattle.bus_due.specs.bus_dialogue.specs.NextPhase as next_phase
 use Rattle.bus_due.specs.RunSteps.{run_state}
 use Rattle.bus_due.specs.Sights.{serving_of}
 use Rattle.bus_due.specs.Tasks.{given_of}

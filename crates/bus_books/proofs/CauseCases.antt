@@ -1,0 +1,46 @@
+-- The causes in some runs of `bus_due`: a command that is refused; and processes that a target of limit 0 gives up in DATA OUT, DATA IN
+-- and STATUS, and one of limit 1 in STATUS.
+use Rattle.std.proofs.Common.{ℕ, ◌≡◌, true, false, [], refl, sym, ◌∙◌}
+use lib.Count.{ones}
+use Rattle.bus_due.specs.bus_base.specs.declared.ProcId.{ProcId}
+use Rattle.bus_due.specs.bus_trace.specs.LineSet.{line_of}
+use Rattle.bus_due.specs.bus_trace.specs.View.{union_below}
+use Rattle.bus_due.specs.msg_grammar.specs.Messages.{form_out, form_in}
+use Rattle.bus_due.specs.scenario.specs.Needs.{need_of, sent_of}
+use Rattle.bus_due.specs.RunSteps.{run_state}
+use Rattle.bus_due.proofs.Cases.{full_queue_due, full_queue_due_rows, given_up_due, given_up_due_rows, status_given_up_due, status_given_up_due_rows}
+use Rattle.bus_due.proofs.Seams.{onto}
+use Rattle.bus_books.specs.FullQueues.{was_refused}
+use Rattle.bus_books.specs.WrongParity.{wrong_phases, fault_rows}
+use Rattle.bus_books.proofs.Forward.{phases_are, faults_are}
+
+abbrev command : ℕ → ProcId
+command n = record { command = n; sense = false }
+
+second_refused : was_refused full_queue_due (run_state full_queue_due (onto full_queue_due_rows [])).story.history (command 2) ≡ true
+unfolding need_of sent_of ones union_below line_of form_out form_in
+second_refused = refl
+
+first_not_refused : was_refused full_queue_due (run_state full_queue_due (onto full_queue_due_rows [])).story.history (command 1) ≡ false
+unfolding need_of sent_of ones union_below line_of form_out form_in
+first_not_refused = refl
+
+failed_in_data_out : wrong_phases given_up_due (onto given_up_due_rows []) (command 1) ≡ 1
+unfolding need_of sent_of ones union_below line_of form_out form_in
+failed_in_data_out = sym (phases_are given_up_due (command 1) given_up_due_rows) ∙ refl
+
+failed_in_data_in : wrong_phases given_up_due (onto given_up_due_rows []) (command 2) ≡ 1
+unfolding need_of sent_of ones union_below line_of form_out form_in
+failed_in_data_in = sym (phases_are given_up_due (command 2) given_up_due_rows) ∙ refl
+
+lost_in_status : wrong_phases given_up_due (onto given_up_due_rows []) (command 3) ≡ 1
+unfolding need_of sent_of ones union_below line_of form_out form_in
+lost_in_status = sym (phases_are given_up_due (command 3) given_up_due_rows) ∙ refl
+
+lost_at_the_second : wrong_phases status_given_up_due (onto status_given_up_due_rows []) (command 1) ≡ 2
+unfolding need_of sent_of ones union_below line_of form_out form_in
+lost_at_the_second = sym (phases_are status_given_up_due (command 1) status_given_up_due_rows) ∙ refl
+
+two_faults : fault_rows status_given_up_due (onto status_given_up_due_rows []) (command 1) ≡ 2
+unfolding need_of sent_of ones union_below line_of form_out form_in
+two_faults = sym (faults_are status_given_up_due (command 1) status_given_up_due_rows) ∙ refl

@@ -1,9 +1,0 @@
-use Rattle.std.proofs.Common.{ℕ, ◌∙◌, ap}
-use Rattle.bus_due.specs.Next.{due}
-use Rattle.bus_members.proofs.Held.{target_is}
-use Rattle.bus_members.proofs.member.MemberDevice.due.Goals as goal
-
-pub returns-in-Target : goal.returns-in-Target
-returns-in-Target c = λ s rows dev a h f.
-    let target = target_is s rows dev c.args.self.now c.in-Target.target c.in-Target.is h in
-    c.due-in-Target.ensures s rows a.fits a.observed a.devices target.after f ∙ ap (λ (d : ℕ). due s rows d) target.named

@@ -1,5 +1,0 @@
-use Rattle.bus_members.proofs.Overs.{place_over}
-use Rattle.bus_members.proofs.member.runs_end.Goals as goal
-
-pub returns : goal.returns
-returns c = place_over

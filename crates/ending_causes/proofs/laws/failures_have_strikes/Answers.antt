@@ -1,5 +1,0 @@
-use Rattle.ending_causes.proofs.Struck.{strikes_are}
-use Rattle.ending_causes.proofs.laws.failures_have_strikes.Goals as goal
-
-pub returns : goal.returns
-returns c = λ s rows id code h. strikes_are s rows id code h

@@ -1,3 +1,0 @@
-pub mod FullQueues
-pub mod WrongParity
-pub mod Strikes
