@@ -33,7 +33,8 @@ use Rattle.initiator.specs.Received.{undoes_no_byte}
 use Rattle.bus_engine.specs.Answers.{are_answered, are_answered_from, are_replied_from, is_answered, is_replied, is_settled, sense_is_over}
 use Rattle.delivery_laws.proofs.Checks.{checks_stand}
 use Rattle.delivery_laws.proofs.EndStatuses.{all_ended, end_found, end_reply}
-use Rattle.bus_engine.proofs.ListedReplies.{all_given, is_known}
+use Rattle.delivery_laws.proofs.SenseReplies.{is_known}
+use Rattle.bus_engine.proofs.ListedReplies.{all_given}
 use Rattle.bus_engine.proofs.RanTargets.{ran_there}
 use Rattle.bus_engine.proofs.Replied.{HaveReplies, all_replied}
 use Rattle.bus_engine.proofs.Settled.{over_told, sense_is_done, settled_status}

@@ -2,7 +2,7 @@
 -- process ran, that of an automatic REQUEST SENSE has no more bytes than sense data, and the initiator of a command has room for its bytes
 -- (7.3, 7.5, 8.2.14).
 use Rattle.std.proofs.Common.{◌≡◌, Bool, true, false, not, ◌&&◌, ◌||◌, ◌∙◌, List, [], ◌∷◌, Option, Some, None, ℕ, refl, sym, ap, subst, ◌≤◌, length, take, arith}
-use Rattle.std.specs.Prelude.{if◌then◌else◌, ◌==◌, is_none, is_some, Result, Ok, Err, ⊤, min}
+use Rattle.std.specs.Prelude.{if◌then◌else◌, ◌==◌, is_none, is_some, ⊤, min}
 use Rattle.std.proofs.lemmas.Bool.{or_left, or_right}
 use Rattle.std.proofs.lemmas.List.{length-take}
 use Rattle.std.proofs.lemmas.Option.{same_Some}
@@ -14,18 +14,14 @@ use Rattle.cdb_codec.specs.Cdb.{command_of}
 use Rattle.cdb_codec.specs.Replies.{sense_data}
 use Rattle.cdb_codec.specs.declared.replies.TheConstants.{SENSE_LEN}
 use Rattle.cdb_codec.specs.declared.Sense.{Sense}
-use Rattle.cdb_codec.specs.declared.command.CdbFault.{CdbFault}
-use Rattle.cdb_codec.specs.declared.command.CdbFault.TheVariants as faults
-use Rattle.cdb_codec.specs.declared.command.Command.{Command}
-use Rattle.cdb_codec.specs.declared.command.Command.TheVariants as commands
 use Rattle.cdb_codec.specs.declared.sense.TheConstants.{ABORTED_COMMAND}
-use Rattle.cdb_codec.specs.declared.status.TheConstants.{CHECK_CONDITION, GOOD, QUEUE_FULL}
+use Rattle.cdb_codec.specs.declared.status.TheConstants.{GOOD}
 use Rattle.scenario.specs.Lookups.{has_target, unit_of}
 use Rattle.scenario.specs.Value.{ScenarioValue}
 use Rattle.scenario.specs.Writing.{Obeys}
 use Rattle.scenario.specs.declared.value.CmdDef.{CmdDef}
 use Rattle.disk_array.specs.ArrayHistory.{array_after, array_step, reply_in}
-use Rattle.disk_array.specs.Execution.{CommandContext, Reply, attention_execution, block_out_of_range, cdb_execution, check_condition, command_execution, execution, heeds_attention, is_good_range, needs_unit, queue_full, range_execution, range_of, reply_execution, returned_sense, sense_of, unit_not_supported}
+use Rattle.disk_array.specs.Execution.{CommandContext, Reply, attention_execution, check_condition, execution, needs_unit, queue_full, reply_execution, returned_sense, sense_of, unit_not_supported}
 use Rattle.disk_array.specs.Processes.{Process, command_at, process_of, same_id, sense_block}
 use Rattle.disk_array.specs.Steps as Steps
 use Rattle.disk_array.specs.Units.{Array, RunningProcess, UnitState, guest_at, is_held, nexus_of, unit_state_at}
@@ -45,49 +41,9 @@ use Rattle.trace_laws.specs.target_units.specs.Rooms.{AreOfLines}
 use Rattle.trace_laws.specs.target_units.proofs.Rooms.{IsByLine, by_line, lines_always}
 use Rattle.initiator.specs.Received.{data_room}
 use Rattle.bus_engine.proofs.ReplyLengths.{given_few, most_given, none_few, room_there}
-
-abbrev pub is_known : ℕ → Bool
-is_known status = status == GOOD || (status == CHECK_CONDITION || status == QUEUE_FULL)
+use Rattle.delivery_laws.proofs.SenseReplies.{execution_known, is_known}
 
 -- ---- what a command answers as it runs
-
-command_known : (m : CommandContext) (c : Command) (sent : List ℕ) → is_known (command_execution m c sent).reply.status ≡ true
-command_known m commands.TestUnitReady sent = refl
-command_known m (commands.RequestSense room) sent = refl
-command_known m (commands.Read6 lba count) sent = refl
-command_known m (commands.Write6 lba count) sent = refl
-command_known m (commands.Inquiry room) sent = refl
-command_known m commands.ReadCapacity sent = refl
-command_known m (commands.Read10 lba count) sent = refl
-command_known m (commands.Write10 lba count) sent = refl
-
-range_known : (m : CommandContext) (c : Command) (sent : List ℕ) → is_known (range_execution m c sent).reply.status ≡ true
-range_known m c sent = go (is_good_range m.contents.count (range_of c))
-  where
-    go : (q : Bool) → is_known (if q then command_execution m c sent else reply_execution m (check_condition block_out_of_range)).reply.status ≡ true
-    go true = command_known m c sent
-    go false = refl
-
-cdb_known : (m : CommandContext) (c : Result Command CdbFault) (sent : List ℕ) → is_known (cdb_execution m c sent).reply.status ≡ true
-cdb_known m (Ok c) sent = range_known m c sent
-cdb_known m (Err faults.Opcode) sent = refl
-cdb_known m (Err faults.Length) sent = refl
-cdb_known m (Err faults.Field) sent = refl
-
-attention_known : (m : CommandContext) (o : Option Sense) (cdb sent : List ℕ) → is_known (attention_execution m o cdb sent).reply.status ≡ true
-attention_known m None cdb sent = cdb_known m (command_of cdb) sent
-attention_known m (Some x) cdb sent = go (heeds_attention cdb)
-  where
-    go : (q : Bool) → is_known (if q then record { contents = m.contents; reported = true; reply = check_condition x } else cdb_execution m (command_of cdb) sent).reply.status ≡ true
-    go true = refl
-    go false = cdb_known m (command_of cdb) sent
-
-execution_known : (m : CommandContext) (cdb sent : List ℕ) → is_known (execution m cdb sent).reply.status ≡ true
-execution_known m cdb sent = go (not m.present && needs_unit cdb)
-  where
-    go : (q : Bool) → is_known (if q then reply_execution m (check_condition unit_not_supported) else attention_execution m m.attention cdb sent).reply.status ≡ true
-    go true = refl
-    go false = attention_known m m.attention cdb sent
 
 -- A REQUEST SENSE gives no more than the sense data (8.2.14).
 sense_few : (m : CommandContext) (sent : List ℕ) → length (execution m sense_block sent).reply.bytes ≤ SENSE_LEN

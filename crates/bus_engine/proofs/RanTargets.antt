@@ -1,15 +1,10 @@
 -- The target of each process that ran is one of the scenario, after any rows of a prompt trace: the ends of the connection in which it ran
 -- are an initiator and a target of it (6.1.4, 6.1.5).
-use Rattle.std.proofs.Common.{ℕ, ◌≡◌, ◌⊎◌, inl, inr, Bool, true, false, ◌||◌, ◌∙◌, List, [], ◌∷◌, Option, Some, cond, refl, sym, ap}
-use Rattle.std.specs.Prelude.{◌==◌, is_some}
-use Rattle.std.specs.List.{find, list_any}
-use Rattle.std.proofs.lemmas.Bool.{and_parts, eqb-true}
+use Rattle.std.proofs.Common.{◌≡◌, ◌⊎◌, inl, inr, true, ◌∙◌, List, [], ◌∷◌, Some, sym}
 use Rattle.bus_base.specs.declared.ProcId.{ProcId}
 use Rattle.bus_base.proofs.Tests.{wrong'}
 use Rattle.bus_trace.specs.declared.Row.{Row}
-use Rattle.bus_trace.specs.declared.connection.Connection.{Connection}
 use Rattle.bus_trace.specs.Terms.{connection}
-use Rattle.scenario.specs.declared.value.TargetDef.{TargetDef}
 use Rattle.scenario.specs.Lookups.{has_target}
 use Rattle.scenario.specs.Value.{ScenarioValue}
 use Rattle.scenario.specs.Writing.{Obeys}
@@ -17,30 +12,17 @@ use Rattle.disk_array.specs.Processes.{Process, process_of}
 use Rattle.bus_due.specs.bus_story.specs.BusState.{row_reading}
 use Rattle.bus_due.specs.bus_story.specs.HistoryEvents.{row_events_by}
 use Rattle.bus_due.specs.bus_story.specs.Right.{has_run}
-use Rattle.bus_due.specs.Faithful.{faithful, has_ends}
 use Rattle.bus_due.specs.Next.{IsPrompt}
 use Rattle.bus_due.specs.Plain.{IsPlain}
-use Rattle.bus_due.specs.RunState.{RunState, process_item, process_served}
+use Rattle.bus_due.specs.RunState.{RunState}
 use Rattle.bus_due.specs.RunSteps.{run_state}
 use Rattle.bus_due.proofs.Plains.{run_state_plain}
-use Rattle.trace_laws.specs.scsi_device.proofs.FitLines.{obeys_fits, units_are}
-use Rattle.disk_target.specs.target_course.proofs.ServedEnds.{ends_are}
-use Rattle.trace_laws.specs.bus_books.proofs.Traces.{trace_faithful}
 use Rattle.trace_laws.proofs.Whole.{Whole, whole}
 use Rattle.delivery_laws.specs.right_laws.proofs.RowCrossings.{GoesSo, here_goes, known_served}
 use Rattle.delivery_laws.specs.right_laws.proofs.SentBytes.{answer_of}
 use Rattle.delivery_laws.specs.right_laws.proofs.ShownRows.{IsAnswer}
 use Rattle.delivery_laws.specs.right_laws.proofs.RanFacts.{run_either}
-
--- A line that is found is there.
-found_there : (targets : List TargetDef) (dev : ℕ) → is_some (find (λ (t : TargetDef). t.dev == dev) targets) ≡ true → list_any (λ (t : TargetDef). t.dev == dev) targets ≡ true
-found_there [] dev e = wrong' e
-found_there (t ∷ targets) dev e = go (t.dev == dev) e (λ z. found_there targets dev z)
-  where
-    go : (q : Bool) → is_some (cond q (Some t) (find (λ (x : TargetDef). x.dev == dev) targets)) ≡ true
-        → (is_some (find (λ (x : TargetDef). x.dev == dev) targets) ≡ true → list_any (λ (x : TargetDef). x.dev == dev) targets ≡ true) → (q || list_any (λ (x : TargetDef). x.dev == dev) targets) ≡ true
-    go true z rest = refl
-    go false z rest = rest z
+use Rattle.delivery_laws.proofs.Present.{served_there}
 
 -- It runs with a row of a connection, whose target is there.
 runs_there : (s : ScenarioValue) (p : List Row) (row : Row) → Obeys s → IsPrompt s (row ∷ p) → (id : ProcId) (q : Process) → process_of s id ≡ Some q
@@ -62,26 +44,10 @@ runs_there s p row o prompt id q own has = by (here_goes s k row answer.link id 
     answer : IsAnswer k (row_reading k.story.bus_state row) id
     answer = answer_of s k row id has
 
-    true_to : faithful s p ≡ true
-    true_to = trace_faithful s p (units_are s (obeys_fits s o)) was.rows_are
-
     by : GoesSo s k row → has_target s q.target ≡ true
-    by v = ap (has_target s) at ∙ found_there s.targets n.target (was.ends n con).target
-      where
-        n : Connection
-        n = v.connection
-
-        con : connection p ≡ Some n
-        con = sym pl.connection ∙ v.goes.row_is.connection_is
-
-        served : process_served s k ≡ Some q
-        served = ap (process_item s) (known_served s k row n v.change answer.link id was.stood.books v.goes answer.here.link_is answer.here.item_is) ∙ own
-
-        at : q.target ≡ n.target
-        at =
-            eqb-true q.target n.target
-            (and_parts (q.initiator == n.initiator) (q.target == n.target)
-            (ap (λ (x : Option Process). has_ends x n) (sym served) ∙ ends_are s p (λ before d. run_state_plain s before d) was.stood.standing.devices true_to n con)).1
+    by v =
+        served_there s p v.connection o prompt.0 (sym pl.connection ∙ v.goes.row_is.connection_is) id q own
+        (known_served s k row v.connection v.change answer.link id was.stood.books v.goes answer.here.link_is answer.here.item_is)
 
 pub ran_there : (s : ScenarioValue) (p : List Row) → Obeys s → IsPrompt s p → (id : ProcId) (q : Process) → process_of s id ≡ Some q → has_run (run_state s p).story.history id ≡ true → has_target s q.target ≡ true
 ran_there s [] o prompt id q own e = wrong' e

@@ -2,11 +2,11 @@
 -- room for it (6.4, 7.3).
 use Rattle.std.proofs.Common.{ℕ, suc, ◌≡◌, ◌+◌, ◌≤◌, ◌^◌, ◌-◌, Bool, true, false, not, ◌&&◌, ◌||◌, ◌∙◌, List, [], ◌∷◌, Option, Some, None, refl, sym, ap, subst, arith, length, take, take_all, one-add}
 use Rattle.std.specs.Prelude.{if◌then◌else◌, ◌==◌, min}
-use Rattle.std.proofs.lemmas.Bool.{and_from, eq-eqb, eqb-true, or_left}
+use Rattle.std.proofs.lemmas.Bool.{and_from, eq-eqb, eqb-true}
 use Rattle.bus_base.specs.declared.Event.{Event}
 use Rattle.bus_base.specs.declared.Event.TheVariants as events
 use Rattle.bus_base.specs.declared.ProcId.{ProcId}
-use Rattle.bus_base.proofs.Tests.{and_first, and_second, implication, implied, nil_of, plus_none, wrong', eq_self, middle}
+use Rattle.bus_base.proofs.Tests.{and_first, and_second, implication, implied, nil_of, plus_none, wrong', middle}
 use Rattle.cdb_codec.specs.Cdb as Cdb
 use Rattle.cdb_codec.specs.declared.replies.TheConstants.{SENSE_LEN}
 use Rattle.cdb_codec.specs.declared.status.TheConstants.{GOOD}
@@ -18,7 +18,7 @@ use Rattle.disk_array.specs.ArrayHistory.{array_after, reply_in, reply_of}
 use Rattle.disk_array.specs.Execution.{Reply}
 use Rattle.disk_array.specs.Processes.{Process, command_at, process_by, process_if, process_of, same_id}
 use Rattle.bus_due.specs.bus_story.specs.CarriedBytes.{CarriedBytes, carried_of}
-use Rattle.bus_due.specs.bus_story.specs.Outcomes.{ending_of, has_end, is_end_of, reply_bytes_if}
+use Rattle.bus_due.specs.bus_story.specs.Outcomes.{ending_of, has_end, reply_bytes_if}
 use Rattle.bus_due.specs.bus_story.specs.Right.{all_carried, carried_by, has_run, is_carried, moved_bytes, same_bytes}
 use Rattle.bus_due.specs.bus_story.specs.Story.{Ending, Story, by_abort, by_loss, by_reset, by_status, unanswered}
 use Rattle.bus_due.specs.bus_story.specs.Items.{sense_id, command_id}
@@ -32,6 +32,7 @@ use Rattle.bus_engine.specs.Answers.{are_replied_from, is_good, is_replied, is_r
 use Rattle.delivery_laws.proofs.EndStatuses.{HasReply}
 use Rattle.bus_engine.proofs.ListedReplies.{AreGiven}
 use Rattle.trace_laws.proofs.Tests.{plus_one}
+use Rattle.delivery_laws.proofs.Stopped.{end_status}
 
 -- ---- what came, as far as there is room
 
@@ -132,35 +133,6 @@ ended_good s k n c h at all e = go (ending_of k.story.ended n) refl e
     go (Some by_reset) z f = wrong' f
     go (Some by_abort) z f = wrong' f
     go (Some unanswered) z f = wrong' f
-
-record HasStatus (history : List Event) (id : ProcId) : Type 0 where
-  status : ℕ
-  has : has_status history id status ≡ true
-
-end_status : (history : List Event) (id : ProcId) → has_end history id ≡ true → HasStatus history id
-end_status [] id e = wrong' e
-end_status (x ∷ history) id e = go (is_end_of id x) refl e (λ z. end_status history id z)
-  where
-    later : HasStatus history id → HasStatus (x ∷ history) id
-    later h = record { status = h.status; has = or_other (is_status_of id h.status x) h.has }
-      where
-        or_other : (q : Bool) → has_status history id h.status ≡ true → (q || has_status history id h.status) ≡ true
-        or_other true z = refl
-        or_other false z = z
-
-    here : (y : Event) → is_end_of id y ≡ true → HasStatus (y ∷ history) id
-    here (events.End p code) z = record { status = code; has = or_left (same_id p id && code == code) (has_status history id code) (and_from (same_id p id) (code == code) z (eq_self code)) }
-    here (events.Accept p) z = wrong' z
-    here (events.Refuse p) z = wrong' z
-    here (events.Run p) z = wrong' z
-    here (events.Fail p code) z = wrong' z
-    here (events.Lost p) z = wrong' z
-    here (events.Aborted i t m what) z = wrong' z
-    here (events.Reset dev) z = wrong' z
-
-    go : (q : Bool) → is_end_of id x ≡ q → (q || has_end history id) ≡ true → (has_end history id ≡ true → HasStatus history id) → HasStatus (x ∷ history) id
-    go true z f rest = here x z
-    go false z f rest = later (rest f)
 
 sensed_good : (s : ScenarioValue) (k : RunState) (n : ℕ) (c : CmdDef) → HaveReplies s k → command_at s.commands n ≡ Some c → all_carried s k.story k.story.history ≡ true
     → has_end k.story.history (sense_id n) ≡ true → is_reply s k.story c (sense_id n) ≡ true

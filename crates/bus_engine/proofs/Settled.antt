@@ -5,7 +5,7 @@ use Rattle.std.specs.List.{list_any}
 use Rattle.std.proofs.lemmas.Bool.Decides.{nat_tests}
 use Rattle.std.proofs.lemmas.Bool.{or_right}
 use Rattle.std.proofs.lemmas.Option.{same_Some}
-use Rattle.bus_base.proofs.Tests.{eq_self, plus_none, wrong, wrong'}
+use Rattle.bus_base.proofs.Tests.{eq_self, plus_none, wrong'}
 use Rattle.cdb_codec.specs.declared.status.TheConstants.{CHECK_CONDITION, GOOD, QUEUE_FULL}
 use Rattle.scenario.specs.declared.value.CmdDef.{CmdDef}
 use Rattle.scenario.specs.Value.{ScenarioValue}
@@ -23,7 +23,8 @@ use Rattle.initiator.specs.declared.mine.Mine.{Mine}
 use Rattle.initiator.specs.Mines.{mine_of, mines_of}
 use Rattle.initiator.specs.Openings.{mine_at}
 use Rattle.initiator.specs.Outcomes.{is_sense_over}
-use Rattle.bus_engine.proofs.ListedReplies.{is_known}
+use Rattle.delivery_laws.proofs.SenseReplies.{is_known}
+use Rattle.delivery_laws.proofs.Stopped.{is_check}
 
 -- ---- what its initiator keeps of it
 
@@ -80,15 +81,6 @@ sense_is_done s k n c o items rest quiet at checked = go (has_item k.story.sent.
     go false e = sense_wanted s k n c o items rest quiet at checked e
 
 -- ---- by its status
-
-pub is_check : (status : ℕ) → is_known status ≡ true → (status == GOOD) ≡ false → (status == QUEUE_FULL) ≡ false → (status == CHECK_CONDITION) ≡ true
-is_check status known g q = go (status == GOOD) (status == CHECK_CONDITION) (status == QUEUE_FULL) known g q
-  where
-    go : (x y z : Bool) → (x || (y || z)) ≡ true → x ≡ false → z ≡ false → y ≡ true
-    go true y z e f h = wrong f
-    go false true z e f h = refl
-    go false false true e f h = wrong h
-    go false false false e f h = wrong' e
 
 pub settled_status : (status : ℕ) (sensed over : Bool) → is_known status ≡ true → ((status == CHECK_CONDITION) ≡ true → over ≡ true) → (status == GOOD || status == QUEUE_FULL || sensed || over) ≡ true
 settled_status status sensed over known done = go (status == GOOD) (status == QUEUE_FULL) refl refl

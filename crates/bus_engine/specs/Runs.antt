@@ -1,5 +1,6 @@
 -- The run of a scenario.
-use Rattle.std.specs.Prelude.{ℕ, ◌≡◌, ◌<◌, ◌+◌, true, List, map, length, reverse, Option, Some, is_some}
+use Rattle.std.specs.Prelude.{ℕ, ◌≡◌, ◌<◌, ◌+◌, true, List, [], map, length, reverse, Option, Some, is_some}
+use Rattle.std.specs.List.{list_all}
 use Rattle.bus_trace.specs.declared.Row.{Row}
 use Rattle.bus_trace.specs.LineSet.{none}
 use Rattle.bus_trace.specs.Trace.{bus, last_time}
@@ -18,7 +19,9 @@ use Rattle.initiator.specs.Outcomes.{told_outcome}
 use Rattle.bus_run.specs.Runs.{AreEarly, IsLong}
 use Rattle.run_record.specs.Value.{RunValue}
 use Rattle.transcript_laws.specs.bus_transcript.specs.Events.{TellsHistory}
-use Rattle.delivery_laws.specs.Delivery.{AreCaused, AreStoppedSenses, IsDelivered}
+use Rattle.delivery_laws.specs.Delivery.{AreAnswered, AreCaused, AreChecked, AreOwnSenses, AreStoppedSenses, HaveStrikes, IsDelivered}
+use Rattle.delivery_laws.specs.Resets.{AreResets}
+use Rattle.trace_laws.specs.bus_books.specs.WrongParity.{complains_truly}
 use Rattle.bus_engine.specs.Limits.{row_limit, step_limit}
 
 abbrev pub told_reply : Outcome → Option told.Outcome
@@ -32,9 +35,11 @@ rows_of run = reverse run.rows
 -- plain disk array permits, each reply is the outcome that they tell, and its disks hold what the array holds after that
 -- history; the rows and the end obey every rule of the bus, the fault rows are those of the scenario, and no line is true at
 -- the end. Each process that ran and ended carried just its own bytes. The transcript of the rows has the events of that history, with
--- the names of processes in place of numbers. Where queues have room and there is no reset and no abort, each valid command that no more faults
--- struck than it bears ended GOOD; every other outcome has its cause; and only where its automatic REQUEST SENSE was stopped is a command
--- without the sense of its CHECK CONDITION.
+-- the names of processes in place of numbers. Each command has its outcome. Where queues have room and there is no reset and no abort, each valid
+-- command that no more faults struck than it bears ended GOOD, and each that is not valid with the sense of what is wrong with it first; every other
+-- outcome has its cause, each failure the fault row of a byte, and each complaint of an initiator a struck byte of that phase; the sense with
+-- which a command ended is that of its own reply, and only where its automatic REQUEST SENSE was stopped is it without; and RST began by the
+-- reset lines alone.
 pub record IsPromptRun (s : ScenarioValue) (run : RunValue) : Type 0 where
   pub prompt : IsPrompt s (rows_of run)
   pub lawful : IsLawful (rows_of run) run.end
@@ -47,9 +52,16 @@ pub record IsPromptRun (s : ScenarioValue) (run : RunValue) : Type 0 where
   pub replies : map told_reply run.replies ≡ outcomes s (story s (rows_of run))
   pub disks : run.disks ≡ disks_of (array_after s (trace_history s (rows_of run)))
   pub transcript : TellsHistory s (rows_of run)
+  pub answered : list_all (λ (o : Option told.Outcome). is_some o) (outcomes s (story s (rows_of run))) ≡ true
   pub delivered : IsDelivered s (rows_of run)
+  pub checked : s.resets ≡ [] → s.aborts ≡ [] → AreChecked s (rows_of run)
   pub caused : AreCaused s (rows_of run)
+  pub struck : HaveStrikes s (rows_of run)
+  pub complaints : complains_truly s (rows_of run) ≡ true
+  pub senses : AreOwnSenses s (rows_of run)
+  pub lasting : AreAnswered s (rows_of run)
   pub stopped : AreStoppedSenses s (rows_of run)
+  pub resets : AreResets s (rows_of run)
 
 -- Each row is of one of the eight devices and comes before 2^62 ns, the end is the time of the last, the rows are fewer than the
 -- budget allows, and there are as many replies as commands and as many disks as units.

@@ -30,10 +30,11 @@ use crate::places::member_places;
 use bus_base::{NoMemory, Steps};
 use bus_due::{kept_is_plain, wants_are_items};
 use bus_run::{RunEnd, Trace, rows_tie_devices};
-use delivery_laws::the_progress_laws::ended_traces_are_quiet;
-use delivery_laws::the_right_laws::{fault_rows_are_of_the_scenario, prompt_traces_are_right};
+use delivery_laws::the_right_laws::prompt_traces_are_right;
 use delivery_laws::{
-    outcomes_have_causes, senseless_checks_were_stopped, valid_commands_are_delivered,
+    ended_traces_are_right, invalid_commands_are_checked, outcomes_have_causes, replies_last,
+    resets_are_by_lines, senseless_checks_were_stopped, senses_are_their_own,
+    valid_commands_are_delivered,
 };
 use disk_array::arrays_are_sound;
 use disk_target::the_scsi_device::scenarios_fit_the_bus;
@@ -44,8 +45,10 @@ use run_record::Run;
 use scenario::{Scenario, UnitDef};
 use std::alloc::Global;
 use std::sync::ledger::Ledger;
+use trace_laws::the_bus_books::failures_have_strikes;
 use trace_laws::{
-    connections_are_of_the_scenario, ends_know_what_rows_tell, prompt_traces_keep_the_books,
+    connections_are_of_the_scenario, ends_know_what_rows_tell, limits_are_kept,
+    prompt_traces_keep_the_books,
 };
 use transcript_laws::transcripts_follow_prompt_traces;
 
@@ -125,8 +128,7 @@ fn run_in<L: Ledger>(
     prompt_traces_keep_the_books();
     ends_know_what_rows_tell();
     connections_are_of_the_scenario();
-    fault_rows_are_of_the_scenario();
-    ended_traces_are_quiet();
+    ended_traces_are_right();
     prompt_traces_are_right();
     transcripts_follow_prompt_traces();
     wants_are_items();
@@ -134,6 +136,12 @@ fn run_in<L: Ledger>(
     valid_commands_are_delivered();
     outcomes_have_causes();
     senseless_checks_were_stopped();
+    invalid_commands_are_checked();
+    failures_have_strikes();
+    limits_are_kept();
+    senses_are_their_own();
+    replies_last();
+    resets_are_by_lines();
     let trace = bus_run::run(alloc, scenario, places, most_rows(scenario), steps)?;
     Ok(finish(alloc, scenario, places, trace)?)
 }

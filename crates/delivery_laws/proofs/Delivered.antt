@@ -1,7 +1,7 @@
 -- In a scenario without resets and aborts a valid command that was not refused, and that no more faults struck than it bears, ends GOOD.
-use Rattle.std.proofs.Common.{ℕ, zero, suc, ◌≡◌, ◌⊎◌, inl, inr, ◌≤◌, ◌+◌, Bool, true, false, ◌&&◌, ◌||◌, ◌∙◌, cond, List, [], ◌∷◌, Option, Some, None, refl, sym, ap, subst, arith}
+use Rattle.std.proofs.Common.{ℕ, zero, suc, ◌≡◌, ◌⊎◌, inl, inr, ◌≤◌, ◌+◌, Bool, true, false, ◌&&◌, ◌||◌, ◌∙◌, List, [], ◌∷◌, Option, Some, None, refl, sym, ap, subst, arith}
 use Rattle.std.specs.Prelude.{◌==◌, is_some, nat_lt, nat_le}
-use Rattle.std.specs.List.{find, list_all, list_any}
+use Rattle.std.specs.List.{list_all, list_any}
 use Rattle.std.proofs.lemmas.Bool.{and_parts, or_left, or_right, and_from}
 use Rattle.std.proofs.lemmas.Bool.Decides.{nat_tests}
 use Rattle.std.proofs.Math.Nat.{min-le_left, min-le_right}
@@ -45,6 +45,7 @@ use Rattle.delivery_laws.proofs.CalmTraces.{calm_history}
 use Rattle.delivery_laws.proofs.Callings.{AreTried, unanswered_struck}
 use Rattle.delivery_laws.proofs.EndStatuses.{HasReply, all_ended, end_found, end_reply}
 use Rattle.delivery_laws.proofs.ValidReplies.{valid_replies}
+use Rattle.delivery_laws.proofs.ResetDevices.{any_found}
 
 -- ---- events
 
@@ -186,21 +187,12 @@ record Bears (s : ScenarioValue) (p : List Row) (n : ℕ) (c : CmdDef) : Type 0 
   unrefused : has_event (run_state s p).story.history (events.Refuse (command_id n)) ≡ false
 
 -- No more are borne than its initiator tries again, nor than its target recovers from.
-found_target : (targets : List TargetDef) (dev : ℕ) → list_any (λ (t : TargetDef). t.dev == dev) targets ≡ true → is_some (find (λ (t : TargetDef). t.dev == dev) targets) ≡ true
-found_target [] dev e = wrong' e
-found_target (t ∷ targets) dev e = go (t.dev == dev) e (found_target targets dev)
-  where
-    go : (q : Bool) → (q || list_any (λ (x : TargetDef). x.dev == dev) targets) ≡ true → (list_any (λ (x : TargetDef). x.dev == dev) targets ≡ true → is_some (find (λ (x : TargetDef). x.dev == dev) targets) ≡ true)
-        → is_some (cond q (Some t) (find (λ (x : TargetDef). x.dev == dev) targets)) ≡ true
-    go true z found = refl
-    go false z found = found z
-
 pub record Borne (s : ScenarioValue) (c : CmdDef) : Type 0 where
   pub own : fault_limit s c ≤ retries_of s.hosts c.host
   pub other : fault_limit s c ≤ recovery_limit (target_def_of s c.target)
 
 pub borne : (s : ScenarioValue) (c : CmdDef) → has_target s c.target ≡ true → Borne s c
-borne s c there = go (target_def_of s c.target) refl (found_target s.targets c.target there)
+borne s c there = go (target_def_of s c.target) refl (any_found (λ (t : TargetDef). t.dev == c.target) s.targets there)
   where
     go : (o : Option TargetDef) → target_def_of s c.target ≡ o → is_some o ≡ true → Borne s c
     go None e z = wrong' z

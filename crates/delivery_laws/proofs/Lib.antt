@@ -7,7 +7,6 @@ pub mod Counting
 pub mod OpenWithin
 pub mod Taken
 pub mod Room
-pub mod Faultless
 pub mod Present
 pub mod OutcomeCauses
 pub mod Checks

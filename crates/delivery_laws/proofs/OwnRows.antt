@@ -49,7 +49,7 @@ use Rattle.bus_due.specs.RunSteps.{array_after_events, run_state, served_after}
 use Rattle.bus_due.proofs.Plains.{run_state_plain}
 use Rattle.trace_laws.specs.scsi_device.proofs.FitLines.{obeys_fits, seats_are}
 use Rattle.trace_laws.specs.bus_books.specs.Hearing.{is_in_phase}
-use Rattle.trace_laws.specs.bus_books.specs.Traces.{RowOf, apart, begins, ends, goes_on, under_reset}
+use Rattle.trace_laws.specs.bus_books.specs.Traces.{apart, ends}
 use Rattle.trace_laws.specs.bus_books.proofs.Lookups.{self_id}
 use Rattle.trace_laws.specs.bus_laws.proofs.Apart.{change_plain}
 use Rattle.trace_laws.specs.bus_laws.proofs.Prompt.{least_is}
@@ -67,12 +67,11 @@ use Rattle.trace_laws.proofs.PointerWaits.{change_over}
 use Rattle.trace_laws.proofs.RowEvents.{carried_of_item}
 use Rattle.trace_laws.proofs.Whole.{Whole, standing_next, whole}
 use Rattle.progress_laws.proofs.DebtEvents.{AllPay, Paid, events_pay}
-use Rattle.progress_laws.proofs.DebtNext.{linked_pays, sense_is, senses_same}
-use Rattle.progress_laws.proofs.DebtRows.{quiet_row, reset_row}
+use Rattle.progress_laws.proofs.DebtNext.{sense_is, senses_same}
 use Rattle.progress_laws.proofs.DebtSteps.{same_debt, same_debts}
-use Rattle.progress_laws.proofs.DebtTraces.{Indebted, indebted}
+use Rattle.progress_laws.proofs.DebtTraces.{Indebted, indebted, row_pays}
 use Rattle.progress_laws.proofs.OwedRows.{changed}
-use Rattle.progress_laws.specs.Debts.{DebtBooks, Debts, IsDebt, is_owed}
+use Rattle.progress_laws.specs.Debts.{Debts, is_owed}
 use Rattle.right_laws.proofs.RowCrossings.{GoesSo, here_goes, known_served}
 use Rattle.delivery_laws.proofs.OwnSenses.{IfBooks, OwnSenses, Tells, fewer_owned, step_own}
 use Rattle.delivery_laws.proofs.Room.{Arriving, arriving}
@@ -380,35 +379,6 @@ row_tells s p row v = go d.change.after.rst refl
 
 -- ---- after any rows
 
--- Its events pay well (as in the traces of debts).
-pub row_pays : (s : ScenarioValue) (p : List Row) (row : Row) → Coming s p row → DebtBooks s (run_state s p)
-    → AllPay s (story_by_change s (run_state s p).story (row_reading (run_state s p).story.bus_state row) row)
-    (row_events_by s (run_state s p).story (row_reading (run_state s p).story.bus_state row) row)
-row_pays s p row v books = go v.stood.row_is
-  where
-    k : RunState
-    k = run_state s p
-
-    d : RowReading
-    d = row_reading k.story.bus_state row
-
-    b : Story
-    b = story_by_change s k.story d row
-
-    alone : k.story.bus_state.connection ≡ None → AllPay s b (row_events_by s k.story d row)
-    alone e = quiet_row s k.story b d row (v.was.facts.items.items.apart e).0
-
-    linked : (n : Connection) → k.story.bus_state.connection ≡ Some n → (bus_of k).rst ≡ false → (q : Bool) → d.change.after.rst ≡ q → AllPay s b (row_events_by s k.story d row)
-    linked n con calm true on = reset_row s k.story b d row on
-    linked n con calm false off = linked_pays s p row n v.lt v.was v.next v.stood books con calm off
-
-    go : RowOf s k row → AllPay s b (row_events_by s k.story d row)
-    go (apart e f) = alone e
-    go (begins n g) = alone g.first.connection_is
-    go (goes_on n c g) = linked n g.row_is.connection_is g.calm d.change.after.rst refl
-    go (ends n g) = linked n g.connection_is g.calm d.change.after.rst refl
-    go (under_reset on e) = reset_row s k.story b d row on
-
 abbrev pub AreOwn : ScenarioValue → List Row → Type 0
 AreOwn s p = OwnSenses s (run_state s p).story.sent (array_of s (run_state s p)).senses (array_of s (run_state s p)).replies
 
@@ -468,7 +438,7 @@ own_next s p row o prompt h = subst (λ (x : Array). OwnSenses s j.story.sent x.
     now : OwnSenses s j.story.sent v.next.places.array.senses v.next.places.array.replies
     now =
         subst (IfBooks (OwnSenses s j.story.sent)) v.next.places.array_is
-        (events_own s b k.array shown (seats_are s (obeys_fits s o)) (row_pays s p row v due.books) (row_tells s p row v) paid
+        (events_own s b k.array shown (seats_are s (obeys_fits s o)) (row_pays s p row v.lt v.was v.next v.stood due.books) (row_tells s p row v) paid
         (subst (IfBooks (OwnSenses s b.sent)) (ap (λ (x : Array). Some x) before_is ∙ sym w.places.array_is) start))
 
 pub all_own : (s : ScenarioValue) (p : List Row) → Obeys s → IsPrompt s p → AreOwn s p

@@ -98,7 +98,7 @@ resets_there s o =
 
 -- ---- so it has a latency
 
-any_found : {A : Type 0} (f : A → Bool) (xs : List A) → list_any f xs ≡ true → is_some (find f xs) ≡ true
+pub any_found : {A : Type 0} (f : A → Bool) (xs : List A) → list_any f xs ≡ true → is_some (find f xs) ≡ true
 any_found f [] e = wrong' e
 any_found f (x ∷ xs) e = go (f x) e (any_found f xs)
   where

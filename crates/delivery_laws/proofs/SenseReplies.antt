@@ -73,7 +73,7 @@ attention_known m (Some x) cdb sent = go (heeds_attention cdb)
     go true = refl
     go false = cdb_known m (command_of cdb) sent
 
-execution_known : (m : CommandContext) (cdb sent : List ℕ) → is_known (execution m cdb sent).reply.status ≡ true
+pub execution_known : (m : CommandContext) (cdb sent : List ℕ) → is_known (execution m cdb sent).reply.status ≡ true
 execution_known m cdb sent = go (not m.present && needs_unit cdb)
   where
     go : (q : Bool) → is_known (if q then reply_execution m (check_condition unit_not_supported) else attention_execution m m.attention cdb sent).reply.status ≡ true

@@ -64,7 +64,7 @@ senseless s h n (Some by_reset) e = wrong' e
 senseless s h n (Some by_abort) e = wrong' e
 senseless s h n (Some unanswered) e = wrong' e
 
-is_check : (status : ℕ) → is_known status ≡ true → (status == GOOD) ≡ false → (status == QUEUE_FULL) ≡ false → (status == CHECK_CONDITION) ≡ true
+pub is_check : (status : ℕ) → is_known status ≡ true → (status == GOOD) ≡ false → (status == QUEUE_FULL) ≡ false → (status == CHECK_CONDITION) ≡ true
 is_check status known g q = go (status == GOOD) (status == CHECK_CONDITION) (status == QUEUE_FULL) known g q
   where
     go : (x y z : Bool) → (x || (y || z)) ≡ true → x ≡ false → z ≡ false → y ≡ true
@@ -75,11 +75,11 @@ is_check status known g q = go (status == GOOD) (status == CHECK_CONDITION) (sta
 
 -- ---- an end in the history has its status
 
-record HasStatus (history : List Event) (id : ProcId) : Type 0 where
-  status : ℕ
-  has : has_status history id status ≡ true
+pub record HasStatus (history : List Event) (id : ProcId) : Type 0 where
+  pub status : ℕ
+  pub has : has_status history id status ≡ true
 
-end_status : (history : List Event) (id : ProcId) → has_end history id ≡ true → HasStatus history id
+pub end_status : (history : List Event) (id : ProcId) → has_end history id ≡ true → HasStatus history id
 end_status [] id e = wrong' e
 end_status (x ∷ history) id e = go (is_end_of id x) refl e (λ z. end_status history id z)
   where

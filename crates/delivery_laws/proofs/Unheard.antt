@@ -32,9 +32,9 @@ use Rattle.trace_laws.proofs.RowEvents.{AllOf, process_in, row_of}
 use Rattle.trace_laws.proofs.Whole.{Whole, standing_next, whole}
 use Rattle.progress_laws.proofs.DebtEvents.{AllPay}
 use Rattle.progress_laws.proofs.DebtNext.{known_served}
-use Rattle.progress_laws.proofs.DebtTraces.{Indebted, indebted}
+use Rattle.progress_laws.proofs.DebtTraces.{Indebted, indebted, row_pays}
 use Rattle.initiator.specs.Causes.{has_loss, is_loss_of}
-use Rattle.delivery_laws.proofs.OwnRows.{Coming, row_pays}
+use Rattle.delivery_laws.proofs.OwnRows.{Coming}
 use Rattle.delivery_laws.proofs.Present.{served_there}
 
 -- ---- events of a process
@@ -156,5 +156,5 @@ no_sense_lost s (row ∷ p) n o prompt e =
     v = record { lt = (least_is s p row prompt.1).inside; was = due.whole; next = whole s (row ∷ p) o prompt; stood = standing_next s p row o prompt due.whole }
 
     go : {A : Type 0} → (has_loss k.story.history (sense_id n) ≡ true → A) → (has_loss (row_events_by s k.story (row_reading k.story.bus_state row) row) (sense_id n) ≡ true) ⊎ (has_loss k.story.history (sense_id n) ≡ true) → A
-    go before (inl z) = pays_losses s (story_by_change s k.story (row_reading k.story.bus_state row) row) n (row_events_by s k.story (row_reading k.story.bus_state row) row) (row_pays s p row v due.books) z
+    go before (inl z) = pays_losses s (story_by_change s k.story (row_reading k.story.bus_state row) row) n (row_events_by s k.story (row_reading k.story.bus_state row) row) (row_pays s p row v.lt v.was v.next v.stood due.books) z
     go before (inr z) = before z

@@ -35,6 +35,7 @@ use Rattle.bus_due.specs.Next.{IsPrompt, IsEnded}
 use Rattle.bus_due.specs.RunState.{RunState}
 use Rattle.bus_due.specs.RunSteps.{run_state}
 use Rattle.trace_laws.specs.bus_books.specs.FullQueues.{has_event, was_refused}
+use Rattle.trace_laws.specs.bus_books.specs.Strikes.{has_strike}
 use Rattle.trace_laws.specs.bus_books.specs.WrongParity.{fault_rows}
 use Rattle.initiator.specs.Causes.{has_bus_reset, has_command_abort, has_sense_stop}
 use Rattle.bus_due.specs.scenario.specs.Lookups.{has_target, unit_of}
@@ -96,8 +97,9 @@ abbrev pub IsDelivered : ScenarioValue → List Row → Type 0
 IsDelivered s rows =
     is_roomy s ≡ true → s.resets ≡ [] → s.aborts ≡ [] → (n : ℕ) (c : CmdDef) → command_at s.commands n ≡ Some c → is_valid s c ≡ true → nat_le (command_faults s rows n) (fault_limit s c) ≡ true → is_good (outcome_of s (story s rows) n) ≡ true
 
-abbrev pub DeliversFaulted : Type 0
-DeliversFaulted = (s : ScenarioValue) (rows : List Row) → Obeys s → IsPrompt s rows → IsEnded s rows → IsDelivered s rows
+-- So of every trace.
+abbrev pub Delivers : Type 0
+Delivers = (s : ScenarioValue) (rows : List Row) → Obeys s → IsPrompt s rows → IsEnded s rows → IsDelivered s rows
 
 -- More faults struck this command than it bears.
 abbrev pub has_too_many : ScenarioValue → List Row → ℕ → CmdDef → Bool
@@ -136,6 +138,12 @@ pub data IsGiven (s : ScenarioValue) (h : List Event) (id : ProcId) (reply : Rep
   ran : HasRun s h id reply → IsGiven s h id reply
   failed : (code : ℕ) → has_event h (events.Fail id code) ≡ true → reply ≡ aborted_reply code → IsGiven s h id reply
   refused : has_event h (events.Refuse id) ≡ true → reply ≡ queue_full → IsGiven s h id reply
+
+-- ---- the faults by which a command fails
+
+-- Of a trace: each failure in its history has a fault row of a byte of that process.
+abbrev pub HaveStrikes : ScenarioValue → List Row → Type 0
+HaveStrikes s rows = (id : ProcId) (code : ℕ) → has_event (trace_history s rows) (events.Fail id code) ≡ true → has_strike s rows id code ≡ true
 
 -- ---- whose sense came back
 

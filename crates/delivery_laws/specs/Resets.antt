@@ -1,6 +1,6 @@
 -- The reset lines of a scenario and the rows that raise RST (6.2.2).
-use Rattle.std.specs.Prelude.{ℕ, ◌+◌, ◌==◌, Bool, true, false, not, ◌&&◌, ◌||◌, List, [], ◌∷◌, Option, Some, None, nat_le, nat_lt}
-use Rattle.std.specs.List.{list_any}
+use Rattle.std.specs.Prelude.{ℕ, ◌≡◌, ◌+◌, ◌==◌, Bool, true, false, not, ◌&&◌, ◌||◌, List, [], ◌∷◌, Option, Some, None, nat_le, nat_lt}
+use Rattle.std.specs.List.{list_all, list_any}
 use Rattle.bus_due.specs.bus_trace.specs.declared.Row.{Row}
 use Rattle.bus_due.specs.bus_trace.specs.declared.delays.TheConstants.{RESET_HOLD_TIME}
 use Rattle.bus_due.specs.bus_trace.specs.Changes.{rises, falls}
@@ -58,3 +58,10 @@ are_releases s (row ∷ rows) = (not (drives rows row.dev).rst || is_release row
 -- Of a trace that has ended: the reset line has its row, or falls while its device drives RST, or as it releases it.
 abbrev pub has_line : List Row → ResetDef → Bool
 has_line rows r = has_reset rows r.dev r.at
+
+-- Of a trace that has ended: RST begins by the reset lines alone, each device that drives it releases it in time, and each reset line had its row
+-- or fell into the RST of its own device.
+pub record AreResets (s : ScenarioValue) (rows : List Row) : Type 0 where
+  pub begins : are_lines s rows ≡ true
+  pub ends : are_releases s rows ≡ true
+  pub lines : list_all (λ (r : ResetDef). has_line rows r) s.resets ≡ true

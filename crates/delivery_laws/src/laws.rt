@@ -3,7 +3,7 @@
 ghost use Rattle.std.specs.Prelude.{ℕ, ◌≡◌, ◌≤◌, ◌⊎◌, length, nat_le, nat_lt, true, false, List, [], Some};
 ghost use Rattle.bus_due.specs.bus_trace.specs.declared.Row.{Row};
 ghost use Rattle.bus_due.specs.bus_base.specs.declared.Event.TheVariants as events;
-ghost use Rattle.bus_due.specs.Goals.{Delivers, is_good};
+ghost use Rattle.bus_due.specs.Goals.{EndsRight, is_good};
 ghost use Rattle.bus_due.specs.Next.{IsPrompt, IsEnded};
 ghost use Rattle.trace_laws.specs.bus_books.specs.FullQueues.{has_event};
 ghost use Rattle.bus_due.specs.RunSteps.{run_state};
@@ -23,7 +23,7 @@ ghost use Rattle.bus_due.specs.bus_story.specs.Outcomes.{ending_of, is_roomy, is
 ghost use Rattle.bus_due.specs.bus_story.specs.Story.{unanswered};
 ghost use Rattle.bus_due.specs.bus_story.specs.TraceHistory.{retries_of, story, trace_history};
 ghost use Rattle.bus_due.specs.scenario.specs.Lookups.{has_target};
-ghost use Rattle.delivery_laws.specs.Delivery.{AreAnswered, AreCaused, AreChecked, AreOwnSenses, AreStoppedSenses, DeliversFaulted, HasRun, IsGiven};
+ghost use Rattle.delivery_laws.specs.Delivery.{AreAnswered, AreCaused, AreChecked, AreOwnSenses, AreStoppedSenses, Delivers, HasRun, IsGiven};
 ghost use Rattle.delivery_laws.specs.Delivery.{calling_faults, command_faults, fault_limit, is_calm_event, is_given_up_by};
 ghost use Rattle.delivery_laws.specs.Resets.{are_lines, are_releases, has_line};
 ghost use Rattle.bus_due.specs.scenario.specs.declared.value.ResetDef.{ResetDef};
@@ -31,8 +31,8 @@ ghost use Rattle.std.specs.List.{list_all};
 
 use bus_due::wants_are_items;
 use initiator::endings_have_causes;
-use progress_laws::ended_traces_have_outcomes;
-use right_laws::fault_rows_are_of_the_scenario;
+use progress_laws::{ended_traces_are_quiet, ended_traces_have_outcomes};
+use right_laws::{fault_rows_are_of_the_scenario, prompt_traces_are_right};
 use trace_laws::limits_are_kept;
 use trace_laws::the_bus_books::replies_have_causes;
 
@@ -88,14 +88,23 @@ pub fn roomy_scenarios_refuse_nothing()
 {}
 
 /// Where each queue has room for all commands that the initiators may have open at once, and there is no reset and no
-/// abort, every valid command that no more faults struck than it bears ends GOOD (`faulted`); so in a scenario without
-/// faults every valid command does (`faultless`).
+/// abort, every valid command that no more faults struck than it bears ends GOOD.
 pub fn valid_commands_are_delivered()
-    ensures faulted { DeliversFaulted }
-    ensures faultless { Delivers }
+    ensures { Delivers }
 {
     roomy_scenarios_refuse_nothing();
     unrefused_commands_are_delivered();
+}
+
+/// A prompt trace that has ended is right: every row and the end obey every rule of the bus; no line is true; the
+/// trace, its history, the outcomes and the blocks belong together, and each process that ran and ended carried exactly
+/// its own bytes; each command has its outcome; and the fault rows are those of the scenario.
+pub fn ended_traces_are_right()
+    ensures { EndsRight }
+{
+    ended_traces_are_quiet();
+    ended_traces_have_outcomes();
+    prompt_traces_are_right();
     fault_rows_are_of_the_scenario();
 }
 

@@ -6,7 +6,7 @@
 mod laws;
 
 pub use laws::{
-    calm_scenarios_have_calm_histories, invalid_commands_are_checked,
+    calm_scenarios_have_calm_histories, ended_traces_are_right, invalid_commands_are_checked,
     open_commands_are_within_limits, outcomes_have_causes, replies_are_given, replies_last,
     resets_are_by_lines, roomy_scenarios_refuse_nothing, senseless_checks_were_stopped,
     senses_are_their_own, unanswered_commands_were_struck, unrefused_commands_are_delivered,

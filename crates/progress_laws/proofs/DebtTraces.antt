@@ -115,7 +115,7 @@ reset_none s b d row on =
 -- ---- a row
 
 -- Its events pay well.
-row_pays : (s : ScenarioValue) (p : List Row) (row : Row) → row.dev < 8 → Whole s p → Whole s (row ∷ p) → NextStood s p row → DebtBooks s (run_state s p)
+pub row_pays : (s : ScenarioValue) (p : List Row) (row : Row) → row.dev < 8 → Whole s p → Whole s (row ∷ p) → NextStood s p row → DebtBooks s (run_state s p)
     → AllPay s (story_by_change s (run_state s p).story (row_reading (run_state s p).story.bus_state row) row)
     (row_events_by s (run_state s p).story (row_reading (run_state s p).story.bus_state row) row)
 row_pays s p row lt w nx st books = go st.row_is

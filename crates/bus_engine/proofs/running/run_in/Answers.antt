@@ -1,5 +1,6 @@
 use Rattle.std.proofs.Common.{Err, Result, ◌*◌, ◌+◌, ℕ, ◌≡◌, ◌<◌, ◌^◌, ◌∙◌, true, List, length, reverse, sym, ap, subst}
-use Rattle.std.specs.Prelude.{is_some}
+use Rattle.std.specs.Prelude.{is_some, Option}
+use Rattle.std.specs.List.{list_all}
 use Rattle.std.proofs.lemmas.List.{reverse-reverse}
 use Rattle.std.proofs.lemmas.Result.{err_from_is_err_and}
 use Rattle.bus_base.specs.declared.Event.{Event}
@@ -19,7 +20,10 @@ use Rattle.bus_run.specs.declared.running.RunEnd.{RunEnd}
 use Rattle.bus_due.specs.bus_story.specs.Right.{all_carried}
 use Rattle.transcript_laws.specs.bus_transcript.specs.Events.{TellsHistory}
 use Rattle.delivery_laws.specs.progress_laws.proofs.Ended.{joined}
-use Rattle.delivery_laws.specs.Delivery.{AreCaused, AreStoppedSenses, IsDelivered}
+use Rattle.bus_due.specs.bus_story.specs.Outcomes.{Outcome}
+use Rattle.delivery_laws.specs.Delivery.{AreAnswered, AreCaused, AreChecked, AreOwnSenses, AreStoppedSenses, HaveStrikes, IsDelivered}
+use Rattle.delivery_laws.specs.Resets.{AreResets}
+use Rattle.trace_laws.specs.bus_books.specs.WrongParity.{complains_truly}
 use Rattle.bus_engine.specs.Limits.{row_limit}
 use Rattle.bus_engine.proofs.Answered.{all_answered}
 use Rattle.bus_engine.proofs.Items.{all_reversed}
@@ -55,14 +59,15 @@ returns-clause-exact g c = λ at.
           let prompt = c.in_ok-trace.ensures.prompt h at in
           let places = c.in_ok-trace.ensures.places h at in
           let ended = c.in_ok-trace.ensures.ended h at in
+          let right = c.ended_traces_are_right.ensures s all c.requires.lawful prompt ended in
           record {
             prompt = subst (λ (l : List Row). IsPrompt s (reverse l)) (sym r) prompt;
-            lawful = lawful_at _ items _ (last_time all) r c.in_ok-finish.ensures.end (c.ended_traces_are_quiet.ensures.lawful s all c.requires.lawful prompt ended);
+            lawful = lawful_at _ items _ (last_time all) r c.in_ok-finish.ensures.end right.lawful;
             ended = subst (λ (l : List Row). IsEnded s (reverse l)) (sym r) ended;
-            quiet = subst (λ (l : List Row). bus (reverse l) ≡ none) (sym r) (c.ended_traces_are_quiet.ensures.quiet s all c.requires.lawful prompt ended);
+            quiet = subst (λ (l : List Row). bus (reverse l) ≡ none) (sym r) right.quiet;
             faults =
                 subst (λ (l : List Row). expected_strikes s (reverse l) ≡ row_strikes l) (sym r)
-                (c.fault_rows_are_of_the_scenario.ensures.struck s all c.requires.lawful prompt ended ∙ ap row_strikes (reverse-reverse items));
+                (right.faults ∙ ap row_strikes (reverse-reverse items));
             history = ap (λ (l : List Event). reverse l) c.in_ok-finish.ensures.history ∙ c.in_ok-trace.ensures.history h at ∙ ap (λ (l : List Row). trace_history s (reverse l)) (sym r);
             permitted =
                 subst (λ (l : List Row). is_some (array_after s (trace_history s (reverse l))) ≡ true) (sym r) (c.prompt_traces_are_right.ensures.permitted s all c.requires.lawful prompt);
@@ -79,9 +84,23 @@ returns-clause-exact g c = λ at.
                 c.in_ok-finish.ensures.disks all plain (c.rows_tie_devices.ensures.allowed s all (h all prompt few)) places
                 ∙ ap (λ (l : List Row). disks_of (array_after s (trace_history s (reverse l)))) (sym r);
             transcript = subst (λ (l : List Row). TellsHistory s (reverse l)) (sym r) (c.transcripts_follow_prompt_traces.ensures s all c.requires.lawful prompt);
-            delivered = subst (λ (l : List Row). IsDelivered s (reverse l)) (sym r) (c.valid_commands_are_delivered.ensures.faulted s all c.requires.lawful prompt ended);
+            answered =
+                subst (λ (l : List Row). list_all (λ (o : Option Outcome). is_some o) (outcomes s (story s (reverse l))) ≡ true) (sym r) right.answered;
+            delivered = subst (λ (l : List Row). IsDelivered s (reverse l)) (sym r) (c.valid_commands_are_delivered.ensures s all c.requires.lawful prompt ended);
+            checked = λ resets aborts. subst (λ (l : List Row). AreChecked s (reverse l)) (sym r) (c.invalid_commands_are_checked.ensures s all c.requires.lawful resets aborts prompt ended);
             caused = subst (λ (l : List Row). AreCaused s (reverse l)) (sym r) (c.outcomes_have_causes.ensures s all c.requires.lawful prompt);
+            struck = subst (λ (l : List Row). HaveStrikes s (reverse l)) (sym r) (c.failures_have_strikes.ensures s all);
+            complaints = subst (λ (l : List Row). complains_truly s (reverse l) ≡ true) (sym r) (c.limits_are_kept.ensures.complains s all c.requires.lawful prompt);
+            senses = subst (λ (l : List Row). AreOwnSenses s (reverse l)) (sym r) (c.senses_are_their_own.ensures s all c.requires.lawful prompt);
+            lasting = subst (λ (l : List Row). AreAnswered s (reverse l)) (sym r) (c.replies_last.ensures.checked s all c.requires.lawful prompt);
             stopped = subst (λ (l : List Row). AreStoppedSenses s (reverse l)) (sym r) (c.senseless_checks_were_stopped.ensures s all c.requires.lawful prompt ended);
+            resets =
+                subst (λ (l : List Row). AreResets s (reverse l)) (sym r)
+                (record {
+                  begins = c.resets_are_by_lines.ensures.begins s all c.requires.lawful prompt;
+                  ends = c.resets_are_by_lines.ensures.ends s all c.requires.lawful prompt;
+                  lines = c.resets_are_by_lines.ensures.lines s all c.requires.lawful prompt ended;
+                });
           };
       devices = subst (λ (l : List Row). AreOfDevices l) (sym r) (all_reversed (λ (row : Row). row.dev < 8) items c.in_ok-trace.ensures.devices);
       early = subst (λ (l : List Row). AreEarly l) (sym r) (all_reversed (λ (row : Row). row.time < 2 ^ 62) items c.in_ok-trace.ensures.early);
