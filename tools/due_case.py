@@ -36,19 +36,24 @@ shows r = record { rows = r.rows; history = history_of r; ended = r.ended }
 """
 
 
+def print_run(name, scn):
+    """The scenario, the rows of its report, and what that shows of the run."""
+    out = scn[: -len("scn")] + "out"
+    array_case.print_scenario(name, scn, is_public=True)
+    array_case.print_rows(name, out)
+    array_case.print_events(name, array_case.report(out))
+    print("abbrev pub %s_shown : Shows" % name)
+    print("%s_shown = record { rows = reverse %s_rows; history = reverse %s_events; ended = true }\n" % (name, name, name))
+
+
 def main():
     lines = (HEAD + array_case.HEAD).splitlines()
     uses = [line for line in lines if line.startswith("use ")]
     rest = [line for line in lines if line not in uses and not line.startswith("-- ")]
     print("\n".join(HEAD.splitlines()[:2] + uses) + "\n" + DEFINITIONS + "\n".join(rest))
     for scn in sys.argv[1:]:
-        name = array_case.name_of(scn, "_due")
-        out = scn[: -len("scn")] + "out"
-        array_case.print_scenario(name, scn, is_public=True)
-        array_case.print_rows(name, out)
-        array_case.print_events(name, array_case.report(out))
-        print("abbrev pub %s_shown : Shows" % name)
-        print("%s_shown = record { rows = reverse %s_rows; history = reverse %s_events; ended = true }\n" % (name, name, name))
+        print_run(array_case.name_of(scn, "_due"), scn)
 
 
-main()
+if __name__ == "__main__":
+    main()

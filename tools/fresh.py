@@ -39,6 +39,7 @@ TOLD = [path for path in CASES if pathlib.Path(path).with_suffix(".transcript").
 TRANSCRIPTS = sorted(str(path) for path in (ROOT / "tools" / "transcript_cases").glob("*.out"))
 MAKES = sorted(str(path) for path in (ROOT / "tools" / "make_cases").glob("*.scsi"))
 SMALL = sorted(str(path) for path in (ROOT / "tools" / "run_cases").glob("*.scn"))
+GUARDS = sorted(str(path) for path in (ROOT / "tools" / "guard_cases").glob("*.scn"))
 LAWS = sorted(str(path) for path in (ROOT / "tools" / "law_cases").glob("*.scn"))
 # Of each generated file its maker's words, and the file that the maker reads from standard input, where there is one.
 MADE = {
@@ -48,6 +49,7 @@ MADE = {
     "crates/bus_due/proofs/Cases.antt": (["tools/due_case.py"] + RUNS, None),
     "crates/bus_due/proofs/RunCases.antt": (["tools/shown_case.py"] + NEAR, None),
     "crates/bus_due/proofs/SeamCases.antt": (["tools/seam_case.py", "Cases"] + NEAR, None),
+    "crates/bus_cases/proofs/GuardCases.antt": (["tools/guard_case.py"] + GUARDS, None),
     "crates/bus_cases/proofs/RunCases.antt": (["tools/shown_case.py"] + FAR, None),
     "crates/bus_cases/proofs/SeamCases.antt": (["tools/seam_case.py", "Cases"] + FAR, None),
     "crates/bus_laws/proofs/HeardCases.antt": (["tools/heard_case.py", "Cases"] + RUNS, None),

@@ -17,6 +17,13 @@ USES = """use Rattle.bus_due.specs.Next.{least}
 use Rattle.bus_due.specs.Run.{run_from, run_by_due}"""
 
 
+def print_lemma(name, scn):
+    """That the run of this scenario, which is so long, shows what its report does."""
+    fuel = len(array_case.rows(scn[: -len("scn")] + "out")) + 1
+    print("%s_run : shows (run_by_due %s %d) ≡ %s_shown" % (name, name, fuel, name))
+    print("%s least run_from\n%s_run = refl" % (run_lemmas.UNFOLDING, name))
+
+
 def main():
     names = [array_case.name_of(scn, "_due") for scn in sys.argv[1:]]
     print(COMMENT)
@@ -25,9 +32,9 @@ def main():
     print(USES)
     print("use Rattle.bus_due.proofs.Cases.{shows, %s}" % ", ".join("%s, %s_shown" % (name, name) for name in names))
     for name, scn in zip(names, sys.argv[1:]):
-        fuel = len(array_case.rows(scn[: -len("scn")] + "out")) + 1
-        print("\n%s_run : shows (run_by_due %s %d) ≡ %s_shown" % (name, name, fuel, name))
-        print("%s least run_from\n%s_run = refl" % (run_lemmas.UNFOLDING, name))
+        print()
+        print_lemma(name, scn)
 
 
-main()
+if __name__ == "__main__":
+    main()

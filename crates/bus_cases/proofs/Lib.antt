@@ -1,3 +1,4 @@
+mod GuardCases
 mod RuleCases
 mod RunCases
 mod SeamCases

@@ -190,6 +190,10 @@ calls_nobody : judged_whole (reverse (drive 1200 7 0x00280 ∷ drive 3600 7 0x00
 unfolding union_below seen_with line_of ones form_out form_in
 calls_nobody = refl
 
+calls_itself_alone : judged_whole (reverse (drive 1200 7 0x00280 ∷ drive 3600 7 0x00680 ∷ drive 4800 7 0x10780 ∷ [])) 4800 ≡ Broken 3 9
+unfolding union_below seen_with line_of ones form_out form_in
+calls_itself_alone = refl
+
 calls_three : judged_whole (reverse (drive 1200 7 0x00280 ∷ drive 3600 7 0x00680 ∷ drive 4800 7 0x10683 ∷ [])) 4800 ≡ Broken 3 9
 unfolding union_below seen_with line_of ones form_out form_in
 calls_three = refl
@@ -265,6 +269,18 @@ called_raises_atn = refl
 called_raises_more : judged_whole (reverse (drive 1200 0 0x00201 ∷ drive 3600 0 0x00601 ∷ drive 4800 0 0x01781 ∷ drive 4890 0 0x01581 ∷ drive 5290 7 0x00200 ∷ drive 5290 0 0x01781 ∷ drive 5300 7 0x10210 ∷ [])) 5300 ≡ Broken 7 10
 unfolding union_below seen_with line_of ones form_out form_in
 called_raises_more = refl
+
+third_raises_bsy : judged_whole (reverse (drive 1200 0 0x00201 ∷ drive 3600 0 0x00601 ∷ drive 4800 0 0x01781 ∷ drive 4890 0 0x01581 ∷ drive 5290 7 0x00200 ∷ drive 5290 5 0x00200 ∷ [])) 5290 ≡ Broken 6 10
+unfolding union_below seen_with line_of ones form_out form_in
+third_raises_bsy = refl
+
+caller_raises_bsy_unanswered : judged_whole (reverse (drive 1200 0 0x00201 ∷ drive 3600 0 0x00601 ∷ drive 4800 0 0x01781 ∷ drive 4890 0 0x01581 ∷ drive 5290 0 0x01781 ∷ [])) 5290 ≡ Broken 5 10
+unfolding union_below seen_with line_of ones form_out form_in
+caller_raises_bsy_unanswered = refl
+
+third_raises_atn : judged_whole (reverse (drive 1200 0 0x00201 ∷ drive 3600 0 0x00601 ∷ drive 4800 0 0x01781 ∷ drive 4890 0 0x01581 ∷ drive 5290 7 0x00200 ∷ drive 5290 5 0x10000 ∷ [])) 5290 ≡ Broken 6 10
+unfolding union_below seen_with line_of ones form_out form_in
+third_raises_atn = refl
 
 releases_sel_early : judged_whole (reverse (drive 1200 7 0x00280 ∷ drive 3600 7 0x00680 ∷ drive 4800 7 0x10781 ∷ drive 4890 7 0x10581 ∷ drive 5290 0 0x00200 ∷ drive 5379 7 0x10000 ∷ [])) 5379 ≡ Broken 6 11
 unfolding union_below seen_with line_of ones form_out form_in
@@ -397,6 +413,22 @@ target_raises_ack = refl
 initiator_raises_req : judged_whole (reverse (drive 1200 7 0x00280 ∷ drive 3600 7 0x00680 ∷ drive 4800 7 0x10781 ∷ drive 4890 7 0x10581 ∷ drive 5290 0 0x00200 ∷ drive 5380 7 0x10000 ∷ drive 5400 7 0x14000 ∷ [])) 5400 ≡ Broken 7 14
 unfolding union_below seen_with line_of ones form_out form_in
 initiator_raises_req = refl
+
+initiator_raises_req_later : judged_whole (reverse (drive 1200 7 0x00280 ∷ drive 3600 7 0x00680 ∷ drive 4800 7 0x10781 ∷ drive 4890 7 0x10581 ∷ drive 5290 0 0x00200 ∷ drive 5380 7 0x10000 ∷ drive 5380 0 0x02a00 ∷ drive 5780 7 0x14000 ∷ [])) 5780 ≡ Broken 8 14
+unfolding union_below seen_with line_of ones form_out form_in
+initiator_raises_req_later = refl
+
+initiator_raises_cd : judged_whole (reverse (drive 1200 7 0x00280 ∷ drive 3600 7 0x00680 ∷ drive 4800 7 0x10781 ∷ drive 4890 7 0x10581 ∷ drive 5290 0 0x00200 ∷ drive 5380 7 0x10000 ∷ drive 5400 7 0x10800 ∷ [])) 5400 ≡ Broken 7 14
+unfolding union_below seen_with line_of ones form_out form_in
+initiator_raises_cd = refl
+
+initiator_raises_io : judged_whole (reverse (drive 1200 7 0x00280 ∷ drive 3600 7 0x00680 ∷ drive 4800 7 0x10781 ∷ drive 4890 7 0x10581 ∷ drive 5290 0 0x00200 ∷ drive 5380 7 0x10000 ∷ drive 5400 7 0x11000 ∷ [])) 5400 ≡ Broken 7 14
+unfolding union_below seen_with line_of ones form_out form_in
+initiator_raises_io = refl
+
+initiator_raises_msg : judged_whole (reverse (drive 1200 7 0x00280 ∷ drive 3600 7 0x00680 ∷ drive 4800 7 0x10781 ∷ drive 4890 7 0x10581 ∷ drive 5290 0 0x00200 ∷ drive 5380 7 0x10000 ∷ drive 5400 7 0x12000 ∷ [])) 5400 ≡ Broken 7 14
+unfolding union_below seen_with line_of ones form_out form_in
+initiator_raises_msg = refl
 
 third_raises : judged_whole (reverse (drive 1200 7 0x00280 ∷ drive 3600 7 0x00680 ∷ drive 4800 7 0x10781 ∷ drive 4890 7 0x10581 ∷ drive 5290 0 0x00200 ∷ drive 5380 7 0x10000 ∷ drive 5400 3 0x00008 ∷ [])) 5400 ≡ Broken 7 14
 unfolding union_below seen_with line_of ones form_out form_in
@@ -661,6 +693,14 @@ leaves_answered = refl
 frees_unanswered : judged_whole (reverse (drive 1200 7 0x00280 ∷ drive 3600 7 0x00680 ∷ drive 4800 7 0x10781 ∷ drive 4890 7 0x10581 ∷ drive 5290 0 0x00200 ∷ drive 5380 7 0x10000 ∷ drive 5380 0 0x02a00 ∷ drive 5780 0 0x06a00 ∷ drive 5780 7 0x101c0 ∷ drive 5835 7 0x181c0 ∷ drive 5835 0 0x02a00 ∷ drive 5835 7 0x10000 ∷ drive 5835 0 0x06a00 ∷ drive 5835 7 0x10001 ∷ drive 5890 7 0x18001 ∷ drive 5890 0 0x02a00 ∷ drive 5890 7 0x10000 ∷ drive 5890 0 0x06a00 ∷ drive 5890 7 0x10103 ∷ drive 5945 7 0x18103 ∷ drive 5945 0 0x02a00 ∷ drive 5945 7 0x10000 ∷ drive 5945 0 0x06a00 ∷ drive 5945 7 0x10001 ∷ drive 6000 7 0x18001 ∷ drive 6000 0 0x02a00 ∷ drive 6000 7 0x10000 ∷ drive 6000 0 0x06a00 ∷ drive 6000 7 0x10032 ∷ drive 6055 7 0x18032 ∷ drive 6055 0 0x02a00 ∷ drive 6055 7 0x10000 ∷ drive 6055 0 0x06a00 ∷ drive 6055 7 0x00008 ∷ drive 6145 7 0x08008 ∷ drive 6145 0 0x02a00 ∷ drive 6145 7 0x00000 ∷ drive 6145 0 0x03a00 ∷ drive 6945 0 0x03a01 ∷ drive 7000 0 0x07a01 ∷ drive 7000 7 0x08000 ∷ drive 7000 0 0x03a00 ∷ drive 7000 7 0x00000 ∷ drive 7000 0 0x03b03 ∷ drive 7055 0 0x07b03 ∷ drive 7055 7 0x08000 ∷ drive 7055 0 0x03a00 ∷ drive 7055 7 0x00000 ∷ drive 7055 0 0x03a01 ∷ drive 7110 0 0x07a01 ∷ drive 7110 7 0x08000 ∷ drive 7110 0 0x03a00 ∷ drive 7110 7 0x00000 ∷ drive 7110 0 0x03a32 ∷ drive 7165 0 0x07a32 ∷ drive 7165 7 0x08000 ∷ drive 7165 0 0x03a00 ∷ drive 7165 7 0x00000 ∷ drive 7165 0 0x03a08 ∷ drive 7220 0 0x07a08 ∷ drive 7220 7 0x08000 ∷ drive 7220 0 0x03a00 ∷ drive 7220 7 0x00000 ∷ drive 7220 0 0x00a00 ∷ drive 7620 0 0x04a00 ∷ drive 7620 7 0x00008 ∷ drive 7675 7 0x08008 ∷ drive 7675 0 0x00a00 ∷ drive 7675 7 0x00000 ∷ drive 7675 0 0x04a00 ∷ drive 7675 7 0x00100 ∷ drive 7730 7 0x08100 ∷ drive 7730 0 0x00a00 ∷ drive 7730 7 0x00000 ∷ drive 7730 0 0x04a00 ∷ drive 7730 7 0x00100 ∷ drive 7785 7 0x08100 ∷ drive 7785 0 0x00a00 ∷ drive 7785 7 0x00000 ∷ drive 7785 0 0x04a00 ∷ drive 7785 7 0x00100 ∷ drive 7840 7 0x08100 ∷ drive 7840 0 0x00a00 ∷ drive 7840 7 0x00000 ∷ drive 7840 0 0x04a00 ∷ drive 7840 7 0x00001 ∷ drive 7895 7 0x08001 ∷ drive 7895 0 0x00a00 ∷ drive 7895 7 0x00000 ∷ drive 7895 0 0x04a00 ∷ drive 7895 7 0x00100 ∷ drive 7950 7 0x08100 ∷ drive 7950 0 0x00a00 ∷ drive 7950 7 0x00000 ∷ drive 7950 0 0x01200 ∷ drive 8750 0 0x01201 ∷ drive 8805 0 0x05201 ∷ drive 8895 0 0x01201 ∷ drive 9005 0 0x00000 ∷ [])) 9005 ≡ Broken 99 23
 unfolding union_below seen_with line_of ones form_out form_in
 frees_unanswered = refl
+
+bsy_alone_leaves_unanswered : judged_whole (reverse (drive 1200 7 0x00280 ∷ drive 3600 7 0x00680 ∷ drive 4800 7 0x10781 ∷ drive 4890 7 0x10581 ∷ drive 5290 0 0x00200 ∷ drive 5380 7 0x10000 ∷ drive 5380 0 0x02a00 ∷ drive 5780 0 0x06a00 ∷ drive 5780 7 0x101c0 ∷ drive 5835 7 0x181c0 ∷ drive 5835 0 0x02a00 ∷ drive 5835 7 0x10000 ∷ drive 5835 0 0x06a00 ∷ drive 5835 7 0x10001 ∷ drive 5890 7 0x18001 ∷ drive 5890 0 0x02a00 ∷ drive 5890 7 0x10000 ∷ drive 5890 0 0x06a00 ∷ drive 5890 7 0x10103 ∷ drive 5945 7 0x18103 ∷ drive 5945 0 0x02a00 ∷ drive 5945 7 0x10000 ∷ drive 5945 0 0x06a00 ∷ drive 5945 7 0x10001 ∷ drive 6000 7 0x18001 ∷ drive 6000 0 0x02a00 ∷ drive 6000 7 0x10000 ∷ drive 6000 0 0x06a00 ∷ drive 6000 7 0x10032 ∷ drive 6055 7 0x18032 ∷ drive 6055 0 0x02a00 ∷ drive 6055 7 0x10000 ∷ drive 6055 0 0x06a00 ∷ drive 6055 7 0x00008 ∷ drive 6145 7 0x08008 ∷ drive 6145 0 0x02a00 ∷ drive 6145 7 0x00000 ∷ drive 6145 0 0x03a00 ∷ drive 6945 0 0x03a01 ∷ drive 7000 0 0x07a01 ∷ drive 7000 7 0x08000 ∷ drive 7000 0 0x03a00 ∷ drive 7000 7 0x00000 ∷ drive 7000 0 0x03b03 ∷ drive 7055 0 0x07b03 ∷ drive 7055 7 0x08000 ∷ drive 7055 0 0x03a00 ∷ drive 7055 7 0x00000 ∷ drive 7055 0 0x03a01 ∷ drive 7110 0 0x07a01 ∷ drive 7110 7 0x08000 ∷ drive 7110 0 0x03a00 ∷ drive 7110 7 0x00000 ∷ drive 7110 0 0x03a32 ∷ drive 7165 0 0x07a32 ∷ drive 7165 7 0x08000 ∷ drive 7165 0 0x03a00 ∷ drive 7165 7 0x00000 ∷ drive 7165 0 0x03a08 ∷ drive 7220 0 0x07a08 ∷ drive 7220 7 0x08000 ∷ drive 7220 0 0x03a00 ∷ drive 7220 7 0x00000 ∷ drive 7220 0 0x00a00 ∷ drive 7620 0 0x04a00 ∷ drive 7620 7 0x00008 ∷ drive 7675 7 0x08008 ∷ drive 7675 0 0x00a00 ∷ drive 7675 7 0x00000 ∷ drive 7675 0 0x04a00 ∷ drive 7675 7 0x00100 ∷ drive 7730 7 0x08100 ∷ drive 7730 0 0x00a00 ∷ drive 7730 7 0x00000 ∷ drive 7730 0 0x04a00 ∷ drive 7730 7 0x00100 ∷ drive 7785 7 0x08100 ∷ drive 7785 0 0x00a00 ∷ drive 7785 7 0x00000 ∷ drive 7785 0 0x04a00 ∷ drive 7785 7 0x00100 ∷ drive 7840 7 0x08100 ∷ drive 7840 0 0x00a00 ∷ drive 7840 7 0x00000 ∷ drive 7840 0 0x04a00 ∷ drive 7840 7 0x00001 ∷ drive 7895 7 0x08001 ∷ drive 7895 0 0x00a00 ∷ drive 7895 7 0x00000 ∷ drive 7895 0 0x04a00 ∷ drive 7895 7 0x00100 ∷ drive 7950 7 0x08100 ∷ drive 7950 0 0x00a00 ∷ drive 7950 7 0x00000 ∷ drive 7950 0 0x01200 ∷ drive 8750 0 0x01201 ∷ drive 8805 0 0x05201 ∷ drive 8895 0 0x01201 ∷ drive 9005 0 0x01000 ∷ [])) 9005 ≡ Broken 99 23
+unfolding union_below seen_with line_of ones form_out form_in
+bsy_alone_leaves_unanswered = refl
+
+bsy_alone_leaves_answered : judged_whole (reverse (drive 1200 7 0x00280 ∷ drive 3600 7 0x00680 ∷ drive 4800 7 0x10781 ∷ drive 4890 7 0x10581 ∷ drive 5290 0 0x00200 ∷ drive 5380 7 0x10000 ∷ drive 5380 0 0x02a00 ∷ drive 5780 0 0x06a00 ∷ drive 5780 7 0x101c0 ∷ drive 5835 7 0x181c0 ∷ drive 5835 0 0x02a00 ∷ drive 5835 7 0x10000 ∷ drive 5835 0 0x06a00 ∷ drive 5835 7 0x10001 ∷ drive 5890 7 0x18001 ∷ drive 5890 0 0x02a00 ∷ drive 5890 7 0x10000 ∷ drive 5890 0 0x06a00 ∷ drive 5890 7 0x10103 ∷ drive 5945 7 0x18103 ∷ drive 5945 0 0x02a00 ∷ drive 5945 7 0x10000 ∷ drive 5945 0 0x06a00 ∷ drive 5945 7 0x10001 ∷ drive 6000 7 0x18001 ∷ drive 6000 0 0x02a00 ∷ drive 6000 7 0x10000 ∷ drive 6000 0 0x06a00 ∷ drive 6000 7 0x10032 ∷ drive 6055 7 0x18032 ∷ drive 6055 0 0x02a00 ∷ drive 6055 7 0x10000 ∷ drive 6055 0 0x06a00 ∷ drive 6055 7 0x00008 ∷ drive 6145 7 0x08008 ∷ drive 6145 0 0x02a00 ∷ drive 6145 7 0x00000 ∷ drive 6145 0 0x03a00 ∷ drive 6945 0 0x03a01 ∷ drive 7000 0 0x07a01 ∷ drive 7000 7 0x08000 ∷ drive 7000 0 0x03a00 ∷ drive 7000 7 0x00000 ∷ drive 7000 0 0x03b03 ∷ drive 7055 0 0x07b03 ∷ drive 7055 7 0x08000 ∷ drive 7055 0 0x03a00 ∷ drive 7055 7 0x00000 ∷ drive 7055 0 0x03a01 ∷ drive 7110 0 0x07a01 ∷ drive 7110 7 0x08000 ∷ drive 7110 0 0x03a00 ∷ drive 7110 7 0x00000 ∷ drive 7110 0 0x03a32 ∷ drive 7165 0 0x07a32 ∷ drive 7165 7 0x08000 ∷ drive 7165 0 0x03a00 ∷ drive 7165 7 0x00000 ∷ drive 7165 0 0x03a08 ∷ drive 7220 0 0x07a08 ∷ drive 7220 7 0x08000 ∷ drive 7220 0 0x03a00 ∷ drive 7220 7 0x00000 ∷ drive 7220 0 0x00a00 ∷ drive 7620 0 0x04a00 ∷ drive 7620 7 0x00008 ∷ drive 7675 7 0x08008 ∷ drive 7675 0 0x00a00 ∷ drive 7675 7 0x00000 ∷ drive 7675 0 0x04a00 ∷ drive 7675 7 0x00100 ∷ drive 7730 7 0x08100 ∷ drive 7730 0 0x00a00 ∷ drive 7730 7 0x00000 ∷ drive 7730 0 0x04a00 ∷ drive 7730 7 0x00100 ∷ drive 7785 7 0x08100 ∷ drive 7785 0 0x00a00 ∷ drive 7785 7 0x00000 ∷ drive 7785 0 0x04a00 ∷ drive 7785 7 0x00100 ∷ drive 7840 7 0x08100 ∷ drive 7840 0 0x00a00 ∷ drive 7840 7 0x00000 ∷ drive 7840 0 0x04a00 ∷ drive 7840 7 0x00001 ∷ drive 7895 7 0x08001 ∷ drive 7895 0 0x00a00 ∷ drive 7895 7 0x00000 ∷ drive 7895 0 0x04a00 ∷ drive 7895 7 0x00100 ∷ drive 7950 7 0x08100 ∷ drive 7950 0 0x00a00 ∷ drive 7950 7 0x00000 ∷ drive 7950 0 0x01200 ∷ drive 8750 0 0x01201 ∷ drive 8805 0 0x05201 ∷ drive 8895 0 0x01201 ∷ drive 8895 7 0x08000 ∷ drive 8985 7 0x00000 ∷ drive 9005 0 0x01000 ∷ [])) 9005 ≡ Lawful
+unfolding union_below seen_with line_of ones form_out form_in
+bsy_alone_leaves_answered = refl
 
 out_set_up_54 : judged_whole (reverse (drive 1200 7 0x00280 ∷ drive 3600 7 0x00680 ∷ drive 4800 7 0x10781 ∷ drive 4890 7 0x10581 ∷ drive 5290 0 0x00200 ∷ drive 5380 7 0x10000 ∷ drive 5380 0 0x02a00 ∷ drive 5780 0 0x06a00 ∷ drive 5780 7 0x101c0 ∷ drive 5835 7 0x181c0 ∷ drive 5835 0 0x02a00 ∷ drive 5835 7 0x10000 ∷ drive 5835 0 0x06a00 ∷ drive 5835 7 0x10001 ∷ drive 5890 7 0x18001 ∷ drive 5890 0 0x02a00 ∷ drive 5890 7 0x10000 ∷ drive 5890 0 0x06a00 ∷ drive 5890 7 0x10103 ∷ drive 5945 7 0x18103 ∷ drive 5945 0 0x02a00 ∷ drive 5945 7 0x10000 ∷ drive 5945 0 0x06a00 ∷ drive 5945 7 0x10001 ∷ drive 6000 7 0x18001 ∷ drive 6000 0 0x02a00 ∷ drive 6000 7 0x10000 ∷ drive 6000 0 0x06a00 ∷ drive 6000 7 0x10032 ∷ drive 6055 7 0x18032 ∷ drive 6055 0 0x02a00 ∷ drive 6055 7 0x10000 ∷ drive 6055 0 0x06a00 ∷ drive 6055 7 0x0010a ∷ drive 6145 7 0x0810a ∷ drive 6145 0 0x02a00 ∷ drive 6145 7 0x00000 ∷ drive 6145 0 0x03a00 ∷ drive 6945 0 0x03a01 ∷ drive 7000 0 0x07a01 ∷ drive 7000 7 0x08000 ∷ drive 7000 0 0x03a00 ∷ drive 7000 7 0x00000 ∷ drive 7000 0 0x03b03 ∷ drive 7055 0 0x07b03 ∷ drive 7055 7 0x08000 ∷ drive 7055 0 0x03a00 ∷ drive 7055 7 0x00000 ∷ drive 7055 0 0x03a01 ∷ drive 7110 0 0x07a01 ∷ drive 7110 7 0x08000 ∷ drive 7110 0 0x03a00 ∷ drive 7110 7 0x00000 ∷ drive 7110 0 0x03a32 ∷ drive 7165 0 0x07a32 ∷ drive 7165 7 0x08000 ∷ drive 7165 0 0x03a00 ∷ drive 7165 7 0x00000 ∷ drive 7165 0 0x03a08 ∷ drive 7220 0 0x07a08 ∷ drive 7220 7 0x08000 ∷ drive 7220 0 0x03a00 ∷ drive 7220 7 0x00000 ∷ drive 7220 0 0x00a00 ∷ drive 7620 0 0x04a00 ∷ drive 7620 7 0x0010a ∷ drive 7675 7 0x0810a ∷ drive 7675 0 0x00a00 ∷ drive 7675 7 0x00000 ∷ drive 7675 0 0x04a00 ∷ drive 7675 7 0x00100 ∷ drive 7730 7 0x08100 ∷ drive 7730 0 0x00a00 ∷ drive 7730 7 0x00000 ∷ drive 7730 0 0x04a00 ∷ drive 7730 7 0x00100 ∷ drive 7785 7 0x08100 ∷ drive 7785 0 0x00a00 ∷ drive 7785 7 0x00000 ∷ drive 7785 0 0x04a00 ∷ drive 7785 7 0x00100 ∷ drive 7840 7 0x08100 ∷ drive 7840 0 0x00a00 ∷ drive 7840 7 0x00000 ∷ drive 7840 0 0x04a00 ∷ drive 7840 7 0x00001 ∷ drive 7895 7 0x08001 ∷ drive 7895 0 0x00a00 ∷ drive 7895 7 0x00000 ∷ drive 7895 0 0x04a00 ∷ drive 7895 7 0x00100 ∷ drive 7950 7 0x08100 ∷ drive 7950 0 0x00a00 ∷ drive 7950 7 0x00000 ∷ drive 7950 0 0x00200 ∷ drive 8350 0 0x04200 ∷ drive 8350 7 0x00001 ∷ drive 8404 7 0x08001 ∷ [])) 8404 ≡ Broken 98 22
 unfolding union_below seen_with line_of ones form_out form_in

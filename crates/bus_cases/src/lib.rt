@@ -2,7 +2,8 @@
 //!
 //! `proofs/RuleCases.antt` has the verdicts of small traces: for each rule of `bus_rules` one that breaks it, and
 //! beside it one that keeps it by a nanosecond or a line. `proofs/RunCases.antt` has whole runs that what is due makes
-//! (`bus_due`), from their scenarios alone, and `proofs/SeamCases.antt` what holds after each of their rows. They
-//! stand here, where nothing is edited to fail, so that they are computed once; those that refuse the edits of
-//! `bus_due` stand there.
+//! (`bus_due`), from their scenarios alone, and `proofs/SeamCases.antt` what holds after each of their rows.
+//! `proofs/GuardCases.antt` has further whole runs, each of which decides a condition of the definitions that no other
+//! does. They stand here, where nothing is edited to fail, so that they are computed once; those that refuse the edits
+//! of `bus_due` stand there.
 #![tactic(auto)]
