@@ -3,7 +3,7 @@
 
     tools/doc_names.py
 
-A name between backquotes has to stand somewhere in the crates or in tools/, a path has to lead to a file or a folder, from the top, from
+A name between backquotes has to stand somewhere in the crates, in tools/ or in include/, a path has to lead to a file or a folder, from the top, from
 crates/ or from a crate. Prints each that does not with its page and line, and ends with status 1 where there is one.
 """
 import pathlib
@@ -21,8 +21,9 @@ def names():
     for pattern in ("src/**/*.rt", "specs/**/*.antt", "proofs/**/*.antt"):
         for path in ROOT.glob("crates/*/" + pattern):
             found.update(NAME.findall(path.read_text()))
-    for path in ROOT.glob("tools/*.*"):
-        found.update(NAME.findall(path.read_text()))
+    for pattern in ("tools/*.*", "include/*.h"):
+        for path in ROOT.glob(pattern):
+            found.update(NAME.findall(path.read_text()))
     return found
 
 

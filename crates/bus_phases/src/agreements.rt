@@ -8,6 +8,7 @@ use crate::spoken::{Spoken, asynchronous};
 use bus_trace::{Agreement, Connection, Lines, ScsiId};
 
 /// The agreement of each pair of an initiator and a target.
+#[repr(C)]
 #[derive(Clone, Copy)]
 pub struct Agreements {
     periods: [u8; 64],

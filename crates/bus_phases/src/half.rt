@@ -2,7 +2,9 @@
 ghost use Rattle.std.specs.Prelude.{◌≡◌, ◌∷◌, [], ◌++◌};
 ghost use Rattle.msg_grammar.specs.Messages.{got_out, got_in};
 ghost use Rattle.bus_phases.specs.Half.{left_of, is_nil};
+ghost use Rattle.bus_phases.specs.Saved.{half_in};
 
+use crate::saved::SavedHalf;
 use arrayvec::ArrayVec;
 use msg_grammar::{Got, MsgIn, MsgOut, decode_in, decode_out};
 use std::marker::Model;
@@ -46,6 +48,29 @@ impl Half {
     {
         let mut bytes = ArrayVec::new();
         let _ = bytes.try_extend_from_slice(self.bytes.as_slice());
+        Half { bytes }
+    }
+
+    /// The bytes as plain words.
+    pub fn saved(&self) -> SavedHalf
+        ensures { half_in result ≡ self.now }
+    {
+        let own = self.bytes.as_slice();
+        let mut bytes = [0; 8];
+        bytes[..own.len()].copy_from_slice(own);
+        SavedHalf {
+            length: own.len() as u64,
+            bytes,
+        }
+    }
+
+    /// The bytes that plain words say.
+    pub fn restored(saved: &SavedHalf) -> Half
+        ensures { result ≡ half_in saved.now }
+    {
+        let length = (saved.length % 5) as usize;
+        let mut bytes = ArrayVec::new();
+        let _ = bytes.try_extend_from_slice(&saved.bytes[..length]);
         Half { bytes }
     }
 

@@ -18,6 +18,7 @@ mod half;
 mod pulses;
 mod raises;
 mod reading;
+mod saved;
 mod spoken;
 mod words;
 
@@ -30,6 +31,9 @@ pub use msg_grammar::{Got, MsgIn, MsgOut};
 pub use pulses::{Pulses, count_after, no_pulses, pulses_after, turned_after};
 pub use raises::Raises;
 pub use reading::{Reading, reading_in, reading_out};
+pub use saved::{
+    SavedDialogue, SavedHalf, SavedHeard, SavedPulses, SavedSpoken, duty_in, duty_word,
+};
 pub use spoken::{CommandBytes, Heard, Spoken, asynchronous};
 pub use words::{End, Word, is_same_end, word_in, word_out};
 

@@ -10,6 +10,7 @@ use bus_base::{Dev, Ns};
 use bus_trace::rises;
 
 /// When each of the eight devices last raised a line, or 0, in ns.
+#[repr(C)]
 #[derive(Clone, Copy)]
 pub struct Raises {
     times: [Ns; 8],

@@ -10,6 +10,7 @@ pub mod Rules
 pub mod Judging
 pub mod Lawful
 pub mod DataRows
+pub mod Saved
 -- Handed on to the crates above that list this one and not these.
 pub use Rattle.bus_base
 pub use Rattle.bus_trace

@@ -11,6 +11,7 @@ ghost use Rattle.bus_rules.specs.Seen.{seen, seen_with, other_drives, others_dri
 use crate::course::Course;
 use crate::data_rows::passes;
 use crate::rules::lowest_broken;
+use crate::saved::{SavedCourse, SavedTerms};
 use crate::seen::Seen;
 use crate::verdict::RuleNo;
 use bus_base::{Dev, Ns};
@@ -124,6 +125,7 @@ pub fn target_data(view: &LineView, connection: Option<Connection>) -> bool
 
 impl Terms {
     ghost use Rattle.bus_rules.specs.Judging.{IsTermsOf};
+    ghost use Rattle.bus_rules.specs.Saved.{terms_in};
 
     /// The terms before any row.
     pub fn new() -> Terms
@@ -132,6 +134,26 @@ impl Terms {
         Terms {
             view: LineView::new(),
             course: Course::new(),
+        }
+    }
+
+    /// The terms as plain words.
+    pub fn saved(&self) -> SavedTerms
+        ensures { terms_in result ≡ self.now }
+    {
+        SavedTerms {
+            view: self.view.saved(),
+            course: SavedCourse::of(&self.course),
+        }
+    }
+
+    /// The terms that plain words say.
+    pub fn restored(saved: &SavedTerms) -> Terms
+        ensures { result ≡ terms_in saved.now }
+    {
+        Terms {
+            view: LineView::restored(&saved.view),
+            course: saved.course.get(),
         }
     }
 

@@ -11,3 +11,4 @@ pub mod Views
 pub mod Sample
 pub mod SameAgreement
 pub mod Connections
+mod Eight

@@ -26,6 +26,7 @@ mod line_times;
 mod line_view;
 mod phases;
 mod rows;
+mod saved;
 mod scsi_id;
 mod selection;
 
@@ -55,6 +56,10 @@ pub use line_times::LineTimes;
 pub use line_view::LineView;
 pub use phases::{changes_phase, is_command, is_data, is_message_in, is_message_out, is_reserved};
 pub use rows::{Kind, Row};
+pub use saved::{
+    SavedArbitration, SavedCall, SavedCalling, SavedConnection, SavedTime, SavedView, byte_in,
+    byte_word, id_or_none_in, id_or_none_word, is_yes, lines_in, lines_word, word_of,
+};
 pub use scsi_id::ScsiId;
 pub use selection::{Call, Calling, call_after, drives_two_ids, is_fault, when};
 

@@ -9,6 +9,7 @@ use crate::line_set::Lines;
 use bus_base::Ns;
 
 /// Since when each line but the data lines stands as it does, in ns: when it last changed on the bus, or 0.
+#[repr(C)]
 #[derive(Clone, Copy)]
 pub struct LineTimes {
     /// BSY.

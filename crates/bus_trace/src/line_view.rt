@@ -5,11 +5,13 @@ ghost use Rattle.bus_trace.specs.LineSet.{LineSet, line_of, data_of};
 ghost use Rattle.bus_trace.specs.View.{driven_at, time_of_line, AreBefore, AreTimesBefore, IsUpTo};
 ghost use Rattle.bus_trace.specs.Trace.{drives, driven_after, bus, last_time, newer, since, no_times, line_times, free_time, phase_time, IsViewOf};
 ghost use Rattle.bus_trace.specs.Terms.{free_since};
+ghost use Rattle.bus_trace.specs.Saved.{view_in};
 ghost use Rattle.bus_trace.specs.Phases.{phase_since};
 
 use crate::line_set::Lines;
 use crate::line_times::LineTimes;
 use crate::rows::Row;
+use crate::saved::{SavedView, lines_in, lines_word};
 use bus_base::{Dev, Ns};
 use std::marker::Model;
 
@@ -56,6 +58,52 @@ impl LineView {
             data_changed: 0,
             times: LineTimes::new(),
             last: 0,
+        }
+    }
+
+    /// The view as plain words.
+    pub fn saved(&self) -> SavedView
+        ensures { view_in result ≡ self.now }
+    {
+        SavedView {
+            driven: [
+                lines_word(self.driven[0]),
+                lines_word(self.driven[1]),
+                lines_word(self.driven[2]),
+                lines_word(self.driven[3]),
+                lines_word(self.driven[4]),
+                lines_word(self.driven[5]),
+                lines_word(self.driven[6]),
+                lines_word(self.driven[7]),
+            ],
+            present: lines_word(self.present),
+            data_lines: self.data_lines,
+            data_changed: self.data_changed,
+            times: self.times,
+            last: self.last,
+        }
+    }
+
+    /// The view that plain words say.
+    pub fn restored(saved: &SavedView) -> LineView
+        ensures { result ≡ view_in saved.now }
+    {
+        LineView {
+            driven: [
+                lines_in(saved.driven[0]),
+                lines_in(saved.driven[1]),
+                lines_in(saved.driven[2]),
+                lines_in(saved.driven[3]),
+                lines_in(saved.driven[4]),
+                lines_in(saved.driven[5]),
+                lines_in(saved.driven[6]),
+                lines_in(saved.driven[7]),
+            ],
+            present: lines_in(saved.present),
+            data_lines: saved.data_lines,
+            data_changed: saved.data_changed,
+            times: saved.times,
+            last: saved.last,
         }
     }
 

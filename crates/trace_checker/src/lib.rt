@@ -12,8 +12,9 @@ ghost use Rattle.bus_rules.specs.Rules.{judged, judged_whole, verdict_of, if_law
 
 use bus_base::Ns;
 pub use bus_rules::Verdict;
-use bus_rules::{RuleNo, Terms, end_row, lowest_at_end};
+use bus_rules::{RuleNo, SavedTerms, Terms, end_row, lowest_at_end};
 pub use bus_trace::{Kind, Lines, Row};
+use bus_trace::{byte_in, byte_word};
 
 /// A judge of the rows of a trace so far.
 #[derive(Drop)]
@@ -21,6 +22,66 @@ pub struct Judge {
     terms: Terms,
     count: usize,
     verdict: Verdict,
+}
+
+/// A verdict as plain words.
+#[repr(C)]
+#[derive(Clone, Copy)]
+pub struct SavedVerdict {
+    /// Whether a row broke a rule.
+    pub is_broken: u64,
+    /// The row, counted from 1.
+    pub row: u64,
+    /// The lowest rule that it broke.
+    pub rule: u64,
+}
+
+impl SavedVerdict {
+    ghost use Rattle.trace_checker.specs.Saved.{verdict_in};
+
+    /// Saves a verdict.
+    pub fn of(verdict: Verdict) -> SavedVerdict
+        ensures { verdict_in result ≡ verdict }
+    {
+        match verdict {
+            Verdict::Lawful => SavedVerdict {
+                is_broken: 0,
+                row: 0,
+                rule: 0,
+            },
+            Verdict::Broken { row, rule } => SavedVerdict {
+                is_broken: 1,
+                row: row as u64,
+                rule: byte_word(rule),
+            },
+        }
+    }
+
+    /// The verdict that was saved.
+    pub fn get(&self) -> Verdict
+        ensures { result ≡ verdict_in self.now }
+    {
+        if self.is_broken == 0 {
+            Verdict::Lawful
+        } else {
+            Verdict::Broken {
+                row: self.row as usize,
+                rule: byte_in(self.rule),
+            }
+        }
+    }
+}
+
+/// A judge as plain words, which can be copied, written to a file and read back. Any words say some judge.
+#[repr(C)]
+#[derive(Clone, Copy)]
+pub struct SavedJudge {
+    /// The terms of the rules.
+    pub terms: SavedTerms,
+    /// How many rows it has seen.
+    pub count: u64,
+    /// Its verdict on them.
+    pub verdict: SavedVerdict,
 }
 
 // A verdict, if none was given before; the row's place is counted from 1.
@@ -36,6 +97,7 @@ fn joined(old: Verdict, broken: Option<RuleNo>, row: usize) -> Verdict
 
 impl Judge {
     ghost use Rattle.trace_checker.specs.Judging.{IsJudgeOf};
+    ghost use Rattle.trace_checker.specs.Saved.{judge_in};
 
     /// A judge that has seen no row.
     pub fn new() -> Judge
@@ -46,6 +108,35 @@ impl Judge {
             count: 0,
             verdict: Verdict::Lawful,
         }
+    }
+
+    /// The judge as plain words.
+    pub fn saved(&self) -> SavedJudge
+        ensures { judge_in result ≡ self.now }
+    {
+        SavedJudge {
+            terms: self.terms.saved(),
+            count: self.count as u64,
+            verdict: SavedVerdict::of(self.verdict),
+        }
+    }
+
+    /// The judge that plain words say.
+    pub fn restored(saved: &SavedJudge) -> Judge
+        ensures { result ≡ judge_in saved.now }
+    {
+        Judge {
+            terms: Terms::restored(&saved.terms),
+            count: saved.count as usize,
+            verdict: saved.verdict.get(),
+        }
+    }
+
+    /// The verdict on the rows so far.
+    pub fn verdict(&self) -> Verdict
+        ensures { (rows : List Row) → IsJudgeOf rows self.now → result ≡ judged rows }
+    {
+        self.verdict
     }
 
     /// Takes one row more: the verdict on the rows so far. A broken verdict stays.
