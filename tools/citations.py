@@ -11,8 +11,8 @@ import re
 import sys
 
 ROOT = pathlib.Path(__file__).resolve().parent.parent
-# A number of two parts or more, from clause 5 on, that is no decimal, version, time or name of a process without a tag.
-CLAUSE = re.compile(r"(?<![\w.,])([5-9](?:\.\d{1,2}){1,3})(?![\w.]*\d)(?!\.-)(?!\s*(?:ns|s|MiB|times|GiB|KiB|MB)\b)")
+# A number of two parts or more, from clause 5 on, that is no decimal, version, time, share or name of a process without a tag.
+CLAUSE = re.compile(r"(?<![\w.,])([5-9](?:\.\d{1,2}){1,3})(?![\w.]*\d)(?!\.-)(?!\s*(?:ns|s|MiB|times|GiB|KiB|MB)\b)(?!\s*%)")
 # A name in capitals with its clauses, as in ABORT TAG (6.6.2) or IDENTIFY (6.1.4, 6.6.7); what holds from one to another is of several names.
 NAMED = re.compile(r"\b([A-Z]{2,}(?: [A-Z]{2,})*) \(([5-9]\.[\d., ]*\d)\)")
 COMMENTS = {".antt": "--", ".rt": "//"}

@@ -3,8 +3,8 @@
 
     tools/doc_names.py
 
-A name between backquotes has to stand somewhere in the crates, in tools/ or in include/, a path has to lead to a file or a folder, from the top, from
-crates/ or from a crate. Prints each that does not with its page and line, and ends with status 1 where there is one.
+A name between backquotes has to stand somewhere in the crates, in tools/, scope/ or include/, a path has to lead to a file or a folder, from the top,
+from crates/ or from a crate. Prints each that does not with its page and line, and ends with status 1 where there is one.
 """
 import pathlib
 import re
@@ -16,12 +16,12 @@ PATH = re.compile(r"(?:[\w-]+/)+[\w.-]*|\w+\.(?:antt|rt|py)")
 
 
 def names():
-    """Every word of code, definitions, proofs and tools, and each must-fail edit's name."""
+    """Every word of code, definitions, proofs, tools and scope/, and each must-fail edit's name."""
     found = {edit.stem for edit in ROOT.glob("crates/*/must-fail/*.edit")}
     for pattern in ("src/**/*.rt", "specs/**/*.antt", "proofs/**/*.antt"):
         for path in ROOT.glob("crates/*/" + pattern):
             found.update(NAME.findall(path.read_text()))
-    for pattern in ("tools/*.*", "include/*.h"):
+    for pattern in ("tools/*.*", "scope/*/*.py", "include/*.h"):
         for path in ROOT.glob(pattern):
             found.update(NAME.findall(path.read_text()))
     return found
