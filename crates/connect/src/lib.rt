@@ -7,6 +7,9 @@
 //! view and its rows lead, and `stepping.rt` what it does in them. No call takes memory. Stands on `bus_lines` and
 //! `bus_reactions`.
 //!
+//! A run goes by [`link_due`] alone. The seven states serve a caller with devices of his own, one at a time, who steps
+//! each by the clock; here only tests do.
+//!
 //! Public contract: of the view of any rows, lawful or not, [`link_due`] is the reaction that `bus_due` applies; a
 //! step of any state makes a row exactly where one is due by now, tells when one is due later, and samples the IDs
 //! exactly where the device is called and its time has come (`IsStepOf` of `specs/Steps.antt`).

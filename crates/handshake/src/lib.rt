@@ -6,6 +6,9 @@
 //! phase, and [`hand_due`] says the same of either end by the view of the bus. Stands on `bus_lines` and
 //! `bus_reactions`.
 //!
+//! A run goes by [`hand_due`] alone. The four ends with a step of their own ([`HostSend`], [`HostTake`],
+//! [`TargetSend`], [`TargetTake`]) serve a caller with devices of his own, one at a time; here only tests step them.
+//!
 //! Public contract: for every list of rows, lawful or not, `hand_due` is the definition by which `bus_due` says what
 //! is due; and a step of [`HostSend`], [`HostTake`], [`TargetSend`] or [`TargetTake`] is what `specs/Steps.antt` says
 //! of these rows. It makes a row exactly where the next reaction of its end is due at or before its time, and else

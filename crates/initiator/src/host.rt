@@ -397,7 +397,8 @@ impl Host {
         initiator_next(&self.def, observer, &known, fault)
     }
 
-    /// What it does at this moment, in ns: the row that is due by then, or when its next one is. It changes nothing.
+    /// What it does at this moment, in ns: the row that is due by then, or when its next one is. It changes nothing. A
+    /// run asks `due`; a step serves a caller that has one device and a clock.
     pub fn step(&self, observer: &Observer, now: Ns, fault: Option<FaultDef>) -> Act
         requires timely { IsTimely (2 ^ 63) observer.now.view }
         ensures { (s : ScenarioValue) (rows : List Row) → FitsBus s → IsObserverOf rows observer.now

@@ -1,5 +1,5 @@
 use Rattle.bus_books.proofs.Struck.{strikes_are}
-use Rattle.bus_books.proofs.laws.failures_have_strikes.Goals as goal
+use Rattle.bus_books.proofs.causes.failures_have_strikes.Goals as goal
 
 pub returns : goal.returns
 returns c = λ s rows id code h. strikes_are s rows id code h

@@ -1,6 +1,6 @@
 use Rattle.bus_books.proofs.Counts.{struck_is, counted}
 use Rattle.bus_books.proofs.GiveUps.{failure_is, loss_is}
-use Rattle.bus_books.proofs.laws.give_ups_have_causes.Goals as goal
+use Rattle.bus_books.proofs.causes.give_ups_have_causes.Goals as goal
 
 pub returns-clause-struck : goal.returns-clause-struck
 returns-clause-struck c = λ s rows h. struck_is s rows h

@@ -1,6 +1,6 @@
 use Rattle.bus_books.proofs.Faults.{faults_are, faults_pass}
 use Rattle.bus_books.proofs.FailureTraces.{failures_are, losses_are}
-use Rattle.bus_books.proofs.laws.limits_are_passed.Goals as goal
+use Rattle.bus_books.proofs.causes.limits_are_passed.Goals as goal
 
 pub returns-clause-failures : goal.returns-clause-failures
 returns-clause-failures c = λ s rows p code f t own h. failures_are s rows p code f t own h

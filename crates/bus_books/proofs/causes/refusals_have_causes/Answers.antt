@@ -1,5 +1,5 @@
 use Rattle.bus_books.proofs.Refusals.{refused_exactly, refused_by_plan}
-use Rattle.bus_books.proofs.laws.refusals_have_causes.Goals as goal
+use Rattle.bus_books.proofs.causes.refusals_have_causes.Goals as goal
 
 pub returns-clause-array : goal.returns-clause-array
 returns-clause-array c = λ s a id. refused_exactly s a id

@@ -4,7 +4,7 @@ use Rattle.bus_due.specs.disk_array.specs.Units.{Array}
 use Rattle.bus_books.proofs.Refusals.{full_in_trace}
 use Rattle.bus_books.proofs.Replies.{reply_caused, full_caused}
 use Rattle.bus_books.proofs.Senses.{sense_caused}
-use Rattle.bus_books.proofs.laws.replies_have_causes.Goals as goal
+use Rattle.bus_books.proofs.causes.replies_have_causes.Goals as goal
 
 pub returns-clause-replies : goal.returns-clause-replies
 returns-clause-replies c = λ s h a id reply z e. reply_caused s h a id reply z e
