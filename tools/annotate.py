@@ -48,14 +48,14 @@ def phase(bits, linked):
     return PHASES.get((bits >> 13 & 1, bits >> 11 & 1, bits >> 12 & 1), "reserved")
 
 
-def main():
-    count = int(sys.argv[1]) if len(sys.argv) > 1 else None
+def table(rows):
+    """The lines of a table of these rows, as a trace has them."""
     driven, before, linked = [0] * 8, 0, False
-    print("| Time | Device | Drives | Changes on the bus | Bus |\n|---|---|---|---|---|")
-    for line in sys.stdin.read().split("\nend ", 1)[0].splitlines()[1:][:count]:
-        time, device, kind = line.split()
+    made = ["| Time | Device | Drives | Changes on the bus | Bus |", "|---|---|---|---|---|"]
+    for row in rows:
+        time, device, kind = row.split()
         if kind.startswith("f"):
-            print("| %s | %s | fault of bit %s | nothing | %s |" % (time, device, kind[1:], phase(before, linked)))
+            made.append("| %s | %s | fault of bit %s | nothing | %s |" % (time, device, kind[1:], phase(before, linked)))
             continue
         driven[int(device)] = int(kind, 16)
         after = 0
@@ -63,8 +63,15 @@ def main():
             after |= bits
         # A connection begins as SEL falls while BSY is true, and ends with BSY.
         linked = bool(after >> 9 & 1) and (linked or bool((before & ~after) >> 10 & 1))
-        print("| %s | %s | %s | %s | %s |" % (time, device, lines(driven[int(device)]), change(before, after), phase(after, linked)))
+        made.append("| %s | %s | %s | %s | %s |" % (time, device, lines(driven[int(device)]), change(before, after), phase(after, linked)))
         before = after
+    return made
 
 
-main()
+def main():
+    count = int(sys.argv[1]) if len(sys.argv) > 1 else None
+    print("\n".join(table(sys.stdin.read().split("\nend ", 1)[0].splitlines()[1:][:count])))
+
+
+if __name__ == "__main__":
+    main()

@@ -6,7 +6,7 @@ after it.
     tools/books_case.py --whole tools/cases/*.scn > crates/bus_books/proofs/StoryCases.antt
     tools/books_case.py --reads tools/due_cases/one_read.scn .. > crates/right_laws/proofs/Cases.antt
     tools/books_case.py --given tools/due_cases/one_read.scn .. > crates/right_laws/proofs/GivenCases.antt
-    tools/books_case.py --debts tools/due_cases/*.scn > crates/progress_laws/proofs/DebtCases.antt
+    tools/books_case.py --debts tools/due_cases/hold_of_a_unit.scn .. > crates/progress_laws/proofs/DebtCases.antt
 
 With `--reads` and `--given` the lemmas say instead what processes have carried of their data, and what is asked of each row of it (`ReadTests` and
 `GivenTests` of crates/right_laws/specs). With `--debts` they say which senses are owed (`DebtTests` of crates/progress_laws/specs). With `--whole` it writes the scenarios and their rows, too, those of the report NAME.out beside each NAME.scn, which comes from outside

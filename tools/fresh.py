@@ -33,6 +33,13 @@ READS = [
         "absent_unit", "given_up", "queue_orders", "own_processes_aborted", "text_two",
     )
 ] + [str(ROOT / "tools" / "cases" / "read_whole_after_a_part.scn")]
+DEBTS = [
+    str(ROOT / "tools" / "due_cases" / (name + ".scn"))
+    for name in (
+        "hold_of_a_unit", "held_reselection", "given_up", "lost", "status_given_up", "command_given_up", "data_in_given_up", "data_out_given_up",
+        "own_processes_aborted", "device_reset_by_message", "absent_unit", "queue_cleared", "status_struck",
+    )
+]
 STORIES = [path for path in CASES if path not in RUNS]
 DUMPS = sorted(str(path) for path in (ROOT / "tools" / "dump_cases").glob("*.out"))
 TOLD = [path for path in CASES if pathlib.Path(path).with_suffix(".transcript").exists()]
@@ -57,6 +64,7 @@ MADE = {
     "crates/bus_books/proofs/StoryCases.antt": (["tools/books_case.py", "--whole"] + STORIES, None),
     "crates/right_laws/proofs/Cases.antt": (["tools/books_case.py", "--reads"] + READS, None),
     "crates/right_laws/proofs/GivenCases.antt": (["tools/books_case.py", "--given"] + READS, None),
+    "crates/progress_laws/proofs/DebtCases.antt": (["tools/books_case.py", "--debts"] + DEBTS, None),
     "crates/bus_laws/proofs/WrittenCases.antt": (["tools/written_case.py", "Cases"] + RUNS, None),
     "crates/disk_target/proofs/AttendedCases.antt": (["tools/attended_case.py", "Cases"] + RUNS, None),
     "crates/bus_books/proofs/CauseRunCases.antt": (["tools/cause_case.py", "Cases"] + RUNS, None),

@@ -21,8 +21,8 @@ HEAD = """# Traceability
 
 Written by `tools/traceability.py`. Of each rule of [rules.md](rules.md): its clause in ANSI X3.131-1994, the definition, the function
 that judges it, how many traces in `tools/rule_cases.txt` break it, and the edits of its function that the check refuses. Of each
-reaction of [behaviour.md](behaviour.md): its clause, its definitions, its functions, where there is code so far, and the edits of
-both that the check refuses.
+reaction of [behaviour.md](behaviour.md): its clause, its definitions, the functions of the same name, and the edits of both that the
+check refuses.
 
 ## Rules
 
