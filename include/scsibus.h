@@ -7,8 +7,8 @@
  *
  * Memory: rows, judges and verdicts stand in memory of the caller. The library takes no memory, keeps nothing between
  *   calls and holds no pointer after a call. It calls nothing but memcpy, memmove and memset.
- * Pointers: each points to that many whole values, aligned as C wants them. `rows` may be null where `count` is 0.
- *   A verdict may not overlap the rows or the judge of the same call.
+ * Pointers: none is null, `rows` neither where `count` is 0; each points to that many whole values, aligned as C wants
+ *   them. A verdict may not overlap the rows or the judge of the same call.
  * Values: any values of rows, counts, times and judges get an answer. No call stops the program, waits or fails.
  * Threads: functions may be called from any thread at any time, from signal handlers too, where no other call writes
  *   the memory that the call reads or writes.
