@@ -2,9 +2,9 @@
 //!
 //! What stands on the bus after some rows, lawful or not, is said by `bus_trace`: an arbitration, a call
 //! (selection or reselection), a connection, a byte that crosses. `bus_phases` goes on from there: pulses,
-//! attention, messages. `specs/Order.antt`, `FreeBus.antt`, `Selection.antt` and `Reset.antt` have one test a rule,
-//! of a row after the rows before it, and `specs/Rules.antt` the rules by their numbers. It stands on
-//! `bus_phases`, `bus_trace` and `bus_base`.
+//! attention, messages. `specs/Order.antt`, `FreeBus.antt`, `Selection.antt`, `Connected.antt`, `Transfer.antt`,
+//! `Messages.antt` and `Reset.antt` have one test a rule, of a row after the rows before it, and `specs/Rules.antt` the
+//! rules by their numbers. It stands on `bus_phases`, `bus_trace`, `cdb_codec` and `bus_base`.
 //!
 //! Its contract: [`broken`] and [`broken_end`] are the lowest rule that a row, or the end, breaks;
 //! [`judge_plain`] is the first broken row of a trace with its lowest rule. [`Terms`] are the terms of

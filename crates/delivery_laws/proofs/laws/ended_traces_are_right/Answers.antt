@@ -1,7 +1,7 @@
 use Rattle.delivery_laws.proofs.laws.ended_traces_are_right.Goals as goal
 
-pub returns-clause : goal.returns-clause
-returns-clause c = λ s rows o prompt end. record {
+pub returns : goal.returns
+returns c = λ s rows o prompt end. record {
   lawful = c.ended_traces_are_quiet.ensures.lawful s rows o prompt end;
   quiet = c.ended_traces_are_quiet.ensures.quiet s rows o prompt end;
   told = c.prompt_traces_are_right.ensures.right s rows o prompt;
