@@ -1,5 +1,5 @@
 -- In some runs the target goes to BUS FREE only where it is due to, and each complaint of the initiator is of a phase in which a byte was
--- struck. Written by tools/cause_case.py.
+-- struck. Written by tools/makers/cause_case.py.
 use Rattle.std.proofs.Common.{[], refl}
 use lib.Count.{ones}
 use Rattle.bus_due.specs.bus_trace.specs.LineSet.{line_of}

@@ -1,4 +1,4 @@
--- Each row of some runs is as it is due to be, and the books hold after it. Written by tools/books_case.py.
+-- Each row of some runs is as it is due to be, and the books hold after it. Written by tools/makers/books_case.py.
 use Rattle.std.proofs.Common.{◌≡◌, true, refl}
 use lib.Count.{ones}
 use Rattle.bus_due.specs.bus_trace.specs.LineSet.{line_of}

@@ -1,5 +1,5 @@
 -- Whole runs, computed from their scenarios by what is due, are those of their reports, which an independent simulator printed. Each
--- decides a condition of the definitions that no other run does. Written by tools/guard_case.py.
+-- decides a condition of the definitions that no other run does. Written by tools/makers/guard_case.py.
 use Rattle.bus_due.specs.bus_trace.specs.LineSet.{set_of}
 use Rattle.bus_due.specs.bus_trace.specs.declared.Row.{Row}
 use Rattle.bus_due.specs.bus_trace.specs.declared.Kind.TheVariants.{Drives, Fault}

@@ -1,5 +1,5 @@
 -- Small traces and their verdicts, computed: for each rule one that breaks it and nothing else before, and
--- beside it one that keeps it by a nanosecond or a line. Written by tools/rule_cases.py from
+-- beside it one that keeps it by a nanosecond or a line. Written by tools/makers/rule_cases.py from
 -- tools/rule_cases.txt, whose verdicts come from an independent judge.
 use Rattle.std.proofs.Common.{ℕ, ◌≡◌, [], ◌∷◌, reverse, refl}
 use lib.Count.{ones}

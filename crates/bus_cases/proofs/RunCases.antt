@@ -1,4 +1,4 @@
--- Whole runs, computed from their scenarios by what is due, are those of the reports. Written by tools/shown_case.py.
+-- Whole runs, computed from their scenarios by what is due, are those of the reports. Written by tools/makers/shown_case.py.
 use Rattle.std.proofs.Common.{◌≡◌, refl}
 use lib.Count.{ones}
 use Rattle.bus_due.specs.bus_trace.specs.LineSet.{line_of}

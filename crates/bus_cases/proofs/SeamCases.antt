@@ -1,5 +1,5 @@
 -- What crossed is what was to be said, each end shows the events that the rows show, the array permits them, and the bus is
--- sound, after each row of some runs. Written by tools/seam_case.py.
+-- sound, after each row of some runs. Written by tools/makers/seam_case.py.
 use Rattle.std.proofs.Common.{[], refl}
 use lib.Count.{ones}
 use Rattle.bus_due.specs.bus_trace.specs.LineSet.{line_of}

@@ -1,5 +1,5 @@
 -- Whole runs: their scenarios, and the rows and histories of their reports, which an independent simulator printed.
--- Written by tools/due_case.py.
+-- Written by tools/makers/due_case.py.
 use Rattle.bus_rules.specs.bus_trace.specs.LineSet.{set_of}
 use Rattle.bus_rules.specs.bus_trace.specs.declared.Row.{Row}
 use Rattle.bus_rules.specs.bus_trace.specs.declared.Kind.TheVariants.{Drives, Fault}

@@ -1,4 +1,4 @@
--- Runs with few connections: their rows are prompt, lawful and sound, computed. Written by tools/law_case.py.
+-- Runs with few connections: their rows are prompt, lawful and sound, computed. Written by tools/makers/law_case.py.
 use Rattle.bus_due.specs.bus_trace.specs.LineSet.{set_of, line_of}
 use Rattle.bus_due.specs.bus_trace.specs.View.{union_below}
 use Rattle.bus_due.specs.bus_trace.specs.declared.Row.{Row}

@@ -1,4 +1,4 @@
--- What targets hear is of the processes that they serve, after each row of some runs. Written by tools/heard_case.py.
+-- What targets hear is of the processes that they serve, after each row of some runs. Written by tools/makers/heard_case.py.
 use Rattle.std.proofs.Common.{◌≡◌, true, [], refl}
 use lib.Count.{ones}
 use Rattle.bus_due.specs.bus_trace.specs.LineSet.{line_of}

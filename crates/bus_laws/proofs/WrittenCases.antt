@@ -1,4 +1,4 @@
--- Writes come whole, after each row of some runs. Written by tools/written_case.py.
+-- Writes come whole, after each row of some runs. Written by tools/makers/written_case.py.
 use Rattle.std.proofs.Common.{◌≡◌, true, [], refl}
 use lib.Count.{ones}
 use Rattle.bus_due.specs.bus_trace.specs.LineSet.{line_of}

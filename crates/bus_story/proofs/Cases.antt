@@ -1,5 +1,5 @@
 -- Whole runs, read off the rows of their traces and computed: the histories are those of the reports, which an
--- independent simulator printed. Written by tools/story_case.py.
+-- independent simulator printed. Written by tools/makers/story_case.py.
 use Rattle.bus_phases.specs.bus_trace.specs.LineSet.{set_of, line_of}
 use Rattle.bus_phases.specs.bus_trace.specs.View.{union_below}
 use Rattle.bus_phases.specs.bus_trace.specs.declared.Row.{Row}

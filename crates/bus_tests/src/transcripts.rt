@@ -1,4 +1,5 @@
-//! Tests of `bus_transcript`: traces of devices that do what no device of ours does, as `tools/random_trace.py` makes
+//! Tests of `bus_transcript`: traces of devices that do what no device of ours does, as
+//! `tools/comparisons/random_trace.py` makes
 //! them, and sinks that fail at every call. The transcripts are those of an independent simulator.
 use bus_base::{MemSink, NoMemory};
 use bus_transcript::{Transcriber, Transcript, print_transcript, transcribe};

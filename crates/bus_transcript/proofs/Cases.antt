@@ -1,4 +1,4 @@
--- Traces and their transcripts, computed; an independent program printed them. Written by tools/transcript_case.py.
+-- Traces and their transcripts, computed; an independent program printed them. Written by tools/makers/transcript_case.py.
 use Rattle.std.proofs.Common.{ℕ, ◌≡◌, true, false, List, [], ◌∷◌, ◌++◌, reverse, refl}
 use Rattle.std.specs.Prelude.{Option, Some, None, codes}
 use Rattle.std.specs.Fmt.{digits}

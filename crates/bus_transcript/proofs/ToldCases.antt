@@ -1,5 +1,5 @@
 -- Whole runs, computed: their transcripts have the events of their histories. An independent simulator printed the rows and the
--- transcripts. Written by tools/told_case.py.
+-- transcripts. Written by tools/makers/told_case.py.
 use Rattle.std.proofs.Common.{ℕ, ◌≡◌, true, false, List, [], ◌∷◌, reverse, refl, ◌∙◌, sym}
 use Rattle.std.specs.Prelude.{Option, Some, None}
 use lib.Count.{ones}

@@ -1,5 +1,5 @@
 -- Histories of whole runs, played on the plain disk array and computed: the blocks and the replies are those of
--- the reports, which an independent simulator printed. Written by tools/array_case.py.
+-- the reports, which an independent simulator printed. Written by tools/makers/array_case.py.
 use Rattle.std.proofs.Common.{ℕ, ◌≡◌, true, false, List, [], ◌∷◌, reverse, refl}
 use Rattle.std.specs.Prelude.{Some, None}
 use lib.Count.{ones}

@@ -1,4 +1,4 @@
--- What targets rest on beside what they hear holds after each row of some runs. Written by tools/attended_case.py.
+-- What targets rest on beside what they hear holds after each row of some runs. Written by tools/makers/attended_case.py.
 use Rattle.std.proofs.Common.{◌≡◌, true, [], refl}
 use lib.Count.{ones}
 use Rattle.bus_trace.specs.LineSet.{line_of}

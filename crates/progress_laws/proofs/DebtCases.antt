@@ -1,4 +1,4 @@
--- In some runs those to whom a sense is owed stand in the hold, and no two senses are owed to one initiator at one unit. Written by tools/books_case.py.
+-- In some runs those to whom a sense is owed stand in the hold, and no two senses are owed to one initiator at one unit. Written by tools/makers/books_case.py.
 use Rattle.std.proofs.Common.{◌≡◌, true, refl}
 use lib.Count.{ones}
 use Rattle.bus_due.specs.bus_trace.specs.LineSet.{line_of}

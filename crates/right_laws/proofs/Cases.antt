@@ -1,4 +1,4 @@
--- In some runs what processes have carried of their data is a front of what they send or give, and the pointers stand as they should. Written by tools/books_case.py.
+-- In some runs what processes have carried of their data is a front of what they send or give, and the pointers stand as they should. Written by tools/makers/books_case.py.
 use Rattle.std.proofs.Common.{◌≡◌, true, refl}
 use lib.Count.{ones}
 use Rattle.bus_due.specs.bus_trace.specs.LineSet.{line_of}

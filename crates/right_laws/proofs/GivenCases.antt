@@ -1,4 +1,4 @@
--- In some runs what is asked of each row of what processes give of their replies holds. Written by tools/books_case.py.
+-- In some runs what is asked of each row of what processes give of their replies holds. Written by tools/makers/books_case.py.
 use Rattle.std.proofs.Common.{◌≡◌, true, refl}
 use lib.Count.{ones}
 use Rattle.bus_due.specs.bus_trace.specs.LineSet.{line_of}

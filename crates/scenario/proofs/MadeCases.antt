@@ -1,4 +1,4 @@
--- Scenarios of numbers, as an independent simulator makes them. tools/make_case.py writes this file.
+-- Scenarios of numbers, as an independent simulator makes them. tools/makers/make_case.py writes this file.
 use Rattle.std.proofs.Common.{◌≡◌, refl}
 use Rattle.std.specs.Prelude.{codes}
 use Rattle.std.specs.Fmt.{digits}

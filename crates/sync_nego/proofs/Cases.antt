@@ -1,4 +1,4 @@
--- What both ends keep of their negotiation after whole reports of an independent simulator. Written by tools/nego_case.py.
+-- What both ends keep of their negotiation after whole reports of an independent simulator. Written by tools/makers/nego_case.py.
 use Rattle.std.proofs.Common.{ℕ, ◌≡◌, true, false, List, [], ◌∷◌, reverse, refl}
 use lib.Count.{ones}
 use Rattle.bus_trace.specs.LineSet.{set_of}

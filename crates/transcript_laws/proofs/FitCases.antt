@@ -1,4 +1,4 @@
--- Whole runs, computed: each of their rows fits. An independent simulator printed the rows. Written by tools/fit_case.py.
+-- Whole runs, computed: each of their rows fits. An independent simulator printed the rows. Written by tools/makers/fit_case.py.
 use Rattle.std.proofs.Common.{ℕ, ◌≡◌, true, false, List, [], ◌∷◌, refl}
 use lib.Count.{ones}
 use Rattle.bus_due.specs.bus_base.specs.declared.AbortKind.TheVariants as aborts

@@ -1,4 +1,4 @@
--- Traces and their dumps: written and read, computed. Written by tools/dump_case.py.
+-- Traces and their dumps: written and read, computed. Written by tools/makers/dump_case.py.
 use Rattle.std.proofs.Common.{◌≡◌, ℕ, refl, List, [], ◌∷◌, ◌++◌}
 use Rattle.std.specs.Prelude.{Ok, codes}
 use Rattle.std.specs.Fmt.{digits}

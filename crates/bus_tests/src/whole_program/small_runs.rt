@@ -1,4 +1,4 @@
-//! Small random scenarios, each with its report from an independent simulator. Written by tools/run_case.py.
+//! Small random scenarios, each with its report from an independent simulator. Written by tools/makers/run_case.py.
 
 /// Its seed, the scenario, and the report of its run.
 pub const SMALL_RUNS: [(u32, &str, &str); 30] = [
