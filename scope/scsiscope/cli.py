@@ -97,6 +97,31 @@ def parser():
     one.add_argument("--tags", action="store_true", help="commands with SIMPLE QUEUE TAGs")
     one.add_argument("--fault", action="append", default=[], metavar="T:B", help="a fault at T ns on bit B (8: parity)")
     add_common(one, has_json=False)
+    one = word("capture", "a trace of a logic analyser's file", "Reads the 18 lines of a bus from a dump (VCD of wires), a table (CSV of Saleae or "
+               "sigrok) or a session of sigrok (.sr), works out which device drives what, and writes the trace. With --sample or --verdict: what can "
+               "be told of it within the samples, in place of the trace.",
+               "0 the trace is written, or lawful within the samples; 1 broken for sure, or cannot be told; 2 trouble")
+    one.add_argument("file", metavar="FILE")
+    one.add_argument("--sample", type=int, metavar="P", help="a verdict; P ns between two samples")
+    one.add_argument("--verdict", action="store_true", help="a verdict; the time between two samples is taken from the file")
+    one.add_argument("--witness", metavar="FILE", help="where lawful: write the lawful trace within the samples there")
+    one.add_argument("--map", metavar="LINE=WIRE,..", help="names of wires, as BSY=D9,SEL=D10")
+    one.add_argument("--low", action="store_true", help="lines are active low, as on the cable (found by itself)")
+    one.add_argument("--high", action="store_true", help="lines are active high")
+    one.add_argument("--rst", type=int, metavar="D", help="the device that drives RST")
+    one.add_argument("--deglitch", action="store_true", help="drop levels that stand for one sample alone")
+    add_common(one)
+    one = word("decode", "messages and commands of a capture, by sigrok", "Shows phases, messages, commands and status of a file of a logic "
+               "analyser by sigrok-cli with the protocol decoder scsi, or installs the decoder for PulseView and live work.",
+               "0 done, 2 trouble")
+    one.add_argument("file", metavar="FILE", nargs="?")
+    one.add_argument("--install", action="store_true", help="put the decoder where sigrok of this user looks")
+    one.add_argument("--map", metavar="LINE=WIRE,..", help="names of wires, as BSY=D9,SEL=D10")
+    one.add_argument("--high", action="store_true", help="lines are active high")
+    one.add_argument("--input", metavar="FORMAT", help="the file's format for sigrok-cli, as csv or vcd")
+    one.add_argument("--annotations", metavar="KINDS", help="phase, message, command, status, data, byte, warning (all)")
+    one.add_argument("--samples", action="store_true", help="with the numbers of the samples")
+    add_common(one, has_json=False)
     one = word("check", "the verdict on many files", "Judges each file: one line a file. A name after @ is a file of names, one a line.",
                "0 all lawful, 1 a file is broken, 2 a file is no trace (and none or some are broken)")
     one.add_argument("files", metavar="FILE", nargs="+")

@@ -1,10 +1,13 @@
 """A value change dump of the bus: 18 named wires, the byte, and the phase as text; and a save file for GTKWave."""
-from .lines import DATA, IDS
+from .lines import ACK, ATN, DATA, PHASES, REQ
 from .rules import Bus
 from .trace import step
 
 WIRES = ["DB0", "DB1", "DB2", "DB3", "DB4", "DB5", "DB6", "DB7", "DBP", "BSY", "SEL", "CD", "IO", "MSG", "REQ", "ACK", "ATN", "RST"]
 CODES = [chr(33 + bit) for bit in range(18)]
+# Lines that no phase goes by.
+PLAIN = DATA | REQ | ACK | ATN
+MOVES = {name.replace(" ", "_") for name in PHASES.values()}
 STAGE, BROKEN = "P", "X"
 DEVICES = [chr(97 + device) for device in range(8)]
 
@@ -30,24 +33,32 @@ def dump(trace, verdict, is_low, with_devices, write):
     size = len(trace)
     broken = verdict[0] - 1 if verdict is not None else -1
     pending, pending_time = [], 0
-    row = 0
+    row, times, devices, values, drives = 0, trace.times, trace.devices, trace.values, bus.drives
     while row <= size:
-        moment = trace.times[row] if row < size else max(trace.end, trace.times[size - 1] if size else 0)
+        moment = times[row] if row < size else max(trace.end, times[size - 1] if size else 0)
         changed_devices = {}
         is_broken = False
-        while row < size and trace.times[row] == moment:
+        while row < size and times[row] == moment:
             is_broken |= row == broken
-            step(bus, trace.row(row))
-            if with_devices and trace.values[row] >= 0:
-                changed_devices[trace.devices[row]] = trace.values[row]
+            value, device = values[row], devices[row]
+            if bus.connection and not bus.call and value >= 0 and not (drives[device] ^ value) & ~PLAIN:
+                # The phase stays: the lines alone change.
+                drives[device] = value
+                bus.lines = bus.union_with(device, value)
+            else:
+                step(bus, (moment, device, value))
+            if with_devices and value >= 0:
+                changed_devices[device] = value
             row += 1
-        lines = bus.lines
-        marks = []
-        for bit in range(18):
-            if (lines ^ shown) >> bit & 1:
+        lines, marks, before = bus.lines, [], shown & ~PLAIN
+        changed, bit = lines ^ shown, 0
+        while changed:
+            if changed & 1:
                 marks.append("%d%s" % ((lines >> bit & 1) ^ is_low, CODES[bit]))
+            changed >>= 1
+            bit += 1
         shown = lines
-        now = bus.stage().replace(" ", "_")
+        now = stage if shown & ~PLAIN == before and bus.connection and stage in MOVES else bus.stage().replace(" ", "_")
         if now != stage:
             marks.append("s%s %s" % (now, STAGE))
             stage = now

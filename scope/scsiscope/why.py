@@ -371,11 +371,17 @@ def dump_variables(data):
 
 def dump_refusal(name, data, line, said):
     """Why the program refuses a dump at this line."""
+    from .recording import line_of
+
     raw, _ = text_line(data, line)
     shown = plain(raw)
     names = dump_variables(data)
     if line == 0:
         return Refusal(name, 0, "the text has more than 1,073,741,824 bytes", said=said)
+    wires = {line_of(it) for width, it in names if width == 1} - {None}
+    if len(wires) > 6 and not any(re.fullmatch(r"d[0-7]", it) and width == 18 for width, it in names):
+        return Refusal(name, 0, "this dump has the wires of a bus (%s ..), not what each device drives" % ", ".join(it for _, it in names[:6]), None, 1,
+                       "who drives what is worked out by: scsiscope capture %s" % name, None, said)
     scale = re.search(r"\$timescale\s+(\d+\s*\w+)", "\n".join(plain(it) for it in data.split(b"\n")[max(0, line - 3): line + 3]))
     if scale and scale.group(1).replace(" ", "") != "1ns":
         return Refusal(name, line, "the timescale is %s; `1ns` is read" % scale.group(1), shown.find(scale.group(1)) + 1 or None,
@@ -398,16 +404,16 @@ def empty_dump(name, data):
     names = [it for _, it in dump_variables(data)]
     some = ", ".join(names[:8]) + (" .." if len(names) > 8 else "")
     return Refusal(name, 0, "none of the variables d0 to d7 changes in this dump, so nothing would be judged%s" % (
-        "; it has " + some if names else ""), None, 1, "unvcd reads what each device drives, as 18 bits named d0 to d7; the wires of a logic "
-        "analyser are another thing")
+        "; it has " + some if names else ""), None, 1, "unvcd reads what each device drives, as 18 bits named d0 to d7; for the wires "
+                   "of a bus: scsiscope capture %s" % name)
 
 
 def wrong_kind(name, kind, wanted):
     hints = {
         "scenario": "run it first: scsibus run < %s > trace" % name, "dump": "scsibus unvcd < %s gives its trace" % name,
-        "gzip": "unpack it first: gunzip", "zip": "a sigrok session: export it as VCD", "transcript": "the trace is what it was made of",
+        "gzip": "unpack it first: gunzip", "zip": "of sigrok: scsiscope capture %s" % name, "transcript": "the trace is what it was made of",
         "trace": "scsibus judge < %s judges it" % name, "short": "run without --short gives the whole report",
-        "csv": "a table of samples is no trace", "empty": "nothing stands in it",
+        "csv": "of a logic analyser: scsiscope capture %s" % name, "empty": "nothing stands in it",
     }
     return Refusal(name, 0, "%s was wanted, and this is %s" % (KINDS[wanted], KINDS[kind]), None, 1, hints.get(kind))
 

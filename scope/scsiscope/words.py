@@ -267,3 +267,88 @@ def word_check(judge, options, out):
         sys.stderr.write("scsiscope: %d of %d lawful, %d broken, %d no traces\n" % (
             counts["lawful"], total, counts["broken"], counts["refused"] + counts["trouble"]))
     return TROUBLE if counts["refused"] or counts["trouble"] else FOUND if counts["broken"] else NOTHING_FOUND
+
+
+def word_capture(judge, options, out):
+    from . import drivers, recording, tolerance
+    from .rules import SENTENCES
+    from .style import warn
+    from .trace import read_file
+
+    if options.rst is not None and not 0 <= options.rst <= 7:
+        raise Trouble("--rst %d: a device is 0 to 7" % options.rst)
+    found = recording.read(options.file, read_file(options.file), options)
+    made, end, origin = drivers.rows_of(found, options.rst)
+    rows, hidden = made.rows, made.hidden
+    if "DBP" in found.missing():
+        rows, hidden = drivers.with_parity_lines(rows, hidden)
+    period = options.sample or found.period or 1
+    notes = list(found.notes)
+    notes.append("%s, a sample each %d ns, %s, %s" % (
+        ns(found.end) + " ns", period, count(len(found.samples), "change"), count(len(rows), "row")))
+    told = [{"time": time, "row": row, "words": words} for time, row, words in made.notes]
+    if not rows:
+        raise Trouble("%s: no line of the bus ever changes in this file" % options.file)
+    text = tolerance.text_of(rows, max(end, rows[-1][0]))
+    if options.sample is None and not options.verdict:
+        for note in notes:
+            warn("capture: " + note)
+        for it in told:
+            warn("capture: row %d, %d ns: %s" % (it["row"], it["time"], it["words"]))
+        out.write(text)
+        return NOTHING_FOUND
+    answer = tolerance.verdict_within(judge, rows, hidden, period, max(end, rows[-1][0]))
+    status = {"lawful": NOTHING_FOUND, "broken": FOUND, "unknown": FOUND}[answer.verdict]
+    if answer.verdict != "lawful" and not options.deglitch:
+        levels = recording.glitches(found)[0]
+        if levels:
+            notes.append("%s for one sample alone; --deglitch drops them, if they are glitches" % count(levels, "level stands", "levels stand"))
+    if options.witness and answer.verdict == "lawful":
+        try:
+            with open(options.witness, "wb") as target:
+                target.write(tolerance.text_of(answer.witness, max(end, answer.witness[-1][0])))
+        except OSError as error:
+            raise Trouble("%s: %s" % (options.witness, error.strerror)) from None
+    if options.json:
+        out.write_json({
+            "file": options.file, "verdict": {"lawful": "lawful", "broken": "broken for sure", "unknown": "cannot be told"}[answer.verdict],
+            "sample": period, "rows": len(rows), "row": None if answer.row is None else answer.row + 1, "rule": answer.rule,
+            "sentence": answer.sentence, "time": None if answer.row is None or answer.row >= len(rows) else rows[answer.row][0],
+            "chain": tolerance.chain_words(rows, answer.chain, period), "words": answer.words, "notes": notes, "guesses": told})
+        return status
+    lines = ["capture: " + note for note in notes]
+    lines += ["capture: row %d, %d ns: %s" % (it["row"], it["time"], it["words"]) for it in told]
+    name = "" if options.file == "-" else options.file + ": "
+    if answer.verdict == "lawful":
+        lines.append("%s%s within samples of %d ns: a lawful bus gives this capture (%s)" % (
+            name, paint("lawful", "bold", "green"), period, answer.words))
+    else:
+        row = answer.row
+        at = "row %d, seen at %d ns" % (row + 1, rows[row][0]) if row < len(rows) else "the end"
+        if answer.verdict == "broken":
+            lines.append("%s%s: %s, rule %s" % (name, paint("broken for sure", "bold", "red"), at, answer.sentence))
+            lines.append(fold(SENTENCES[answer.sentence].text, "  "))
+            lines += ["  - " + it for it in tolerance.chain_words(rows, answer.chain, period)]
+        else:
+            lines.append("%s%s: %s%s" % (name, paint("cannot be told", "bold", "yellow"), at, ", rule %s" % (answer.sentence or answer.rule) if answer.rule else ""))
+            lines.append(fold(answer.words, "  "))
+    out.write("\n".join(lines) + "\n")
+    return status
+
+
+def word_decode(judge, options, out):
+    from . import decode, recording
+    from .trace import read_file
+
+    if options.install:
+        try:
+            out.write("%s\n" % decode.put(decode.HOME))
+        except OSError as error:
+            raise Trouble("%s: %s" % (error.filename, error.strerror)) from None
+        return NOTHING_FOUND
+    if not options.file:
+        raise Trouble("a file to decode, or --install")
+    options.deglitch = options.low = False
+    found = recording.read(options.file, read_file(options.file), options)
+    out.write(decode.run(options.file, found.names, options))
+    return NOTHING_FOUND

@@ -5,7 +5,7 @@
 
 Each case of CASES is a command line, run in scope/tests; its output and status are those of golden/NAME.txt. Each command of docs/scope.md
 (a line that begins with `$ `) prints, at the top of the repository, what stands under it there; a line `..` stands for any lines. The cases
-of tools/rule_cases.txt break the sentences of letters.txt. Then claims.py. With --write the golden outputs are written anew: look at them.
+of tools/rule_cases.txt break the sentences of letters.txt. Then claims.py and captures.py. With --write the golden outputs are written anew: look at them.
 """
 import difflib
 import os
@@ -51,6 +51,13 @@ CASES = {
     "stats_json": "stats --json " + E + "synchronous.out",
     "new_boot": "new --disk 0:4096x512 --disk 1.2:100x256 --boot --sync 50,8",
     "new_wrong": "new --disk 0:4096x500",
+    "capture_vcd": "capture --verdict " + E + "captures/read6_1ps.vcd",
+    "capture_vcd_10ns": "capture --verdict " + E + "captures/synchronous_10ns.vcd",
+    "capture_saleae": "capture --verdict " + E + "captures/disconnection_saleae.csv",
+    "capture_sigrok": "capture --verdict --json " + E + "captures/arbitration_sigrok.sr",
+    "capture_trace": "capture " + E + "captures/read6_1ps.vcd",
+    "capture_none": "capture " + E + "read6.vcd",
+    "explain_wires": "explain " + E + "captures/synchronous_10ns.vcd",
     "check": "check broken/r14_1.trace " + E + "read6.out inputs/cut.trace inputs/blanks.scsi " + E + "read6.vcd -j 2",
     "check_json": "check --json --quiet broken/r14_1.trace " + E + "read6.out inputs/names.vcd nothing.trace",
 }
@@ -114,7 +121,7 @@ def matches(got, wanted):
 def pages():
     """The commands of the pages and what they print."""
     wrong = many = 0
-    for page in ("docs/scope.md",):
+    for page in ("docs/scope.md", "docs/recordings.md"):
         path = ROOT / page
         if not path.exists():
             continue
@@ -124,7 +131,7 @@ def pages():
                     continue
                 command, _, wanted = part.partition("\n")
                 words = command[2:].split("#")[0].strip()
-                if "scsiscope" not in words or "pip" in words:
+                if "scsiscope" not in words and "./scsibus" not in words or "pip" in words or "scsiscope decode" in words:
                     continue
                 many += 1
                 line = words.replace("./scsiscope", "%s -m scsiscope" % shlex.quote(sys.executable))
@@ -188,6 +195,8 @@ def main():
         wrong += letters() + pages()
         sys.stdout.flush()
         wrong += subprocess.run([sys.executable, str(HERE / "claims.py"), "60", "7"]).returncode
+        sys.stdout.flush()
+        wrong += subprocess.run([sys.executable, str(HERE / "captures.py"), "5"]).returncode
     sys.exit(1 if wrong else 0)
 
 

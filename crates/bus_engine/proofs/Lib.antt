@@ -2,7 +2,7 @@ mod Names
 pub mod Items
 mod Replies
 mod Disks
-mod Places
+mod EndedPlaces
 mod Leftovers
 mod Targeted
 mod Seams

@@ -1,5 +1,5 @@
 use Rattle.std.proofs.Common.{◌<◌, length, arith}
-use Rattle.bus_engine.proofs.Places.{place_at, places_next}
+use Rattle.bus_engine.proofs.EndedPlaces.{place_at, places_next}
 use Rattle.bus_engine.proofs.finishing.outcome_at.Goals as goal
 
 pub returns-clause-over : goal.returns-clause-over

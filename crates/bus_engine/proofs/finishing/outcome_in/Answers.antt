@@ -1,4 +1,4 @@
-use Rattle.bus_engine.proofs.Places.{member_in}
+use Rattle.bus_engine.proofs.EndedPlaces.{member_in}
 use Rattle.bus_engine.proofs.finishing.outcome_in.Goals as goal
 
 pub returns-in-Some-clause-over : goal.returns-in-Some-clause-over

@@ -3,7 +3,7 @@ use Rattle.bus_run.proofs.OnePlace.{other_at}
 use Rattle.bus_engine.specs.declared.member.Member.{Member}
 use Rattle.bus_engine.specs.Over.{IsPlaceOver, AreUnitsIf}
 use Rattle.bus_engine.proofs.Added.{each_and_one}
-use Rattle.bus_engine.proofs.Places.{place_at}
+use Rattle.bus_engine.proofs.EndedPlaces.{place_at}
 use Rattle.bus_engine.proofs.finishing.units_by_target.Goals as goal
 
 pub loop-dev-preserved : goal.loop-dev-preserved

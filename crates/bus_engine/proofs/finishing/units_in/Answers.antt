@@ -1,5 +1,5 @@
 use Rattle.std.proofs.Common.{◌∙◌, sym}
-use Rattle.bus_engine.proofs.Places.{member_in}
+use Rattle.bus_engine.proofs.EndedPlaces.{member_in}
 use Rattle.bus_engine.proofs.finishing.units_in.Goals as goal
 
 pub returns-in-Some : goal.returns-in-Some

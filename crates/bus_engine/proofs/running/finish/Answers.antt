@@ -5,7 +5,7 @@ use Rattle.scenario.specs.declared.value.UnitDef.{UnitDef}
 use Rattle.scenario.specs.Value.{ScenarioValue}
 use Rattle.bus_engine.specs.Disks.{IsWithin}
 use Rattle.bus_engine.proofs.Leftovers.{all_within}
-use Rattle.bus_engine.proofs.Places.{later}
+use Rattle.bus_engine.proofs.EndedPlaces.{later}
 use Rattle.bus_engine.proofs.Targeted.{lawful_have_targets}
 use Rattle.bus_engine.proofs.running.finish.Goals as goal
 
