@@ -39,7 +39,7 @@ use Rattle.bus_engine.proofs.RanTargets.{ran_there}
 use Rattle.bus_engine.proofs.Replied.{HaveReplies, all_replied}
 use Rattle.bus_engine.proofs.Settled.{over_told, sense_is_done, settled_status}
 use Rattle.bus_engine.proofs.Undone.{no_byte_undone}
-use Rattle.trace_laws.proofs.Tests.{plus_one}
+use Rattle.delivery_laws.specs.trace_laws.proofs.Tests.{plus_one}
 
 -- ---- what is known of it
 

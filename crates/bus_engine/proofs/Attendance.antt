@@ -23,16 +23,16 @@ use Rattle.bus_due.specs.RunState.{RunState, array_of, process_served}
 use Rattle.bus_due.specs.RunSteps.{run_state, events_of_row}
 use Rattle.bus_due.specs.Tasks.{is_writing}
 use Rattle.bus_due.proofs.Plains.{run_state_plain, of_devices}
-use Rattle.trace_laws.specs.scsi_device.specs.Heard.{Instructions, instructions, is_opening}
-use Rattle.trace_laws.specs.scsi_device.specs.Writes.{Writer, is_writer, writer_of, writers}
+use Rattle.delivery_laws.specs.scsi_device.specs.Heard.{Instructions, instructions, is_opening}
+use Rattle.delivery_laws.specs.scsi_device.specs.Writes.{Writer, is_writer, writer_of, writers}
 use Rattle.disk_target.specs.Attended.{are_in, are_known_ends, attended, came, ends_good, is_abort_in, is_attended, is_attended_if, is_attended_in, is_calm_turn, is_known_end, is_of_item, is_quiet, is_unseen, is_whole_of, is_whole_run}
-use Rattle.trace_laws.specs.bus_books.proofs.Lookups.{self_id}
-use Rattle.trace_laws.specs.bus_laws.proofs.Apart.{change_plain}
-use Rattle.trace_laws.specs.bus_laws.proofs.Prompt.{least_is}
-use Rattle.trace_laws.specs.Attendance.{AreShown, IsShown, ShowsIn, accepts, refuses, runs, fails, ends, loses, aborts}
-use Rattle.trace_laws.specs.RunsWhole.{IsWhole, RunsWhole, ends_badly, sends_all, sends_none}
-use Rattle.trace_laws.specs.RowAttendance.{IsAttended, IsCalmTurn}
-use Rattle.trace_laws.proofs.WholeRuns.{sent_all}
+use Rattle.delivery_laws.specs.bus_books.proofs.Lookups.{self_id}
+use Rattle.delivery_laws.specs.bus_laws.proofs.Apart.{change_plain}
+use Rattle.delivery_laws.specs.bus_laws.proofs.Prompt.{least_is}
+use Rattle.delivery_laws.specs.trace_laws.specs.Attendance.{AreShown, IsShown, ShowsIn, accepts, refuses, runs, fails, ends, loses, aborts}
+use Rattle.delivery_laws.specs.trace_laws.specs.RunsWhole.{IsWhole, RunsWhole, ends_badly, sends_all, sends_none}
+use Rattle.delivery_laws.specs.trace_laws.specs.RowAttendance.{IsAttended, IsCalmTurn}
+use Rattle.delivery_laws.specs.trace_laws.proofs.WholeRuns.{sent_all}
 use Rattle.std.proofs.lemmas.Bool.{or_right, and_from, lt-ltb, eq-eqb}
 use Rattle.bus_base.proofs.Tests.{wrong, or_true, implication, unless, or_middle}
 use Rattle.bus_due.specs.bus_dialogue.specs.Events.{is_empty}

@@ -11,7 +11,7 @@ use Rattle.disk_array.specs.Contents.{Contents}
 use Rattle.disk_array.specs.SoundArray.{AreApart}
 use Rattle.disk_array.specs.Units.{UnitState, unit_state_at, starting_unit, starting_units}
 use Rattle.disk_unit.specs.Sparse.{Store}
-use Rattle.trace_laws.specs.target_units.specs.Units.{UnitsState, state_contents}
+use Rattle.delivery_laws.specs.target_units.specs.Units.{UnitsState, state_contents}
 use Rattle.run_record.specs.Value.{held_by}
 use Rattle.bus_engine.specs.Disks.{held_at, AreHeld, IsOther, AreLinesApart, IsWithin}
 use Rattle.bus_engine.proofs.Names.{names, line_names}

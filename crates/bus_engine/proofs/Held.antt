@@ -6,7 +6,7 @@ use Rattle.bus_trace.specs.declared.Row.{Row}
 use Rattle.bus_trace.specs.declared.connection.Connection.{Connection}
 use Rattle.bus_trace.specs.Terms.{connection}
 use Rattle.scenario.specs.Value.{ScenarioValue}
-use Rattle.trace_laws.specs.scsi_device.specs.Lines.{IsTargetLine}
+use Rattle.delivery_laws.specs.scsi_device.specs.Lines.{IsTargetLine}
 use Rattle.initiator.specs.Hosts.{HostValue}
 use Rattle.initiator.specs.States as initiators
 use Rattle.disk_target.specs.Targets.{TargetValue}

@@ -3,7 +3,7 @@ use Rattle.std.proofs.Common.{ℕ, ◌≡◌, ◌<◌, true, List, Option, Some,
 use Rattle.std.specs.Prelude.{is_some, slice_index_or}
 use Rattle.std.specs.List.{AllByRecursion}
 use Rattle.std.proofs.lemmas.Bool.{true≢false}
-use Rattle.trace_laws.specs.scsi_device.proofs.Finds.{all_are}
+use Rattle.delivery_laws.specs.scsi_device.proofs.Finds.{all_are}
 use Rattle.bus_trace.specs.declared.Row.{Row}
 use Rattle.scenario.specs.declared.value.TargetDef.{TargetDef}
 use Rattle.scenario.specs.declared.value.UnitDef.{UnitDef}
@@ -17,14 +17,14 @@ use Rattle.bus_due.specs.Plain.{IsPlain}
 use Rattle.bus_due.specs.RunState.{or_start, array_of}
 use Rattle.bus_due.specs.RunSteps.{run_state}
 use Rattle.bus_due.specs.bus_story.specs.TraceHistory.{trace_history}
-use Rattle.trace_laws.specs.scsi_device.specs.Lines.{IsUnitLine, FitsBus}
-use Rattle.trace_laws.specs.target_units.specs.Units.{UnitsState, AreUnitsOf, unit_in, contents_in, state_contents}
-use Rattle.trace_laws.specs.target_units.specs.declared.logical.LogicalUnit.{LogicalUnit}
+use Rattle.delivery_laws.specs.scsi_device.specs.Lines.{IsUnitLine, FitsBus}
+use Rattle.delivery_laws.specs.target_units.specs.Units.{UnitsState, AreUnitsOf, unit_in, contents_in, state_contents}
+use Rattle.delivery_laws.specs.target_units.specs.declared.logical.LogicalUnit.{LogicalUnit}
 use Rattle.bus_engine.specs.Over.{AreUnitsIf}
 use Rattle.bus_engine.specs.Disks.{AreUnitsByTarget, held_if, AreHeld, IsWithin, have_targets}
 use Rattle.bus_engine.proofs.Disks.{held_all}
 use Rattle.bus_engine.proofs.Names.{history_names}
-use Rattle.trace_laws.specs.bus_books.proofs.Refusals.{allowed_array}
+use Rattle.delivery_laws.specs.bus_books.proofs.Refusals.{allowed_array}
 
 -- ---- the array after the rows
 

@@ -22,7 +22,7 @@ use Rattle.initiator.specs.Hosts.{HostValue}
 use Rattle.initiator.specs.Openings.{mine_at}
 use Rattle.initiator.specs.Outcomes.{is_sense_over}
 use Rattle.initiator.specs.Received.{BufferPairValue, no_buffers, empty_buffer, pair_at, received_taken, undoes_no_byte}
-use Rattle.trace_laws.specs.target_units.specs.Units.{UnitsState, AreUnitsOf}
+use Rattle.delivery_laws.specs.target_units.specs.Units.{UnitsState, AreUnitsOf}
 use Rattle.bus_engine.specs.declared.member.Member.{Member}
 use Rattle.bus_engine.specs.declared.member.Member.TheVariants.{Initiator, Target}
 use Rattle.disk_target.specs.Targets.{TargetValue}

@@ -17,7 +17,7 @@ use Rattle.bus_due.specs.Plain.{IsPlain}
 use Rattle.bus_due.specs.RunState.{RunState}
 use Rattle.bus_due.specs.RunSteps.{run_state}
 use Rattle.bus_due.proofs.Plains.{run_state_plain}
-use Rattle.trace_laws.proofs.Whole.{Whole, whole}
+use Rattle.delivery_laws.specs.trace_laws.proofs.Whole.{Whole, whole}
 use Rattle.delivery_laws.specs.right_laws.proofs.RowCrossings.{GoesSo, here_goes, known_served}
 use Rattle.delivery_laws.specs.right_laws.proofs.SentBytes.{answer_of}
 use Rattle.delivery_laws.specs.right_laws.proofs.ShownRows.{IsAnswer}

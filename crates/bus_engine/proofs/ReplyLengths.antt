@@ -26,9 +26,9 @@ use Rattle.disk_array.specs.Seats.{contents_of}
 use Rattle.disk_array.specs.Steps.{context_at}
 use Rattle.disk_array.specs.Units.{Array, UnitState, nexus_of, sense_of_nexus, unit_state_at}
 use Rattle.disk_unit.proofs.Parts.{length_bytes}
-use Rattle.trace_laws.specs.target_units.specs.Absent.{absent_reply_by, data_or_refusal, inquiry_room, sense_room}
-use Rattle.trace_laws.specs.target_units.specs.Rooms.{AreOfLines, IsOfLine}
-use Rattle.trace_laws.specs.target_units.proofs.AbsentReplies.{replies}
+use Rattle.delivery_laws.specs.target_units.specs.Absent.{absent_reply_by, data_or_refusal, inquiry_room, sense_room}
+use Rattle.delivery_laws.specs.target_units.specs.Rooms.{AreOfLines, IsOfLine}
+use Rattle.delivery_laws.specs.target_units.proofs.AbsentReplies.{replies}
 use Rattle.delivery_laws.specs.right_laws.proofs.WholeBlocks.{AreWhole, HasWhole}
 use Rattle.initiator.specs.Received.{data_room}
 

@@ -14,7 +14,7 @@ use Rattle.bus_due.specs.bus_story.specs.TraceHistory.{is_parity_error}
 use Rattle.bus_due.specs.Next.{IsPrompt}
 use Rattle.bus_due.specs.RunState.{RunState}
 use Rattle.bus_due.specs.RunSteps.{run_state}
-use Rattle.trace_laws.proofs.Whole.{Whole, standing_next, whole}
+use Rattle.delivery_laws.specs.trace_laws.proofs.Whole.{Whole, standing_next, whole}
 use Rattle.delivery_laws.specs.right_laws.specs.Loads.{Load, UndoesLoads}
 use Rattle.delivery_laws.specs.right_laws.proofs.Carried.{same_is}
 use Rattle.delivery_laws.specs.right_laws.proofs.UndoneLoads.{load_asks}

@@ -6,7 +6,7 @@ use Rattle.scenario.specs.declared.value.UnitDef.{UnitDef}
 use Rattle.scenario.specs.Value.{ScenarioValue}
 use Rattle.disk_array.specs.Contents.{Contents}
 use Rattle.bus_due.specs.Defs.{target_def_of}
-use Rattle.trace_laws.specs.target_units.specs.Units.{UnitsState, unit_in, contents_in}
+use Rattle.delivery_laws.specs.target_units.specs.Units.{UnitsState, unit_in, contents_in}
 use Rattle.bus_engine.specs.Over.{AreUnitsIf}
 
 -- The target of each unit is a target of the scenario, as the rules of its text have it.

@@ -13,7 +13,7 @@ use Rattle.initiator.specs.Books.{my_book}
 use Rattle.initiator.specs.Endings.{AreEndingsOf}
 use Rattle.initiator.specs.Hosts.{HostValue}
 use Rattle.initiator.specs.Received.{IsBufferOf, moved_of, room_of, buffer_at, undoes_no_byte}
-use Rattle.trace_laws.specs.target_units.specs.Units.{UnitsState, AreUnitsOf}
+use Rattle.delivery_laws.specs.target_units.specs.Units.{UnitsState, AreUnitsOf}
 use Rattle.bus_engine.specs.declared.member.Member.{Member}
 use Rattle.bus_engine.specs.declared.member.Member.TheVariants.{Initiator, Target}
 use Rattle.bus_engine.specs.Members.{IsTarget}

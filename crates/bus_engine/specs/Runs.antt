@@ -21,7 +21,7 @@ use Rattle.run_record.specs.Value.{RunValue}
 use Rattle.transcript_laws.specs.bus_transcript.specs.Events.{TellsHistory}
 use Rattle.delivery_laws.specs.Delivery.{AreAnswered, AreCaused, AreChecked, AreOwnSenses, AreStoppedSenses, HaveStrikes, IsDelivered}
 use Rattle.delivery_laws.specs.Resets.{AreResets}
-use Rattle.trace_laws.specs.bus_books.specs.WrongParity.{complains_truly}
+use Rattle.delivery_laws.specs.bus_books.specs.WrongParity.{complains_truly}
 use Rattle.bus_engine.specs.Limits.{row_limit, step_limit}
 
 abbrev pub told_reply : Outcome → Option told.Outcome

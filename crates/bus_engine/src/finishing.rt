@@ -10,7 +10,7 @@ ghost use Rattle.disk_array.specs.Processes.{command_at};
 ghost use Rattle.disk_array.specs.Seats.{is_initiator};
 ghost use Rattle.bus_due.specs.bus_story.specs.Outcomes.{outcome_of, outcomes};
 ghost use Rattle.bus_due.specs.RunSteps.{run_state};
-ghost use Rattle.trace_laws.specs.scsi_device.specs.Lines.{FitsBus};
+ghost use Rattle.delivery_laws.specs.scsi_device.specs.Lines.{FitsBus};
 ghost use Rattle.run_record.specs.declared.outcome.Outcome.{Outcome as OutcomeValue};
 ghost use Rattle.initiator.specs.Received.{undoes_no_byte};
 ghost use Rattle.run_record.specs.Value.{held_by};

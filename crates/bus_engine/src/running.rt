@@ -12,7 +12,7 @@ ghost use Rattle.bus_due.specs.bus_story.specs.TraceHistory.{trace_history};
 ghost use Rattle.bus_due.specs.Allowed.{allowed};
 ghost use Rattle.bus_due.specs.Plain.{IsPlain};
 ghost use Rattle.bus_due.specs.RunSteps.{run_state};
-ghost use Rattle.trace_laws.specs.scsi_device.specs.Lines.{FitsBus};
+ghost use Rattle.delivery_laws.specs.scsi_device.specs.Lines.{FitsBus};
 ghost use Rattle.run_record.specs.Value.{held_by};
 ghost use Rattle.bus_run.specs.declared.running.RunEnd.TheVariants.{Unfinished};
 ghost use Rattle.bus_run.specs.Places.{AreIn};
@@ -30,7 +30,12 @@ use crate::places::member_places;
 use bus_base::{NoMemory, Steps};
 use bus_due::{kept_is_plain, wants_are_items};
 use bus_run::{RunEnd, Trace, rows_tie_devices};
+use delivery_laws::the_bus_books::failures_have_strikes;
 use delivery_laws::the_right_laws::prompt_traces_are_right;
+use delivery_laws::the_trace_laws::{
+    connections_are_of_the_scenario, ends_know_what_rows_tell, limits_are_kept,
+    prompt_traces_keep_the_books,
+};
 use delivery_laws::{
     ended_traces_are_right, invalid_commands_are_checked, outcomes_have_causes, replies_last,
     resets_are_by_lines, senseless_checks_were_stopped, senses_are_their_own,
@@ -45,11 +50,6 @@ use run_record::Run;
 use scenario::{Scenario, UnitDef};
 use std::alloc::Global;
 use std::sync::ledger::Ledger;
-use trace_laws::the_bus_books::failures_have_strikes;
-use trace_laws::{
-    connections_are_of_the_scenario, ends_know_what_rows_tell, limits_are_kept,
-    prompt_traces_keep_the_books,
-};
 use transcript_laws::transcripts_follow_prompt_traces;
 
 // The blocks of the units of these targets, in the order of their lines.

@@ -45,7 +45,7 @@ use Rattle.bus_due.specs.bus_story.specs.TraceHistory.{aim_of, is_arbitration_en
 use Rattle.bus_due.specs.bus_story.proofs.StorySteps.{events_aims, restored_aims, sent_aims}
 use Rattle.bus_due.specs.bus_reactions.specs.declared.due.Due.{Due}
 use Rattle.bus_due.specs.bus_dialogue.specs.PhaseBytes.{one_if}
-use Rattle.trace_laws.specs.bus_books.proofs.Aims.{connected_aims}
+use Rattle.progress_laws.specs.bus_books.proofs.Aims.{connected_aims}
 use Rattle.bus_due.specs.Least.{IsLeast}
 use Rattle.bus_due.specs.Next.{due, IsPrompt}
 use Rattle.bus_due.specs.Plain.{AreOfDevices, IsPlain}
@@ -53,27 +53,27 @@ use Rattle.bus_due.specs.RunState.{RunState}
 use Rattle.bus_due.specs.RunSteps.{run_state}
 use Rattle.bus_due.specs.Wants.{initiator_if, ready_of, target_if, target_of}
 use Rattle.bus_due.proofs.Plains.{run_state_plain}
-use Rattle.trace_laws.specs.bus_laws.specs.Callings.{answer_lines, begun_call, calling_lines, awaiting_call, both_ids, won_call}
-use Rattle.trace_laws.specs.bus_laws.specs.Reactions.{own_time, unreset_due}
-use Rattle.trace_laws.specs.bus_laws.specs.Rows.{row_of_lines}
-use Rattle.trace_laws.specs.bus_laws.specs.Stages.{HasShortLatencies, CalmStanding, BusStage, on_free_bus, in_arbitration, after_arbitration, with_both_ids, awaiting_answer, after_withdrawal, after_answer, after_takeover, in_reset, in_connection, AwaitsAnswer, Calls}
-use Rattle.trace_laws.specs.bus_laws.proofs.Apart.{change_plain}
-use Rattle.trace_laws.specs.bus_laws.proofs.CallDues.{asks_due, answers_due, waits_due, flip_at}
-use Rattle.trace_laws.specs.bus_laws.proofs.Dues.{is_there, is_at}
-use Rattle.trace_laws.specs.bus_laws.proofs.FromCalling.{answer_exists, ids_not_zero}
-use Rattle.trace_laws.specs.bus_laws.proofs.Limits.{obeys_latencies}
-use Rattle.trace_laws.specs.bus_laws.proofs.Prompt.{least_is}
-use Rattle.trace_laws.specs.bus_laws.proofs.Rows.{drives_own, stage_is}
-use Rattle.trace_laws.specs.bus_laws.proofs.Together.{reset_or_calm, by_reset, by_calm}
-use Rattle.trace_laws.specs.link_laws.proofs.Traces.{sides_are}
-use Rattle.trace_laws.proofs.Called.{IsDueCall, sel_of_call}
-use Rattle.trace_laws.proofs.FirstRows.{quiet_sel, under_rst}
-use Rattle.trace_laws.proofs.Impossible.{none_some}
-use Rattle.trace_laws.proofs.Joint.{Stood}
-use Rattle.trace_laws.proofs.OpenCommands.{item_is}
-use Rattle.trace_laws.proofs.PointerWaits.{connection_sent}
-use Rattle.trace_laws.proofs.UnderRst.{quiet_at_end}
-use Rattle.trace_laws.proofs.Whole.{whole}
+use Rattle.progress_laws.specs.bus_laws.specs.Callings.{answer_lines, begun_call, calling_lines, awaiting_call, both_ids, won_call}
+use Rattle.progress_laws.specs.bus_laws.specs.Reactions.{own_time, unreset_due}
+use Rattle.progress_laws.specs.bus_laws.specs.Rows.{row_of_lines}
+use Rattle.progress_laws.specs.bus_laws.specs.Stages.{HasShortLatencies, CalmStanding, BusStage, on_free_bus, in_arbitration, after_arbitration, with_both_ids, awaiting_answer, after_withdrawal, after_answer, after_takeover, in_reset, in_connection, AwaitsAnswer, Calls}
+use Rattle.progress_laws.specs.bus_laws.proofs.Apart.{change_plain}
+use Rattle.progress_laws.specs.bus_laws.proofs.CallDues.{asks_due, answers_due, waits_due, flip_at}
+use Rattle.progress_laws.specs.bus_laws.proofs.Dues.{is_there, is_at}
+use Rattle.progress_laws.specs.bus_laws.proofs.FromCalling.{answer_exists, ids_not_zero}
+use Rattle.progress_laws.specs.bus_laws.proofs.Limits.{obeys_latencies}
+use Rattle.progress_laws.specs.bus_laws.proofs.Prompt.{least_is}
+use Rattle.progress_laws.specs.bus_laws.proofs.Rows.{drives_own, stage_is}
+use Rattle.progress_laws.specs.bus_laws.proofs.Together.{reset_or_calm, by_reset, by_calm}
+use Rattle.progress_laws.specs.link_laws.proofs.Traces.{sides_are}
+use Rattle.progress_laws.specs.trace_laws.proofs.Called.{IsDueCall, sel_of_call}
+use Rattle.progress_laws.specs.trace_laws.proofs.FirstRows.{quiet_sel, under_rst}
+use Rattle.progress_laws.specs.trace_laws.proofs.Impossible.{none_some}
+use Rattle.progress_laws.specs.trace_laws.proofs.Joint.{Stood}
+use Rattle.progress_laws.specs.trace_laws.proofs.OpenCommands.{item_is}
+use Rattle.progress_laws.specs.trace_laws.proofs.PointerWaits.{connection_sent}
+use Rattle.progress_laws.specs.trace_laws.proofs.UnderRst.{quiet_at_end}
+use Rattle.progress_laws.specs.trace_laws.proofs.Whole.{whole}
 use Rattle.right_laws.proofs.Calls.{Follows, calling_follows, GoesOn, call_goes}
 use Rattle.right_laws.proofs.Moments.{apart_of, linked_of, reset_of}
 use Rattle.progress_laws.proofs.Rooms.{target_there}

@@ -33,26 +33,26 @@ use Rattle.bus_due.specs.Next.{due, IsPrompt}
 use Rattle.bus_due.specs.Own.{own_of}
 use Rattle.bus_due.specs.RunState.{RunState}
 use Rattle.bus_due.specs.RunSteps.{run_state}
-use Rattle.trace_laws.specs.scsi_device.proofs.FitLines.{obeys_fits}
-use Rattle.trace_laws.specs.bus_laws.specs.Reactions.{reset_due, reset_due_if, unreset_due}
-use Rattle.trace_laws.specs.bus_laws.specs.Stages.{HasShortLatencies, CalmStanding, BusStage, on_free_bus, in_arbitration, after_arbitration, with_both_ids, awaiting_answer, after_withdrawal, after_answer, after_takeover, in_reset, in_connection, is_connected}
-use Rattle.trace_laws.specs.bus_laws.proofs.Apart.{change_plain}
-use Rattle.trace_laws.specs.bus_laws.proofs.FromAnswer.{from_withdrawn, from_answered, from_resumed}
-use Rattle.trace_laws.specs.bus_laws.proofs.FromArbitration.{from_arbitration}
-use Rattle.trace_laws.specs.bus_laws.proofs.FromCalling.{from_calls, from_asking}
-use Rattle.trace_laws.specs.bus_laws.proofs.FromFree.{from_free}
-use Rattle.trace_laws.specs.bus_laws.proofs.FromWon.{from_won}
-use Rattle.trace_laws.specs.bus_laws.proofs.Limits.{obeys_latencies}
-use Rattle.trace_laws.specs.bus_laws.proofs.Prompt.{least_is}
-use Rattle.trace_laws.specs.link_laws.specs.Books.{KeepsBooksIn}
-use Rattle.trace_laws.specs.link_laws.specs.LinkStages.{AnyStage, apart, linked}
-use Rattle.trace_laws.specs.link_laws.proofs.FromLink.{from_link}
-use Rattle.trace_laws.specs.link_laws.proofs.PhaseEnds.{AfterLink, goes_on, frees}
-use Rattle.trace_laws.specs.link_laws.proofs.RunLengths.{runs_are_short}
-use Rattle.trace_laws.specs.link_laws.proofs.Traces.{link_calm}
-use Rattle.trace_laws.proofs.Impossible.{none_some}
-use Rattle.trace_laws.proofs.Joint.{Stood}
-use Rattle.trace_laws.proofs.Whole.{whole}
+use Rattle.progress_laws.specs.scsi_device.proofs.FitLines.{obeys_fits}
+use Rattle.progress_laws.specs.bus_laws.specs.Reactions.{reset_due, reset_due_if, unreset_due}
+use Rattle.progress_laws.specs.bus_laws.specs.Stages.{HasShortLatencies, CalmStanding, BusStage, on_free_bus, in_arbitration, after_arbitration, with_both_ids, awaiting_answer, after_withdrawal, after_answer, after_takeover, in_reset, in_connection, is_connected}
+use Rattle.progress_laws.specs.bus_laws.proofs.Apart.{change_plain}
+use Rattle.progress_laws.specs.bus_laws.proofs.FromAnswer.{from_withdrawn, from_answered, from_resumed}
+use Rattle.progress_laws.specs.bus_laws.proofs.FromArbitration.{from_arbitration}
+use Rattle.progress_laws.specs.bus_laws.proofs.FromCalling.{from_calls, from_asking}
+use Rattle.progress_laws.specs.bus_laws.proofs.FromFree.{from_free}
+use Rattle.progress_laws.specs.bus_laws.proofs.FromWon.{from_won}
+use Rattle.progress_laws.specs.bus_laws.proofs.Limits.{obeys_latencies}
+use Rattle.progress_laws.specs.bus_laws.proofs.Prompt.{least_is}
+use Rattle.progress_laws.specs.link_laws.specs.Books.{KeepsBooksIn}
+use Rattle.progress_laws.specs.link_laws.specs.LinkStages.{AnyStage, apart, linked}
+use Rattle.progress_laws.specs.link_laws.proofs.FromLink.{from_link}
+use Rattle.progress_laws.specs.link_laws.proofs.PhaseEnds.{AfterLink, goes_on, frees}
+use Rattle.progress_laws.specs.link_laws.proofs.RunLengths.{runs_are_short}
+use Rattle.progress_laws.specs.link_laws.proofs.Traces.{link_calm}
+use Rattle.progress_laws.specs.trace_laws.proofs.Impossible.{none_some}
+use Rattle.progress_laws.specs.trace_laws.proofs.Joint.{Stood}
+use Rattle.progress_laws.specs.trace_laws.proofs.Whole.{whole}
 use Rattle.right_laws.proofs.ResetSamples.{CalmRow, resets, reacts, calm_row}
 use Rattle.delivery_laws.specs.Delivery.{is_calm_event}
 

@@ -30,12 +30,12 @@ use Rattle.bus_due.specs.RunState.{RunState, array_of}
 use Rattle.bus_due.specs.RunSteps.{run_state}
 use Rattle.bus_due.specs.Telling.{same_event}
 use Rattle.bus_due.proofs.Plains.{prompt_plain}
-use Rattle.trace_laws.specs.bus_books.specs.FullQueues.{has_event}
-use Rattle.trace_laws.specs.bus_books.specs.WrongParity.{fault_rows}
+use Rattle.progress_laws.specs.bus_books.specs.FullQueues.{has_event}
+use Rattle.progress_laws.specs.bus_books.specs.WrongParity.{fault_rows}
 use Rattle.initiator.specs.Causes.{has_bus_reset, has_loss, has_sense_abort, has_sense_stop, has_status, is_bus_reset, is_command_abort, is_loss_of, is_sense_abort, is_status_of}
 use Rattle.progress_laws.proofs.Entries.{WantsAreItems}
 use Rattle.right_laws.proofs.Right.{all_joined}
-use Rattle.trace_laws.proofs.Whole.{Whole, whole}
+use Rattle.progress_laws.specs.trace_laws.proofs.Whole.{Whole, whole}
 use Rattle.delivery_laws.specs.Delivery.{HasRun, IsGiven, IsOwnSense, calling_faults, checked_sense, command_faults, failed, fault_limit, is_calm_event, ran, refused}
 use Rattle.delivery_laws.proofs.CalmTraces.{calm_history}
 use Rattle.delivery_laws.proofs.Callings.{unanswered_struck}

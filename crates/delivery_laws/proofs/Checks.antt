@@ -16,8 +16,8 @@ use Rattle.bus_due.specs.bus_story.specs.Items.{Sent, command_id}
 use Rattle.bus_due.specs.bus_story.specs.Story.{Story, by_status, story_after_event, story_after_events, story_with_end, with_check}
 use Rattle.bus_due.specs.bus_story.specs.TraceHistory.{story_by_change}
 use Rattle.bus_due.specs.RunSteps.{run_state}
-use Rattle.trace_laws.specs.bus_books.proofs.Lookups.{id_is}
-use Rattle.trace_laws.proofs.OverItems.{events_grow}
+use Rattle.progress_laws.specs.bus_books.proofs.Lookups.{id_is}
+use Rattle.progress_laws.specs.trace_laws.proofs.OverItems.{events_grow}
 use Rattle.progress_laws.proofs.OwedRows.{changed}
 use Rattle.initiator.specs.Causes.{has_status, is_status_of}
 

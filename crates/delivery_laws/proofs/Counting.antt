@@ -13,9 +13,9 @@ use Rattle.bus_due.specs.disk_array.specs.Seats.{is_initiator}
 use Rattle.bus_due.specs.bus_story.specs.Items.{Sent, is_open, open_from, open_limit_of}
 use Rattle.bus_due.specs.bus_story.specs.Outcomes.{most_open}
 use Rattle.bus_due.specs.bus_dialogue.specs.PhaseBytes.{one_if}
-use Rattle.trace_laws.specs.ItemFacts.{AllP}
-use Rattle.trace_laws.proofs.Impossible.{none_some}
-use Rattle.trace_laws.proofs.Tests.{plus_one}
+use Rattle.progress_laws.specs.trace_laws.specs.ItemFacts.{AllP}
+use Rattle.progress_laws.specs.trace_laws.proofs.Impossible.{none_some}
+use Rattle.progress_laws.specs.trace_laws.proofs.Tests.{plus_one}
 
 -- ---- numbers
 

@@ -33,11 +33,11 @@ use Rattle.bus_due.specs.RunSteps.{run_state}
 use Rattle.bus_due.specs.Telling.{same_event}
 use Rattle.bus_due.proofs.Plains.{prompt_plain}
 use Rattle.bus_due.specs.cdb_codec.specs.Cdb.{command_of}
-use Rattle.trace_laws.specs.bus_books.specs.FullQueues.{has_event}
-use Rattle.trace_laws.specs.bus_books.specs.WrongParity.{fault_rows, has_more_faults}
-use Rattle.trace_laws.proofs.Impossible.{none_some}
-use Rattle.trace_laws.proofs.Tests.{plus_one}
-use Rattle.trace_laws.proofs.Whole.{Whole, whole}
+use Rattle.progress_laws.specs.bus_books.specs.FullQueues.{has_event}
+use Rattle.progress_laws.specs.bus_books.specs.WrongParity.{fault_rows, has_more_faults}
+use Rattle.progress_laws.specs.trace_laws.proofs.Impossible.{none_some}
+use Rattle.progress_laws.specs.trace_laws.proofs.Tests.{plus_one}
+use Rattle.progress_laws.specs.trace_laws.proofs.Whole.{Whole, whole}
 use Rattle.right_laws.proofs.Right.{all_joined}
 use Rattle.initiator.specs.Causes.{has_status, has_loss, has_bus_reset, has_command_abort, is_bus_reset, is_command_abort, is_loss_of}
 use Rattle.delivery_laws.specs.Delivery.{calling_faults, command_faults, fault_limit, is_calm_event, is_given_up_by, limit_with}

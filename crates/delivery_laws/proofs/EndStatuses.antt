@@ -15,8 +15,8 @@ use Rattle.bus_due.specs.disk_array.specs.Processes.{same_id}
 use Rattle.bus_due.specs.Next.{IsPrompt}
 use Rattle.bus_due.specs.RunState.{RunState, array_of, carried_here}
 use Rattle.bus_due.specs.RunSteps.{run_state}
-use Rattle.trace_laws.specs.bus_books.proofs.Lookups.{id_is}
-use Rattle.trace_laws.specs.Statuses.{IsStatusIn, IsStatusOf}
+use Rattle.progress_laws.specs.bus_books.proofs.Lookups.{id_is}
+use Rattle.progress_laws.specs.trace_laws.specs.Statuses.{IsStatusIn, IsStatusOf}
 use Rattle.right_laws.specs.Open.{OnEvents}
 use Rattle.right_laws.specs.Runs.{HasEnded, IsEnded}
 use Rattle.right_laws.specs.StatusBytes.{StatusFacts}
@@ -25,7 +25,7 @@ use Rattle.right_laws.proofs.Right.{AreJoined, joined_last}
 use Rattle.right_laws.proofs.StatusFacts.{status_at_end, status_next, status_start}
 use Rattle.right_laws.proofs.UndoneLoads.{load_next, load_start}
 use Rattle.right_laws.specs.Loads.{UndoLoadFacts}
-use Rattle.trace_laws.proofs.Whole.{Whole, standing_next, whole}
+use Rattle.progress_laws.specs.trace_laws.proofs.Whole.{Whole, standing_next, whole}
 use Rattle.initiator.specs.Causes.{has_status, is_status_of}
 
 -- ---- row by row

@@ -17,13 +17,13 @@ use Rattle.bus_due.specs.disk_array.specs.Steps as Steps
 use Rattle.bus_due.specs.disk_array.specs.Units.{Array, RunningProcess, guest_at, is_held, unit_state_at}
 use Rattle.bus_due.specs.disk_array.proofs.ArrayReplies.{abort_lists, end_lists, fail_lists, loss_lists, reset_lists, took}
 use Rattle.bus_due.specs.disk_array.proofs.SoundArrays.{history_sound}
-use Rattle.trace_laws.specs.bus_books.proofs.Lookups.{id_is, self_id}
+use Rattle.progress_laws.specs.bus_books.proofs.Lookups.{id_is, self_id}
 use Rattle.bus_due.specs.Telling.{same_event}
-use Rattle.trace_laws.specs.bus_books.specs.FullQueues.{has_event}
-use Rattle.trace_laws.specs.scsi_device.proofs.FitLines.{obeys_fits, seats_are}
-use Rattle.trace_laws.proofs.Impossible.{none_some}
-use Rattle.trace_laws.proofs.ListedReplies.{accepted, refused as lists_refused, running_id, settles}
-use Rattle.trace_laws.proofs.OtherProcesses.{executed, reply_at}
+use Rattle.progress_laws.specs.bus_books.specs.FullQueues.{has_event}
+use Rattle.progress_laws.specs.scsi_device.proofs.FitLines.{obeys_fits, seats_are}
+use Rattle.progress_laws.specs.trace_laws.proofs.Impossible.{none_some}
+use Rattle.progress_laws.specs.trace_laws.proofs.ListedReplies.{accepted, refused as lists_refused, running_id, settles}
+use Rattle.progress_laws.specs.trace_laws.proofs.OtherProcesses.{executed, reply_at}
 use Rattle.progress_laws.proofs.OwedEvents.{running_own}
 use Rattle.delivery_laws.specs.Delivery.{HasRun, IsGiven, failed, ran, refused}
 

@@ -26,8 +26,8 @@ use Rattle.bus_due.specs.disk_array.specs.Steps as Steps
 use Rattle.bus_due.specs.disk_array.specs.Units.{Array, Nexus, UnitState, nexus_of, unit_state_at}
 use Rattle.bus_due.specs.bus_story.specs.Items.{command_id}
 use Rattle.bus_due.specs.bus_story.specs.Outcomes.{fits_unit, is_sound_command, is_valid}
-use Rattle.trace_laws.specs.target_units.specs.Rooms.{AreOfLines, IsOfLine}
-use Rattle.trace_laws.specs.target_units.proofs.Rooms.{lines_always}
+use Rattle.progress_laws.specs.target_units.specs.Rooms.{AreOfLines, IsOfLine}
+use Rattle.progress_laws.specs.target_units.proofs.Rooms.{lines_always}
 use Rattle.delivery_laws.specs.Delivery.{HasRun, checked_sense, fault_sense, is_calm_event}
 use Rattle.delivery_laws.proofs.ValidReplies.{calm_context, fair_after}
 

@@ -5,7 +5,7 @@ use Rattle.std.proofs.lemmas.Option.{same_Some}
 use Rattle.bus_due.specs.bus_base.specs.declared.Event.{Event}
 use Rattle.bus_due.specs.bus_base.specs.declared.Event.TheVariants as events
 use Rattle.bus_due.specs.bus_base.specs.declared.ProcId.{ProcId}
-use Rattle.trace_laws.specs.bus_laws.proofs.Prompt.{least_is}
+use Rattle.progress_laws.specs.bus_laws.proofs.Prompt.{least_is}
 use Rattle.bus_due.specs.bus_trace.specs.declared.Row.{Row}
 use Rattle.bus_due.specs.scenario.specs.Value.{ScenarioValue}
 use Rattle.bus_due.specs.scenario.specs.Writing.{Obeys}
@@ -28,12 +28,12 @@ use Rattle.bus_due.specs.Plain.{IsPlain}
 use Rattle.bus_due.specs.RunState.{RunState}
 use Rattle.bus_due.specs.RunSteps.{array_after_events, run_state}
 use Rattle.bus_due.proofs.Plains.{prompt_plain}
-use Rattle.trace_laws.specs.bus_books.proofs.Lookups.{self_id}
-use Rattle.trace_laws.specs.scsi_device.proofs.FitLines.{obeys_fits, seats_are}
-use Rattle.trace_laws.proofs.Impossible.{none_some}
-use Rattle.trace_laws.proofs.ListedReplies.{running_id}
-use Rattle.trace_laws.proofs.OtherProcesses.{reply_at}
-use Rattle.trace_laws.proofs.Whole.{Whole, standing_next, whole}
+use Rattle.progress_laws.specs.bus_books.proofs.Lookups.{self_id}
+use Rattle.progress_laws.specs.scsi_device.proofs.FitLines.{obeys_fits, seats_are}
+use Rattle.progress_laws.specs.trace_laws.proofs.Impossible.{none_some}
+use Rattle.progress_laws.specs.trace_laws.proofs.ListedReplies.{running_id}
+use Rattle.progress_laws.specs.trace_laws.proofs.OtherProcesses.{reply_at}
+use Rattle.progress_laws.specs.trace_laws.proofs.Whole.{Whole, standing_next, whole}
 use Rattle.progress_laws.proofs.OwedEvents.{running_own}
 use Rattle.delivery_laws.specs.Delivery.{HasRun}
 use Rattle.delivery_laws.proofs.OwnRows.{AllTell, Coming, row_tells}

@@ -27,15 +27,15 @@ use Rattle.bus_due.specs.Plain.{IsPlain}
 use Rattle.bus_due.specs.RunState.{RunState}
 use Rattle.bus_due.specs.RunSteps.{run_state}
 use Rattle.bus_due.proofs.Plains.{run_state_plain}
-use Rattle.trace_laws.specs.bus_laws.proofs.Apart.{change_plain}
-use Rattle.trace_laws.specs.bus_laws.proofs.Prompt.{least_is}
-use Rattle.trace_laws.specs.ItemFacts.{IsNext, is_abort, is_sense, is_command}
-use Rattle.trace_laws.proofs.FreshItems.{calm_before}
-use Rattle.trace_laws.proofs.Impossible.{none_some}
-use Rattle.trace_laws.proofs.ItemFacts.{aimed_next}
-use Rattle.trace_laws.proofs.OpenCommands.{same_process}
-use Rattle.trace_laws.proofs.OverItems.{events_grow}
-use Rattle.trace_laws.proofs.Whole.{Whole, whole}
+use Rattle.progress_laws.specs.bus_laws.proofs.Apart.{change_plain}
+use Rattle.progress_laws.specs.bus_laws.proofs.Prompt.{least_is}
+use Rattle.progress_laws.specs.trace_laws.specs.ItemFacts.{IsNext, is_abort, is_sense, is_command}
+use Rattle.progress_laws.specs.trace_laws.proofs.FreshItems.{calm_before}
+use Rattle.progress_laws.specs.trace_laws.proofs.Impossible.{none_some}
+use Rattle.progress_laws.specs.trace_laws.proofs.ItemFacts.{aimed_next}
+use Rattle.progress_laws.specs.trace_laws.proofs.OpenCommands.{same_process}
+use Rattle.progress_laws.specs.trace_laws.proofs.OverItems.{events_grow}
+use Rattle.progress_laws.specs.trace_laws.proofs.Whole.{Whole, whole}
 use Rattle.progress_laws.proofs.QueueRows.{WasOpen, before, begins, fewer_open, open_before}
 use Rattle.delivery_laws.proofs.Counting.{count_from, count_less, count_less_at, count_one_more, is_number, is_open_of, less, open_length}
 

@@ -25,9 +25,9 @@ use Rattle.bus_due.specs.Next.{IsPrompt}
 use Rattle.bus_due.specs.RunSteps.{run_state}
 use Rattle.bus_due.specs.Telling.{same_event}
 use Rattle.bus_due.proofs.Plains.{prompt_plain}
-use Rattle.trace_laws.specs.bus_books.specs.FullQueues.{has_event, was_refused}
-use Rattle.trace_laws.specs.bus_books.specs.WrongParity.{fault_rows}
-use Rattle.trace_laws.proofs.Whole.{whole}
+use Rattle.progress_laws.specs.bus_books.specs.FullQueues.{has_event, was_refused}
+use Rattle.progress_laws.specs.bus_books.specs.WrongParity.{fault_rows}
+use Rattle.progress_laws.specs.trace_laws.proofs.Whole.{whole}
 use Rattle.initiator.specs.Causes.{has_bus_reset, has_command_abort, is_loss_of, is_status_of}
 use Rattle.delivery_laws.specs.Delivery.{calling_faults, command_faults, fault_limit}
 use Rattle.delivery_laws.proofs.Callings.{unanswered_struck}

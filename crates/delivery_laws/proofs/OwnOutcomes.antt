@@ -24,9 +24,9 @@ use Rattle.bus_due.specs.RunState.{RunState, array_of, or_start}
 use Rattle.bus_due.specs.RunSteps.{run_state}
 use Rattle.bus_due.proofs.Plains.{prompt_plain}
 use Rattle.bus_due.specs.bus_base.specs.declared.ProcId.{ProcId}
-use Rattle.trace_laws.specs.bus_books.specs.FullQueues.{has_cause, has_event, was_refused}
-use Rattle.trace_laws.proofs.Impossible.{none_some}
-use Rattle.trace_laws.proofs.Whole.{whole}
+use Rattle.progress_laws.specs.bus_books.specs.FullQueues.{has_cause, has_event, was_refused}
+use Rattle.progress_laws.specs.trace_laws.proofs.Impossible.{none_some}
+use Rattle.progress_laws.specs.trace_laws.proofs.Whole.{whole}
 use Rattle.delivery_laws.specs.Delivery.{IsGiven, IsOwnSense, RanSo, failed, ran, refused}
 use Rattle.delivery_laws.proofs.GivenReplies.{all_given}
 use Rattle.delivery_laws.proofs.OwnRows.{all_own}

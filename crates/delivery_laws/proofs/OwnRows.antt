@@ -47,25 +47,25 @@ use Rattle.bus_due.specs.Plain.{IsPlain}
 use Rattle.bus_due.specs.RunState.{RunState, array_of, bus_of, carried_here, or_start, process_item}
 use Rattle.bus_due.specs.RunSteps.{array_after_events, run_state, served_after}
 use Rattle.bus_due.proofs.Plains.{run_state_plain}
-use Rattle.trace_laws.specs.scsi_device.proofs.FitLines.{obeys_fits, seats_are}
-use Rattle.trace_laws.specs.bus_books.specs.Hearing.{is_in_phase}
-use Rattle.trace_laws.specs.bus_books.specs.Traces.{apart, ends}
-use Rattle.trace_laws.specs.bus_books.proofs.Lookups.{self_id}
-use Rattle.trace_laws.specs.bus_laws.proofs.Apart.{change_plain}
-use Rattle.trace_laws.specs.bus_laws.proofs.Prompt.{least_is}
-use Rattle.trace_laws.specs.DataPointers.{is_marked}
-use Rattle.trace_laws.specs.ItemFacts.{IsChecked}
-use Rattle.trace_laws.specs.Places.{AnsweredOpen, Closes, IsAtRest, IsAway, IsTaken, IsUnanswered, IsUntouched, OnGuests, PlacedAsked, PlacedBefore, PlacedIf, PlacedIn, RunsOpen, completes, disconnects}
-use Rattle.trace_laws.proofs.ArrivingProcesses.{not_running}
-use Rattle.trace_laws.proofs.FreshItems.{items_open}
-use Rattle.trace_laws.proofs.Impossible.{none_some}
-use Rattle.trace_laws.proofs.Joint.{NextStood}
-use Rattle.trace_laws.proofs.ListedReplies.{accepted, running_id, settles}
-use Rattle.trace_laws.proofs.OverItems.{events_grow}
-use Rattle.trace_laws.proofs.PlaceReady.{on_running}
-use Rattle.trace_laws.proofs.PointerWaits.{change_over}
-use Rattle.trace_laws.proofs.RowEvents.{carried_of_item}
-use Rattle.trace_laws.proofs.Whole.{Whole, standing_next, whole}
+use Rattle.progress_laws.specs.scsi_device.proofs.FitLines.{obeys_fits, seats_are}
+use Rattle.progress_laws.specs.bus_books.specs.Hearing.{is_in_phase}
+use Rattle.progress_laws.specs.bus_books.specs.Traces.{apart, ends}
+use Rattle.progress_laws.specs.bus_books.proofs.Lookups.{self_id}
+use Rattle.progress_laws.specs.bus_laws.proofs.Apart.{change_plain}
+use Rattle.progress_laws.specs.bus_laws.proofs.Prompt.{least_is}
+use Rattle.progress_laws.specs.trace_laws.specs.DataPointers.{is_marked}
+use Rattle.progress_laws.specs.trace_laws.specs.ItemFacts.{IsChecked}
+use Rattle.progress_laws.specs.trace_laws.specs.Places.{AnsweredOpen, Closes, IsAtRest, IsAway, IsTaken, IsUnanswered, IsUntouched, OnGuests, PlacedAsked, PlacedBefore, PlacedIf, PlacedIn, RunsOpen, completes, disconnects}
+use Rattle.progress_laws.specs.trace_laws.proofs.ArrivingProcesses.{not_running}
+use Rattle.progress_laws.specs.trace_laws.proofs.FreshItems.{items_open}
+use Rattle.progress_laws.specs.trace_laws.proofs.Impossible.{none_some}
+use Rattle.progress_laws.specs.trace_laws.proofs.Joint.{NextStood}
+use Rattle.progress_laws.specs.trace_laws.proofs.ListedReplies.{accepted, running_id, settles}
+use Rattle.progress_laws.specs.trace_laws.proofs.OverItems.{events_grow}
+use Rattle.progress_laws.specs.trace_laws.proofs.PlaceReady.{on_running}
+use Rattle.progress_laws.specs.trace_laws.proofs.PointerWaits.{change_over}
+use Rattle.progress_laws.specs.trace_laws.proofs.RowEvents.{carried_of_item}
+use Rattle.progress_laws.specs.trace_laws.proofs.Whole.{Whole, standing_next, whole}
 use Rattle.progress_laws.proofs.DebtEvents.{AllPay, Paid, events_pay}
 use Rattle.progress_laws.proofs.DebtNext.{sense_is, senses_same}
 use Rattle.progress_laws.proofs.DebtSteps.{same_debt, same_debts}

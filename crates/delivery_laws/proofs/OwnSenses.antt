@@ -30,13 +30,13 @@ use Rattle.bus_due.specs.bus_story.specs.Items.{Sent, command_id, has_item, proc
 use Rattle.bus_due.specs.bus_story.specs.Outcomes.{sense_in}
 use Rattle.bus_due.specs.bus_story.specs.Story.{Ending, Story, by_abort, by_reset, by_status, is_aborted, is_sense_stopped, story_after_event, story_with_end, story_with_ends}
 use Rattle.bus_due.specs.bus_story.proofs.StorySteps.{ends_checks}
-use Rattle.trace_laws.specs.bus_books.proofs.Lookups.{id_is}
-use Rattle.trace_laws.specs.bus_books.proofs.Senses.{self_nexus}
-use Rattle.trace_laws.specs.ItemFacts.{AreChecked}
-use Rattle.trace_laws.proofs.Impossible.{none_some}
-use Rattle.trace_laws.proofs.ListedReplies.{running_id}
-use Rattle.trace_laws.proofs.OtherProcesses.{reply_at}
-use Rattle.trace_laws.proofs.OverItems.{ends_over, ends_senses, events_grow, in_append}
+use Rattle.progress_laws.specs.bus_books.proofs.Lookups.{id_is}
+use Rattle.progress_laws.specs.bus_books.proofs.Senses.{self_nexus}
+use Rattle.progress_laws.specs.trace_laws.specs.ItemFacts.{AreChecked}
+use Rattle.progress_laws.specs.trace_laws.proofs.Impossible.{none_some}
+use Rattle.progress_laws.specs.trace_laws.proofs.ListedReplies.{running_id}
+use Rattle.progress_laws.specs.trace_laws.proofs.OtherProcesses.{reply_at}
+use Rattle.progress_laws.specs.trace_laws.proofs.OverItems.{ends_over, ends_senses, events_grow, in_append}
 use Rattle.progress_laws.proofs.DebtSteps.{debt_before, is_checked, is_not_over, same_debt}
 use Rattle.progress_laws.proofs.FetchedSenses.{sense_cdb}
 use Rattle.progress_laws.proofs.Owed.{nexus_at}

@@ -21,12 +21,12 @@ use Rattle.bus_due.specs.Plain.{IsPlain}
 use Rattle.bus_due.specs.RunState.{RunState, process_item, process_served}
 use Rattle.bus_due.specs.RunSteps.{run_state}
 use Rattle.bus_due.proofs.Plains.{run_state_plain}
-use Rattle.trace_laws.specs.scsi_device.proofs.FitLines.{obeys_fits, units_are}
+use Rattle.progress_laws.specs.scsi_device.proofs.FitLines.{obeys_fits, units_are}
 use Rattle.target_course.proofs.ServedEnds.{ends_are}
-use Rattle.trace_laws.specs.bus_books.proofs.Traces.{trace_faithful}
-use Rattle.trace_laws.specs.bus_books.specs.WrongParity.{fault_rows, is_fault_of, serves}
-use Rattle.trace_laws.proofs.OpenCommands.{item_is}
-use Rattle.trace_laws.proofs.Whole.{Whole, whole}
+use Rattle.progress_laws.specs.bus_books.proofs.Traces.{trace_faithful}
+use Rattle.progress_laws.specs.bus_books.specs.WrongParity.{fault_rows, is_fault_of, serves}
+use Rattle.progress_laws.specs.trace_laws.proofs.OpenCommands.{item_is}
+use Rattle.progress_laws.specs.trace_laws.proofs.Whole.{Whole, whole}
 
 -- A line that is found is there.
 found_there : (targets : List TargetDef) (dev : ℕ) → is_some (find (λ (t : TargetDef). t.dev == dev) targets) ≡ true → list_any (λ (t : TargetDef). t.dev == dev) targets ≡ true

@@ -13,8 +13,8 @@ use Rattle.bus_due.specs.scenario.specs.Reading.{Progress, guard, in_8, time_in,
 use Rattle.bus_due.specs.scenario.specs.Value.{ScenarioValue}
 use Rattle.bus_due.specs.scenario.specs.Writing.{saids, built, Obeys}
 use Rattle.bus_due.specs.scenario.proofs.Steps.{bind_ok, ok_is, guard_ok}
-use Rattle.trace_laws.specs.scsi_device.proofs.Finds.{all_more}
-use Rattle.trace_laws.specs.scsi_device.proofs.LineReads.{reset_by}
+use Rattle.progress_laws.specs.scsi_device.proofs.Finds.{all_more}
+use Rattle.progress_laws.specs.scsi_device.proofs.LineReads.{reset_by}
 use Rattle.bus_due.specs.bus_story.specs.Samples.{host_latency, latency_of, target_latency}
 
 abbrev Has : ScenarioValue → ResetDef → Type 0

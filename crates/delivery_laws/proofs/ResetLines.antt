@@ -18,7 +18,7 @@ use Rattle.bus_due.specs.scenario.specs.Value.{ScenarioValue}
 use Rattle.bus_due.specs.scenario.specs.Writing.{Obeys}
 use Rattle.bus_due.specs.scenario.specs.declared.value.HostDef.{HostDef}
 use Rattle.bus_due.specs.scenario.specs.declared.value.TargetDef.{TargetDef}
-use Rattle.trace_laws.specs.scsi_device.specs.Lines.{FitsBus, IsHostLine, IsTargetLine}
+use Rattle.progress_laws.specs.scsi_device.specs.Lines.{FitsBus, IsHostLine, IsTargetLine}
 use Rattle.bus_due.specs.bus_story.specs.Samples.{host_latency, latency_of, target_latency}
 use Rattle.bus_due.specs.bus_reactions.specs.declared.due.Due.{Due}
 use Rattle.bus_due.specs.bus_reactions.specs.Reactions.{earlier_due, sooner_time, time_if}
@@ -29,21 +29,21 @@ use Rattle.bus_due.specs.Next.{IsEnded, IsPrompt, due}
 use Rattle.bus_due.specs.Own.{Own, own_after, own_of}
 use Rattle.bus_due.specs.Plain.{AreOfDevices}
 use Rattle.bus_due.proofs.Leasts.{least_none}
-use Rattle.trace_laws.specs.bus_laws.specs.Reactions.{reset_due, reset_due_if, unreset_due}
-use Rattle.trace_laws.specs.bus_laws.specs.Stages.{CalmStanding, HasShortLatencies}
-use Rattle.trace_laws.specs.bus_laws.proofs.Dues.{is_at}
-use Rattle.trace_laws.specs.bus_laws.proofs.FromReset.{off_at}
-use Rattle.trace_laws.specs.bus_laws.proofs.Limits.{obeys_latencies}
-use Rattle.trace_laws.specs.bus_laws.proofs.Prompt.{least_is}
-use Rattle.trace_laws.specs.bus_laws.proofs.Resets.{due_calm, due_holding, due_there, own_reset_is}
-use Rattle.trace_laws.specs.bus_laws.proofs.Rows.{drives_own}
-use Rattle.trace_laws.specs.link_laws.specs.LinkStages.{AnyStage, apart, linked}
-use Rattle.trace_laws.specs.link_laws.proofs.FromLink.{from_link}
-use Rattle.trace_laws.specs.link_laws.proofs.RunLengths.{runs_are_short}
-use Rattle.trace_laws.specs.scsi_device.proofs.FitLines.{obeys_fits}
-use Rattle.trace_laws.proofs.Impossible.{none_some}
-use Rattle.trace_laws.proofs.Joint.{Stood}
-use Rattle.trace_laws.proofs.Whole.{whole}
+use Rattle.progress_laws.specs.bus_laws.specs.Reactions.{reset_due, reset_due_if, unreset_due}
+use Rattle.progress_laws.specs.bus_laws.specs.Stages.{CalmStanding, HasShortLatencies}
+use Rattle.progress_laws.specs.bus_laws.proofs.Dues.{is_at}
+use Rattle.progress_laws.specs.bus_laws.proofs.FromReset.{off_at}
+use Rattle.progress_laws.specs.bus_laws.proofs.Limits.{obeys_latencies}
+use Rattle.progress_laws.specs.bus_laws.proofs.Prompt.{least_is}
+use Rattle.progress_laws.specs.bus_laws.proofs.Resets.{due_calm, due_holding, due_there, own_reset_is}
+use Rattle.progress_laws.specs.bus_laws.proofs.Rows.{drives_own}
+use Rattle.progress_laws.specs.link_laws.specs.LinkStages.{AnyStage, apart, linked}
+use Rattle.progress_laws.specs.link_laws.proofs.FromLink.{from_link}
+use Rattle.progress_laws.specs.link_laws.proofs.RunLengths.{runs_are_short}
+use Rattle.progress_laws.specs.scsi_device.proofs.FitLines.{obeys_fits}
+use Rattle.progress_laws.specs.trace_laws.proofs.Impossible.{none_some}
+use Rattle.progress_laws.specs.trace_laws.proofs.Joint.{Stood}
+use Rattle.progress_laws.specs.trace_laws.proofs.Whole.{whole}
 use Rattle.right_laws.proofs.ResetSamples.{CalmRow, ResetRow, calm_row, lets_go, raises, reacts, resets, under_reset}
 use Rattle.delivery_laws.specs.Resets.{are_lines, are_releases, began_reset, begins_reset, ends_reset, has_line, has_reset, is_line_of, is_release, is_reset_over, is_reset_row}
 use Rattle.bus_due.specs.scenario.specs.Lookups.{has_device}

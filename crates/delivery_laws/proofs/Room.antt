@@ -38,22 +38,22 @@ use Rattle.bus_due.specs.Plain.{IsPlain}
 use Rattle.bus_due.specs.RunState.{RunState, array_of, bus_of, carried_here, or_start}
 use Rattle.bus_due.specs.RunSteps.{run_state}
 use Rattle.bus_due.proofs.Plains.{prompt_plain}
-use Rattle.trace_laws.specs.bus_books.specs.Hearing.{is_in_phase}
-use Rattle.trace_laws.specs.bus_books.proofs.CarriedRows.{process_id}
-use Rattle.trace_laws.specs.scsi_device.specs.Writes.{writers}
-use Rattle.trace_laws.specs.scsi_device.proofs.FitLines.{command_fits, obeys_fits}
-use Rattle.trace_laws.specs.target_units.proofs.LiveQueue.{id_turned}
-use Rattle.trace_laws.specs.ItemFacts.{AllP, IsQueued, RunsP, UnitsP}
-use Rattle.trace_laws.specs.Places.{IsAway, IsUntouched, OnUnit, OnUnits, Runs, Waits}
-use Rattle.trace_laws.specs.WriteFacts.{AllUnits, IsOther, IsWrittenUnit}
-use Rattle.trace_laws.specs.Items.{IsServedOpen}
-use Rattle.trace_laws.proofs.ArrivalRows.{ArrivesNow, arrives_first}
-use Rattle.trace_laws.proofs.FreshItems.{items_open}
-use Rattle.trace_laws.proofs.Joint.{NextStood}
-use Rattle.trace_laws.proofs.PhaseLines.{command_phase}
-use Rattle.trace_laws.proofs.UnitsKept.{MayWait, StaysSo, each_settled, events_all, unit_has}
-use Rattle.trace_laws.proofs.Whole.{Whole, standing_next, whole}
-use Rattle.trace_laws.proofs.WriterUnits.{append_all, kept_all, without_all}
+use Rattle.progress_laws.specs.bus_books.specs.Hearing.{is_in_phase}
+use Rattle.progress_laws.specs.bus_books.proofs.CarriedRows.{process_id}
+use Rattle.progress_laws.specs.scsi_device.specs.Writes.{writers}
+use Rattle.progress_laws.specs.scsi_device.proofs.FitLines.{command_fits, obeys_fits}
+use Rattle.progress_laws.specs.target_units.proofs.LiveQueue.{id_turned}
+use Rattle.progress_laws.specs.trace_laws.specs.ItemFacts.{AllP, IsQueued, RunsP, UnitsP}
+use Rattle.progress_laws.specs.trace_laws.specs.Places.{IsAway, IsUntouched, OnUnit, OnUnits, Runs, Waits}
+use Rattle.progress_laws.specs.trace_laws.specs.WriteFacts.{AllUnits, IsOther, IsWrittenUnit}
+use Rattle.progress_laws.specs.trace_laws.specs.Items.{IsServedOpen}
+use Rattle.progress_laws.specs.trace_laws.proofs.ArrivalRows.{ArrivesNow, arrives_first}
+use Rattle.progress_laws.specs.trace_laws.proofs.FreshItems.{items_open}
+use Rattle.progress_laws.specs.trace_laws.proofs.Joint.{NextStood}
+use Rattle.progress_laws.specs.trace_laws.proofs.PhaseLines.{command_phase}
+use Rattle.progress_laws.specs.trace_laws.proofs.UnitsKept.{MayWait, StaysSo, each_settled, events_all, unit_has}
+use Rattle.progress_laws.specs.trace_laws.proofs.Whole.{Whole, standing_next, whole}
+use Rattle.progress_laws.specs.trace_laws.proofs.WriterUnits.{append_all, kept_all, without_all}
 use Rattle.progress_laws.proofs.OwedEvents.{OfCommand, of_command}
 use Rattle.right_laws.proofs.RowCrossings.{GoesSo, IsNew, here_goes, known_served, new_here}
 use Rattle.delivery_laws.proofs.Counting.{AreOnce, IsAnother, IsMarked, both, count_from, count_less, hosts_bound, is_open_of, of_host, processes_fit}

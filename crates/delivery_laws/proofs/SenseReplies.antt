@@ -25,13 +25,13 @@ use Rattle.bus_due.specs.disk_array.specs.Units.{Array, RunningProcess, UnitStat
 use Rattle.bus_due.specs.disk_array.specs.SoundArray.{IsSound}
 use Rattle.bus_due.specs.disk_array.proofs.SoundArrays.{history_sound}
 use Rattle.bus_due.specs.disk_array.proofs.ArrayReplies.{abort_lists, fail_lists, loss_lists, reset_lists, took, end_lists}
-use Rattle.trace_laws.specs.bus_books.proofs.Lookups.{id_is}
-use Rattle.trace_laws.proofs.ListedReplies.{accepted, refused, settles, running_id}
-use Rattle.trace_laws.proofs.OtherProcesses.{executed, reply_at}
-use Rattle.trace_laws.proofs.Impossible.{none_some}
+use Rattle.progress_laws.specs.bus_books.proofs.Lookups.{id_is}
+use Rattle.progress_laws.specs.trace_laws.proofs.ListedReplies.{accepted, refused, settles, running_id}
+use Rattle.progress_laws.specs.trace_laws.proofs.OtherProcesses.{executed, reply_at}
+use Rattle.progress_laws.specs.trace_laws.proofs.Impossible.{none_some}
 use Rattle.progress_laws.proofs.FetchedSenses.{sense_cdb}
 use Rattle.progress_laws.proofs.OwedEvents.{running_own}
-use Rattle.trace_laws.specs.scsi_device.proofs.FitLines.{obeys_fits, seats_are}
+use Rattle.progress_laws.specs.scsi_device.proofs.FitLines.{obeys_fits, seats_are}
 
 abbrev pub is_known : ℕ → Bool
 is_known status = status == GOOD || (status == CHECK_CONDITION || status == QUEUE_FULL)

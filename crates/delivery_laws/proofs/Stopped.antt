@@ -24,7 +24,7 @@ use Rattle.bus_due.specs.Plain.{IsPlain}
 use Rattle.bus_due.specs.RunState.{RunState, array_of, or_start}
 use Rattle.bus_due.specs.RunSteps.{run_state}
 use Rattle.bus_due.proofs.Plains.{prompt_plain}
-use Rattle.trace_laws.specs.ItemFacts.{Items}
+use Rattle.progress_laws.specs.trace_laws.specs.ItemFacts.{Items}
 use Rattle.progress_laws.proofs.Answered.{AreUnwanted, sense_wanted}
 use Rattle.progress_laws.proofs.DebtTraces.{Indebted, indebted}
 use Rattle.progress_laws.proofs.Ended.{Joined, free_when_ended, joined, unwanted_when_ended}

@@ -21,8 +21,8 @@ use Rattle.bus_due.specs.bus_story.specs.Items.{Item, process, abort}
 use Rattle.bus_due.specs.bus_story.specs.Links.{Link, LastMessage, plain, complete, disconnect, abortive}
 use Rattle.bus_due.specs.bus_story.specs.Story.{Story}
 use Rattle.bus_due.specs.Telling.{same_event}
-use Rattle.trace_laws.specs.bus_books.specs.FullQueues.{has_event}
-use Rattle.trace_laws.proofs.ArrivalRows.{ArrivesNow}
+use Rattle.progress_laws.specs.bus_books.specs.FullQueues.{has_event}
+use Rattle.progress_laws.specs.trace_laws.proofs.ArrivalRows.{ArrivesNow}
 
 abbrev pub is_taken : Event → Bool
 is_taken e = not (is_refuse e)

@@ -24,12 +24,12 @@ use Rattle.bus_due.specs.Plain.{IsPlain}
 use Rattle.bus_due.specs.RunState.{RunState, bus_of, item_of}
 use Rattle.bus_due.specs.RunSteps.{run_state}
 use Rattle.bus_due.proofs.Plains.{run_state_plain}
-use Rattle.trace_laws.specs.bus_books.specs.Traces.{RowOf, apart, begins, ends, goes_on, under_reset}
-use Rattle.trace_laws.specs.bus_books.proofs.Lookups.{id_is}
-use Rattle.trace_laws.specs.bus_laws.proofs.Prompt.{least_is}
-use Rattle.trace_laws.proofs.Impossible.{none_some}
-use Rattle.trace_laws.proofs.RowEvents.{AllOf, process_in, row_of}
-use Rattle.trace_laws.proofs.Whole.{Whole, standing_next, whole}
+use Rattle.progress_laws.specs.bus_books.specs.Traces.{RowOf, apart, begins, ends, goes_on, under_reset}
+use Rattle.progress_laws.specs.bus_books.proofs.Lookups.{id_is}
+use Rattle.progress_laws.specs.bus_laws.proofs.Prompt.{least_is}
+use Rattle.progress_laws.specs.trace_laws.proofs.Impossible.{none_some}
+use Rattle.progress_laws.specs.trace_laws.proofs.RowEvents.{AllOf, process_in, row_of}
+use Rattle.progress_laws.specs.trace_laws.proofs.Whole.{Whole, standing_next, whole}
 use Rattle.progress_laws.proofs.DebtEvents.{AllPay}
 use Rattle.progress_laws.proofs.DebtNext.{known_served}
 use Rattle.progress_laws.proofs.DebtTraces.{Indebted, indebted, row_pays}

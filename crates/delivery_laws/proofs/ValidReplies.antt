@@ -33,13 +33,13 @@ use Rattle.bus_due.specs.disk_array.proofs.ArrayReplies.{fail_lists, loss_lists,
 use Rattle.bus_due.specs.disk_array.proofs.SoundArrays.{history_sound}
 use Rattle.bus_due.specs.bus_story.specs.Items.{command_id}
 use Rattle.bus_due.specs.bus_story.specs.Outcomes.{fits_unit, is_sound_command, is_valid}
-use Rattle.trace_laws.specs.bus_books.proofs.Lookups.{id_is, self_id}
-use Rattle.trace_laws.specs.scsi_device.proofs.FitLines.{obeys_fits, seats_are}
-use Rattle.trace_laws.specs.target_units.specs.Rooms.{AreOfLines, IsOfLine}
-use Rattle.trace_laws.specs.target_units.proofs.Rooms.{lines_always}
-use Rattle.trace_laws.proofs.Impossible.{none_some}
-use Rattle.trace_laws.proofs.ListedReplies.{accepted, refused, settles, running_id}
-use Rattle.trace_laws.proofs.OtherProcesses.{executed, reply_at}
+use Rattle.progress_laws.specs.bus_books.proofs.Lookups.{id_is, self_id}
+use Rattle.progress_laws.specs.scsi_device.proofs.FitLines.{obeys_fits, seats_are}
+use Rattle.progress_laws.specs.target_units.specs.Rooms.{AreOfLines, IsOfLine}
+use Rattle.progress_laws.specs.target_units.proofs.Rooms.{lines_always}
+use Rattle.progress_laws.specs.trace_laws.proofs.Impossible.{none_some}
+use Rattle.progress_laws.specs.trace_laws.proofs.ListedReplies.{accepted, refused, settles, running_id}
+use Rattle.progress_laws.specs.trace_laws.proofs.OtherProcesses.{executed, reply_at}
 use Rattle.progress_laws.proofs.OwedEvents.{running_own}
 use Rattle.delivery_laws.specs.Delivery.{is_given_up_by, is_calm_event}
 

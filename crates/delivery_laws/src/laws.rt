@@ -5,7 +5,7 @@ ghost use Rattle.bus_due.specs.bus_trace.specs.declared.Row.{Row};
 ghost use Rattle.bus_due.specs.bus_base.specs.declared.Event.TheVariants as events;
 ghost use Rattle.bus_due.specs.Goals.{EndsRight, is_good};
 ghost use Rattle.bus_due.specs.Next.{IsPrompt, IsEnded};
-ghost use Rattle.trace_laws.specs.bus_books.specs.FullQueues.{has_event};
+ghost use Rattle.progress_laws.specs.bus_books.specs.FullQueues.{has_event};
 ghost use Rattle.bus_due.specs.RunSteps.{run_state};
 ghost use Rattle.std.specs.List.{list_any};
 ghost use Rattle.bus_due.specs.bus_base.specs.declared.Event.{Event};
@@ -31,10 +31,10 @@ ghost use Rattle.std.specs.List.{list_all};
 
 use bus_due::wants_are_items;
 use initiator::endings_have_causes;
+use progress_laws::the_bus_books::replies_have_causes;
+use progress_laws::the_trace_laws::limits_are_kept;
 use progress_laws::{ended_traces_are_quiet, ended_traces_have_outcomes};
 use right_laws::{fault_rows_are_of_the_scenario, prompt_traces_are_right};
-use trace_laws::limits_are_kept;
-use trace_laws::the_bus_books::replies_have_causes;
 
 /// In a history without resets and aborts a valid command is answered GOOD, unless it was refused or failed.
 pub fn valid_commands_run_good()

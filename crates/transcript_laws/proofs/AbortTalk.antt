@@ -14,14 +14,14 @@ use Rattle.bus_due.specs.RunState.{RunState, bus_of}
 use Rattle.bus_due.specs.RunSteps.{run_state}
 use Rattle.bus_due.specs.Plain.{IsPlain}
 use Rattle.bus_due.proofs.Plains.{run_state_plain}
-use Rattle.trace_laws.specs.bus_laws.specs.Ends.{connected_bus, ends_selected}
-use Rattle.trace_laws.specs.bus_books.specs.Tests.{is_selected}
-use Rattle.trace_laws.specs.bus_books.proofs.InConnection.{InConnection, in_connection}
+use Rattle.progress_laws.specs.bus_laws.specs.Ends.{connected_bus, ends_selected}
+use Rattle.progress_laws.specs.bus_books.specs.Tests.{is_selected}
+use Rattle.progress_laws.specs.bus_books.proofs.InConnection.{InConnection, in_connection}
 use Rattle.bus_transcript.specs.Opened.{OpenedValue, phase_entered, phase_over}
-use Rattle.trace_laws.specs.Tells.{IsServed, of_process, of_abort}
-use Rattle.trace_laws.proofs.ConnectionRows.{stage_of_connection}
-use Rattle.trace_laws.proofs.Joint.{link_phase, link_unbegun}
-use Rattle.trace_laws.proofs.PhaseLines.{in_out, out_lines, out_no_status}
+use Rattle.progress_laws.specs.trace_laws.specs.Tells.{IsServed, of_process, of_abort}
+use Rattle.progress_laws.specs.trace_laws.proofs.ConnectionRows.{stage_of_connection}
+use Rattle.progress_laws.specs.trace_laws.proofs.Joint.{link_phase, link_unbegun}
+use Rattle.progress_laws.specs.trace_laws.proofs.PhaseLines.{in_out, out_lines, out_no_status}
 use Rattle.transcript_laws.specs.Parts.{are_talk, base_parts}
 use Rattle.transcript_laws.proofs.OpenedAll.{OpenedAll}
 use Rattle.transcript_laws.proofs.OpenedBytes.{begun_crossing}

@@ -37,23 +37,23 @@ use Rattle.bus_due.specs.RunSteps.{run_state}
 use Rattle.bus_due.specs.Sights.{hearing_of, leaving, serving_of}
 use Rattle.bus_due.specs.Tasks.{task_if, task_of}
 use Rattle.bus_due.specs.Plain.{IsPlain}
-use Rattle.trace_laws.specs.bus_books.specs.Giving.{AreGiven, OnMessage, OnMessages}
-use Rattle.trace_laws.specs.bus_books.specs.Knowing.{IsNoName}
-use Rattle.trace_laws.specs.bus_books.specs.Rows.{reading_in}
-use Rattle.trace_laws.specs.bus_books.proofs.InConnection.{InConnection, in_connection, SamePhase}
-use Rattle.trace_laws.specs.link_laws.specs.Pulses.{run_count}
+use Rattle.progress_laws.specs.bus_books.specs.Giving.{AreGiven, OnMessage, OnMessages}
+use Rattle.progress_laws.specs.bus_books.specs.Knowing.{IsNoName}
+use Rattle.progress_laws.specs.bus_books.specs.Rows.{reading_in}
+use Rattle.progress_laws.specs.bus_books.proofs.InConnection.{InConnection, in_connection, SamePhase}
+use Rattle.progress_laws.specs.link_laws.specs.Pulses.{run_count}
 use Rattle.bus_transcript.specs.declared.part.Part.{Part}
 use Rattle.bus_transcript.specs.declared.part.Part.TheVariants as parts_of
 use Rattle.bus_transcript.specs.Opened.{OpenedValue, data_parts, phase_parts, phase_over, phase_entered}
-use Rattle.trace_laws.specs.Named.{Named, known, said, refused}
-use Rattle.trace_laws.specs.Tells.{IsServed, of_process, of_abort}
-use Rattle.trace_laws.proofs.CloseCounts.{counted_row, turn_handshakes}
-use Rattle.trace_laws.proofs.NamedBytes.{names_first, names_left}
-use Rattle.trace_laws.proofs.PhaseLines.{in_phase, out_in, out_phase}
-use Rattle.trace_laws.proofs.RunAsks.{answers_all, out_phase as data_out_phase}
-use Rattle.trace_laws.proofs.RunFacts.{task_here}
-use Rattle.trace_laws.specs.bus_books.proofs.Gives.{not_both}
-use Rattle.trace_laws.proofs.TellFacts.{front_length}
+use Rattle.progress_laws.specs.trace_laws.specs.Named.{Named, known, said, refused}
+use Rattle.progress_laws.specs.trace_laws.specs.Tells.{IsServed, of_process, of_abort}
+use Rattle.progress_laws.specs.trace_laws.proofs.CloseCounts.{counted_row, turn_handshakes}
+use Rattle.progress_laws.specs.trace_laws.proofs.NamedBytes.{names_first, names_left}
+use Rattle.progress_laws.specs.trace_laws.proofs.PhaseLines.{in_phase, out_in, out_phase}
+use Rattle.progress_laws.specs.trace_laws.proofs.RunAsks.{answers_all, out_phase as data_out_phase}
+use Rattle.progress_laws.specs.trace_laws.proofs.RunFacts.{task_here}
+use Rattle.progress_laws.specs.bus_books.proofs.Gives.{not_both}
+use Rattle.progress_laws.specs.trace_laws.proofs.TellFacts.{front_length}
 use Rattle.transcript_laws.specs.Parts.{are_talk, base_parts, parts_now}
 use Rattle.transcript_laws.proofs.BaseParts.{base_turned}
 use Rattle.transcript_laws.proofs.LeftAsked.{left_asked}

@@ -19,12 +19,12 @@ use Rattle.bus_due.specs.Next.{IsPrompt}
 use Rattle.bus_due.specs.RunState.{RunState}
 use Rattle.bus_due.specs.RunSteps.{run_state}
 use Rattle.bus_due.proofs.Plains.{run_state_plain}
-use Rattle.trace_laws.specs.bus_books.specs.Accounts.{is_open_in}
-use Rattle.trace_laws.specs.ItemFacts.{IsNext, is_abort, is_sense, is_command}
-use Rattle.trace_laws.proofs.FreshItems.{calm_before, items_fresh}
-use Rattle.trace_laws.proofs.ItemFacts.{aimed_next}
-use Rattle.trace_laws.proofs.OpenCommands.{next_free}
-use Rattle.trace_laws.proofs.Whole.{Whole}
+use Rattle.progress_laws.specs.bus_books.specs.Accounts.{is_open_in}
+use Rattle.progress_laws.specs.trace_laws.specs.ItemFacts.{IsNext, is_abort, is_sense, is_command}
+use Rattle.progress_laws.specs.trace_laws.proofs.FreshItems.{calm_before, items_fresh}
+use Rattle.progress_laws.specs.trace_laws.proofs.ItemFacts.{aimed_next}
+use Rattle.progress_laws.specs.trace_laws.proofs.OpenCommands.{next_free}
+use Rattle.progress_laws.specs.trace_laws.proofs.Whole.{Whole}
 use Rattle.bus_transcript.specs.Processes.{same_nexus}
 use Rattle.transcript_laws.specs.Parts.{nexus_of, is_of}
 use Rattle.transcript_laws.specs.RowTests.{shares_nexus, is_alone}

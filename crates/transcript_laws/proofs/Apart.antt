@@ -5,13 +5,13 @@ use Rattle.std.proofs.lemmas.Option.{same_Some}
 use Rattle.bus_due.specs.bus_base.specs.declared.ProcId.{ProcId}
 use Rattle.bus_due.specs.disk_array.specs.Processes.{same_id}
 use Rattle.bus_due.specs.bus_story.specs.Items.{Item, process, abort, same_item}
-use Rattle.trace_laws.specs.bus_books.proofs.Lookups.{id_is}
+use Rattle.progress_laws.specs.bus_books.proofs.Lookups.{id_is}
 use Rattle.bus_transcript.specs.declared.item.Name.{Name}
 use Rattle.bus_transcript.specs.Events.{same_name, name_sent}
 use Rattle.transcript_laws.specs.Numbered.{OnNames, AreOther, AreDistinct}
 use Rattle.transcript_laws.proofs.LastProcesses.{nexus_turned}
 use Rattle.bus_due.specs.bus_base.proofs.Tests.{wrong, wrong', eq_turned}
-use Rattle.trace_laws.proofs.Impossible.{none_some}
+use Rattle.progress_laws.specs.trace_laws.proofs.Impossible.{none_some}
 
 name_turned : (a b : Name) → same_name a b ≡ same_name b a
 name_turned a b = λ i. nexus_turned a b i && eq_turned a.number b.number i

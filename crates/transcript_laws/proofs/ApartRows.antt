@@ -17,7 +17,7 @@ use Rattle.bus_due.specs.bus_story.specs.Links.{Link}
 use Rattle.bus_due.specs.bus_story.specs.Story.{Story, by_reset, story_after_events}
 use Rattle.bus_due.specs.bus_story.specs.TraceHistory.{story_in_connection, story_on_bus, story_with_history, story_with, story_by, story}
 use Rattle.bus_due.specs.bus_story.proofs.StorySteps.{ends_keep}
-use Rattle.trace_laws.proofs.OverItems.{Grows, grows_same, events_grow}
+use Rattle.progress_laws.specs.trace_laws.proofs.OverItems.{Grows, grows_same, events_grow}
 use Rattle.bus_transcript.specs.declared.item.Item as item_of
 use Rattle.bus_transcript.specs.declared.item.Item.TheVariants as items
 use Rattle.bus_transcript.specs.declared.item.Name.{Name}

@@ -17,13 +17,13 @@ use Rattle.bus_due.specs.bus_story.specs.Story.{Story}
 use Rattle.bus_due.specs.bus_story.specs.TraceHistory.{aim_of}
 use Rattle.bus_due.specs.Next.{IsPrompt}
 use Rattle.bus_due.specs.RunSteps.{run_state}
-use Rattle.trace_laws.specs.bus_laws.proofs.Apart.{change_plain}
-use Rattle.trace_laws.specs.bus_laws.proofs.Prompt.{least_is}
-use Rattle.trace_laws.specs.bus_laws.specs.Ends.{BeginsConnection, by_selection, by_reselection}
-use Rattle.trace_laws.proofs.ConnectionRows.{RowKindOf, begins_now, goes_now, row_kind}
-use Rattle.trace_laws.proofs.FreshItems.{calm_after, items_fresh, items_sent}
-use Rattle.trace_laws.proofs.Impossible.{none_some}
-use Rattle.trace_laws.proofs.Whole.{Whole}
+use Rattle.progress_laws.specs.bus_laws.proofs.Apart.{change_plain}
+use Rattle.progress_laws.specs.bus_laws.proofs.Prompt.{least_is}
+use Rattle.progress_laws.specs.bus_laws.specs.Ends.{BeginsConnection, by_selection, by_reselection}
+use Rattle.progress_laws.specs.trace_laws.proofs.ConnectionRows.{RowKindOf, begins_now, goes_now, row_kind}
+use Rattle.progress_laws.specs.trace_laws.proofs.FreshItems.{calm_after, items_fresh, items_sent}
+use Rattle.progress_laws.specs.trace_laws.proofs.Impossible.{none_some}
+use Rattle.progress_laws.specs.trace_laws.proofs.Whole.{Whole}
 use Rattle.transcript_laws.specs.RowTests.{is_fresh}
 
 fresh_by : (b : Story) (item : Item) → has_item b.sent.sent item ≡ false

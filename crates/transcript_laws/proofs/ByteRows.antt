@@ -14,7 +14,7 @@ use Rattle.bus_due.specs.bus_story.specs.HistoryEvents.{carried_if}
 use Rattle.bus_due.specs.bus_story.specs.Items.{Item, Sent}
 use Rattle.bus_due.specs.bus_story.specs.Story.{Story}
 use Rattle.bus_due.specs.bus_story.specs.TraceHistory.{story_with_carried, carried_after_byte_if, story_after_crossing, story}
-use Rattle.trace_laws.proofs.OverItems.{grows_same}
+use Rattle.progress_laws.specs.trace_laws.proofs.OverItems.{grows_same}
 use Rattle.bus_transcript.specs.declared.part.Part.TheVariants as parts_of
 use Rattle.bus_transcript.specs.Events.{names_begun}
 use Rattle.bus_transcript.specs.Opened.{OpenedValue, with_said, with_in_if, with_part, with_crossing}

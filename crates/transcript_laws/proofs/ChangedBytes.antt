@@ -17,14 +17,14 @@ use Rattle.bus_due.specs.bus_story.specs.Items.{Item, process, abort}
 use Rattle.bus_due.specs.bus_story.specs.Story.{Story}
 use Rattle.bus_due.specs.bus_story.specs.TraceHistory.{story_with_carried, story_with_restored, carried_after_message_if, carried_after_byte_if, carried_after_fault_if}
 use Rattle.bus_due.specs.bus_story.proofs.CarriedLists.{carried_id}
-use Rattle.trace_laws.specs.bus_books.proofs.Lookups.{put_own, put_other}
-use Rattle.trace_laws.specs.bus_books.proofs.Areas.{with_command_byte}
+use Rattle.progress_laws.specs.bus_books.proofs.Lookups.{put_own, put_other}
+use Rattle.progress_laws.specs.bus_books.proofs.Areas.{with_command_byte}
 use Rattle.transcript_laws.specs.Serving.{IsBlank}
 use Rattle.transcript_laws.specs.Standing.{AreAlike}
 use Rattle.transcript_laws.specs.Told.{has_refusal, has_answer, IsMarked}
 use Rattle.transcript_laws.proofs.OpenProcesses.{alike_self, alike_put, put_each}
 use Rattle.bus_due.specs.bus_base.proofs.Tests.{wrong'}
-use Rattle.trace_laws.specs.target_units.proofs.LiveQueue.{id_turned}
+use Rattle.progress_laws.specs.target_units.proofs.LiveQueue.{id_turned}
 
 -- ---- one process
 

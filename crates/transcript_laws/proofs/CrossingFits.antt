@@ -21,18 +21,18 @@ use Rattle.bus_due.specs.bus_dialogue.specs.Exchange.{bytes_of_messages}
 use Rattle.bus_due.specs.bus_dialogue.specs.Words.{is_name}
 use Rattle.bus_due.specs.RunState.{RunState, bus_of}
 use Rattle.bus_due.specs.RunSteps.{run_state}
-use Rattle.trace_laws.specs.bus_books.specs.Giving.{OnMessage, OnMessages}
-use Rattle.trace_laws.specs.bus_books.specs.Knowing.{Knows, IsNoName}
-use Rattle.trace_laws.specs.bus_books.specs.RowTests.{same_item_if}
-use Rattle.trace_laws.specs.bus_books.proofs.Hearable.{heard_next}
-use Rattle.trace_laws.specs.bus_books.proofs.Knows.{nameless_item}
-use Rattle.trace_laws.specs.bus_books.proofs.Lookups.{self_id}
+use Rattle.progress_laws.specs.bus_books.specs.Giving.{OnMessage, OnMessages}
+use Rattle.progress_laws.specs.bus_books.specs.Knowing.{Knows, IsNoName}
+use Rattle.progress_laws.specs.bus_books.specs.RowTests.{same_item_if}
+use Rattle.progress_laws.specs.bus_books.proofs.Hearable.{heard_next}
+use Rattle.progress_laws.specs.bus_books.proofs.Knows.{nameless_item}
+use Rattle.progress_laws.specs.bus_books.proofs.Lookups.{self_id}
 use Rattle.bus_transcript.specs.Opened.{OpenedValue}
-use Rattle.trace_laws.specs.ItemTalks.{TalksBy, IsTaken, talk_of}
-use Rattle.trace_laws.specs.Tells.{IsServed, of_process, of_abort}
-use Rattle.trace_laws.proofs.PhaseLines.{out_lines}
-use Rattle.trace_laws.proofs.TalkBytes.{on_message}
-use Rattle.trace_laws.specs.bus_books.proofs.Gives.{not_both as not_both_ways}
+use Rattle.progress_laws.specs.trace_laws.specs.ItemTalks.{TalksBy, IsTaken, talk_of}
+use Rattle.progress_laws.specs.trace_laws.specs.Tells.{IsServed, of_process, of_abort}
+use Rattle.progress_laws.specs.trace_laws.proofs.PhaseLines.{out_lines}
+use Rattle.progress_laws.specs.trace_laws.proofs.TalkBytes.{on_message}
+use Rattle.progress_laws.specs.bus_books.proofs.Gives.{not_both as not_both_ways}
 use Rattle.transcript_laws.specs.Parts.{are_talk, base_parts, is_known}
 use Rattle.transcript_laws.specs.RowTests.{names_item, fits_in, is_no_abort}
 use Rattle.transcript_laws.proofs.OpenedBytes.{OpenedBytes, crosses_is, begun_crossing}

@@ -14,7 +14,7 @@ use Rattle.bus_due.specs.bus_story.specs.HistoryEvents.{is_completion, carried_i
 use Rattle.bus_due.specs.bus_story.specs.Links.{Link}
 use Rattle.bus_due.specs.bus_story.specs.Story.{Story}
 use Rattle.bus_due.specs.bus_story.specs.TraceHistory.{story_with_carried, carried_after_byte_if, story_after_byte, story_after_in, story_after_out, story_after_crossing, story_after_fault, story_in_connection, story}
-use Rattle.trace_laws.proofs.CommandMessages.{crossed_else}
+use Rattle.progress_laws.specs.trace_laws.proofs.CommandMessages.{crossed_else}
 use Rattle.bus_transcript.specs.Opened.{OpenedValue, with_crossing, with_still_row, phase_over, phase_entered, with_row}
 use Rattle.bus_transcript.specs.Rows.{transcribed}
 use Rattle.transcript_laws.specs.Standing.{StandsLinked}

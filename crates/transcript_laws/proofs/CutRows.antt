@@ -22,7 +22,7 @@ use Rattle.bus_due.specs.bus_story.specs.Items.{Item, process, Sent, same_item, 
 use Rattle.bus_due.specs.bus_story.specs.Story.{Story, Ending, by_reset, story_with_over, story_with_end, story_with_ends, story_after_events}
 use Rattle.bus_due.specs.bus_story.specs.TraceHistory.{story_on_bus, story_with_history, story_with, story_by, story}
 use Rattle.bus_due.specs.bus_story.proofs.StorySteps.{ends_keep, events_sent}
-use Rattle.trace_laws.proofs.OpenCommands.{item_is}
+use Rattle.progress_laws.specs.trace_laws.proofs.OpenCommands.{item_is}
 use Rattle.bus_transcript.specs.declared.item.Item as item_of
 use Rattle.bus_transcript.specs.declared.item.Item.TheVariants as items
 use Rattle.bus_transcript.specs.declared.item.Name.{Name}

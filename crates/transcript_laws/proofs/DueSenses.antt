@@ -29,20 +29,20 @@ use Rattle.bus_due.specs.Plain.{IsPlain}
 use Rattle.bus_due.specs.RunState.{RunState, bus_of, item_of}
 use Rattle.bus_due.specs.RunSteps.{run_state}
 use Rattle.bus_due.proofs.Plains.{run_state_plain}
-use Rattle.trace_laws.specs.bus_books.specs.Knowing.{Knows}
-use Rattle.trace_laws.specs.bus_books.specs.Traces.{RowOf, apart, begins, ends, goes_on, under_reset}
-use Rattle.trace_laws.specs.bus_laws.proofs.Apart.{change_plain}
-use Rattle.trace_laws.specs.bus_laws.proofs.Prompt.{least_is}
-use Rattle.trace_laws.specs.ItemFacts.{IsNext, is_abort, is_sense, is_command, AreChecked, NoClash}
-use Rattle.trace_laws.proofs.FreshItems.{calm_before}
-use Rattle.trace_laws.proofs.ItemFacts.{aimed_next}
-use Rattle.trace_laws.proofs.Joint.{NextStood}
-use Rattle.trace_laws.proofs.OpenCommands.{next_free, opened, same_process}
-use Rattle.trace_laws.proofs.OverItems.{events_grow, in_append, not_grown}
+use Rattle.progress_laws.specs.bus_books.specs.Knowing.{Knows}
+use Rattle.progress_laws.specs.bus_books.specs.Traces.{RowOf, apart, begins, ends, goes_on, under_reset}
+use Rattle.progress_laws.specs.bus_laws.proofs.Apart.{change_plain}
+use Rattle.progress_laws.specs.bus_laws.proofs.Prompt.{least_is}
+use Rattle.progress_laws.specs.trace_laws.specs.ItemFacts.{IsNext, is_abort, is_sense, is_command, AreChecked, NoClash}
+use Rattle.progress_laws.specs.trace_laws.proofs.FreshItems.{calm_before}
+use Rattle.progress_laws.specs.trace_laws.proofs.ItemFacts.{aimed_next}
+use Rattle.progress_laws.specs.trace_laws.proofs.Joint.{NextStood}
+use Rattle.progress_laws.specs.trace_laws.proofs.OpenCommands.{next_free, opened, same_process}
+use Rattle.progress_laws.specs.trace_laws.proofs.OverItems.{events_grow, in_append, not_grown}
 use Rattle.bus_due.specs.bus_story.proofs.StorySteps.{ends_checks}
-use Rattle.trace_laws.proofs.RowEvents.{carried_of_item}
-use Rattle.trace_laws.proofs.Whole.{Whole, standing_next, whole}
-use Rattle.trace_laws.proofs.PointerWaits.{change_over}
+use Rattle.progress_laws.specs.trace_laws.proofs.RowEvents.{carried_of_item}
+use Rattle.progress_laws.specs.trace_laws.proofs.Whole.{Whole, standing_next, whole}
+use Rattle.progress_laws.specs.trace_laws.proofs.PointerWaits.{change_over}
 use Rattle.progress_laws.proofs.Answered.{sense_left}
 use Rattle.progress_laws.proofs.DebtNext.{ends_open, known_served}
 use Rattle.progress_laws.proofs.DebtRows.{NoEnds, Shown, completes, no_ends, row_shown}

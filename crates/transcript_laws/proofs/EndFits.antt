@@ -44,13 +44,13 @@ use Rattle.bus_due.specs.Sights.{serving_of}
 use Rattle.bus_due.specs.Tasks.{task_if}
 use Rattle.bus_due.specs.Telling.{same_kind}
 use Rattle.bus_due.proofs.Plains.{run_state_plain}
-use Rattle.trace_laws.specs.bus_books.specs.Giving.{Gives}
-use Rattle.trace_laws.specs.bus_books.specs.Speaking.{Speaks}
-use Rattle.trace_laws.specs.bus_books.specs.Tests.{is_selected}
-use Rattle.trace_laws.specs.bus_books.proofs.Given.{in_is_whole}
-use Rattle.trace_laws.specs.bus_books.proofs.InConnection.{reading_is}
-use Rattle.trace_laws.specs.bus_laws.proofs.Apart.{change_plain}
-use Rattle.trace_laws.specs.bus_laws.proofs.Prompt.{least_is}
+use Rattle.progress_laws.specs.bus_books.specs.Giving.{Gives}
+use Rattle.progress_laws.specs.bus_books.specs.Speaking.{Speaks}
+use Rattle.progress_laws.specs.bus_books.specs.Tests.{is_selected}
+use Rattle.progress_laws.specs.bus_books.proofs.Given.{in_is_whole}
+use Rattle.progress_laws.specs.bus_books.proofs.InConnection.{reading_is}
+use Rattle.progress_laws.specs.bus_laws.proofs.Apart.{change_plain}
+use Rattle.progress_laws.specs.bus_laws.proofs.Prompt.{least_is}
 use Rattle.bus_transcript.specs.declared.part.Incoming.{Incoming}
 use Rattle.bus_transcript.specs.declared.part.Part.{Part}
 use Rattle.bus_transcript.specs.declared.summary.Departure.{Departure}
@@ -59,23 +59,23 @@ use Rattle.bus_transcript.specs.declared.summary.Summary.{Summary}
 use Rattle.bus_transcript.specs.Nexus.{no_summary, kind_of, summary_of}
 use Rattle.bus_transcript.specs.Opened.{OpenedValue, opened_connection, held_part}
 use Rattle.bus_transcript.specs.Rows.{transcribed}
-use Rattle.trace_laws.specs.LastTalks.{LastBy}
-use Rattle.trace_laws.specs.Named.{Named, known, said, refused}
-use Rattle.trace_laws.specs.Tells.{IsClosing, IsServed, of_process, of_abort, LastIn, Tells}
-use Rattle.trace_laws.proofs.ConnectionRows.{ConnectionRow, connection_row}
-use Rattle.trace_laws.proofs.Crossings.{RowFacts, Stops, ends_here, stays}
-use Rattle.trace_laws.proofs.FailureLeft.{fails_as_left}
-use Rattle.trace_laws.proofs.Impossible.{none_some}
-use Rattle.trace_laws.proofs.Joint.{link_phase}
-use Rattle.trace_laws.proofs.PhaseLines.{in_out, out_in}
-use Rattle.trace_laws.proofs.RunFacts.{task_here}
-use Rattle.trace_laws.proofs.SentFailures.{sent_asks}
-use Rattle.trace_laws.specs.bus_books.proofs.Gives.{not_both}
-use Rattle.trace_laws.proofs.TellEnds.{goes_on, naming_goes_on, none_heard}
-use Rattle.trace_laws.proofs.TellFacts.{all_given, left_tells}
-use Rattle.trace_laws.proofs.TellRows.{IsHeard, is_heard, never_ends}
-use Rattle.trace_laws.proofs.UndoneFacts.{in_of}
-use Rattle.trace_laws.proofs.Whole.{Whole}
+use Rattle.progress_laws.specs.trace_laws.specs.LastTalks.{LastBy}
+use Rattle.progress_laws.specs.trace_laws.specs.Named.{Named, known, said, refused}
+use Rattle.progress_laws.specs.trace_laws.specs.Tells.{IsClosing, IsServed, of_process, of_abort, LastIn, Tells}
+use Rattle.progress_laws.specs.trace_laws.proofs.ConnectionRows.{ConnectionRow, connection_row}
+use Rattle.progress_laws.specs.trace_laws.proofs.Crossings.{RowFacts, Stops, ends_here, stays}
+use Rattle.progress_laws.specs.trace_laws.proofs.FailureLeft.{fails_as_left}
+use Rattle.progress_laws.specs.trace_laws.proofs.Impossible.{none_some}
+use Rattle.progress_laws.specs.trace_laws.proofs.Joint.{link_phase}
+use Rattle.progress_laws.specs.trace_laws.proofs.PhaseLines.{in_out, out_in}
+use Rattle.progress_laws.specs.trace_laws.proofs.RunFacts.{task_here}
+use Rattle.progress_laws.specs.trace_laws.proofs.SentFailures.{sent_asks}
+use Rattle.progress_laws.specs.bus_books.proofs.Gives.{not_both}
+use Rattle.progress_laws.specs.trace_laws.proofs.TellEnds.{goes_on, naming_goes_on, none_heard}
+use Rattle.progress_laws.specs.trace_laws.proofs.TellFacts.{all_given, left_tells}
+use Rattle.progress_laws.specs.trace_laws.proofs.TellRows.{IsHeard, is_heard, never_ends}
+use Rattle.progress_laws.specs.trace_laws.proofs.UndoneFacts.{in_of}
+use Rattle.progress_laws.specs.trace_laws.proofs.Whole.{Whole}
 use Rattle.transcript_laws.specs.Parts.{are_talk, base_parts, out_parts, parts_now, summary_by, name_process}
 use Rattle.transcript_laws.specs.RowTests.{is_departure, is_abortion, is_line, closing_parts, fits_end, is_named}
 use Rattle.transcript_laws.proofs.AbortTalk.{AbortTalk, abort_row}

@@ -27,8 +27,8 @@ use Rattle.bus_due.specs.bus_story.specs.TraceHistory.{story_on_bus, story_with_
 use Rattle.bus_due.specs.bus_story.proofs.StorySteps.{ends_keep, events_link, events_sent}
 use Rattle.bus_due.specs.Telling.{same_kind}
 use Rattle.bus_due.proofs.SameEvents.{kinds_are}
-use Rattle.trace_laws.specs.bus_books.specs.Accounts.{is_open_in}
-use Rattle.trace_laws.proofs.OverItems.{events_grow}
+use Rattle.progress_laws.specs.bus_books.specs.Accounts.{is_open_in}
+use Rattle.progress_laws.specs.trace_laws.proofs.OverItems.{events_grow}
 use Rattle.bus_transcript.specs.Accounts.{account_of}
 use Rattle.bus_transcript.specs.declared.item.Item as item_of
 use Rattle.bus_transcript.specs.declared.item.Item.TheVariants as items

@@ -15,8 +15,8 @@ use Rattle.bus_due.specs.bus_dialogue.specs.declared.exchange.Task.{Task}
 use Rattle.bus_due.specs.bus_dialogue.specs.Arrivals.{policy_of}
 use Rattle.bus_due.specs.bus_dialogue.specs.NextPhase.{Serving, bus_free, phase_entry, with_task, recovery, pointer_restoration, next_data_phase, after_offer, message_out_leaving, after_messages, after_arrival, after_run, phase_leaving}
 use Rattle.bus_due.specs.bus_dialogue.specs.Words.{request_by}
-use Rattle.trace_laws.proofs.TellEnds.{goes_on, either_on, recovers_on, requested_on, arrived_on, ran_on}
-use Rattle.trace_laws.specs.bus_books.specs.Tests.{is_selected}
+use Rattle.progress_laws.specs.trace_laws.proofs.TellEnds.{goes_on, either_on, recovers_on, requested_on, arrived_on, ran_on}
+use Rattle.progress_laws.specs.bus_books.specs.Tests.{is_selected}
 use Rattle.bus_due.specs.bus_base.proofs.Tests.{wrong}
 
 pub data EndsBy (v : Serving) (attention : Bool) (phase : Phase) : Type 0 where

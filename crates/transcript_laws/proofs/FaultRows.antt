@@ -13,7 +13,7 @@ use Rattle.bus_due.specs.scenario.specs.Value.{ScenarioValue}
 use Rattle.bus_due.specs.bus_story.specs.BusState.{BusState, change_to, change_by}
 use Rattle.bus_due.specs.bus_story.specs.TraceHistory.{story}
 use Rattle.bus_due.specs.bus_base.proofs.Tests.{wrong'}
-use Rattle.trace_laws.specs.link_laws.proofs.Moves.{no_rise}
+use Rattle.progress_laws.specs.link_laws.proofs.Moves.{no_rise}
 
 -- What is driven is put in its place.
 put_same : (xs : List LineSet) (i : ℕ) → slice_set xs i (driven_at xs i) ≡ xs

@@ -17,8 +17,8 @@ use Rattle.bus_due.specs.bus_story.specs.Links.{link_of}
 use Rattle.bus_due.specs.bus_story.specs.Story.{Story}
 use Rattle.bus_due.specs.bus_story.specs.TraceHistory.{aim_of, story_with_history, story}
 use Rattle.bus_due.specs.bus_story.proofs.CarriedLists.{carried_id, carried_with}
-use Rattle.trace_laws.specs.bus_books.proofs.Lookups.{put_own}
-use Rattle.trace_laws.proofs.Impossible.{none_some}
+use Rattle.progress_laws.specs.bus_books.proofs.Lookups.{put_own}
+use Rattle.progress_laws.specs.trace_laws.proofs.Impossible.{none_some}
 use Rattle.bus_transcript.specs.declared.process.Process.{Process}
 use Rattle.bus_transcript.specs.Events.{names_begun}
 use Rattle.bus_transcript.specs.Opened.{opened_connection}
@@ -34,7 +34,7 @@ use Rattle.transcript_laws.proofs.Buses.{reading_same, buses_alike}
 use Rattle.transcript_laws.proofs.FirstRows.{first_story, again_story, sent_story, first_crosses, first_change}
 use Rattle.transcript_laws.proofs.SentNames.{has_reverse}
 use Rattle.transcript_laws.proofs.TalkServes.{talk_serves}
-use Rattle.trace_laws.specs.target_units.proofs.LiveQueue.{id_turned}
+use Rattle.progress_laws.specs.target_units.proofs.LiveQueue.{id_turned}
 
 -- What is asked of the row.
 pub record Begins (s : ScenarioValue) (rows : List Row) (row : Row) (n : Connection) : Type 0 where

@@ -17,8 +17,8 @@ use Rattle.bus_due.specs.bus_story.specs.HistoryEvents.{link_events}
 use Rattle.bus_due.specs.bus_story.specs.Items.{Item, process, has_item}
 use Rattle.bus_due.specs.bus_story.specs.Story.{Story}
 use Rattle.bus_due.specs.bus_story.specs.TraceHistory.{story_on_free_bus, story_on_bus, story_with_history, story_with, story_by, story}
-use Rattle.trace_laws.specs.bus_books.specs.Accounts.{is_open_in}
-use Rattle.trace_laws.proofs.SentItems.{free_keeps}
+use Rattle.progress_laws.specs.bus_books.specs.Accounts.{is_open_in}
+use Rattle.progress_laws.specs.trace_laws.proofs.SentItems.{free_keeps}
 use Rattle.bus_transcript.specs.declared.item.Name.{Name}
 use Rattle.bus_transcript.specs.declared.item.Item as item_of
 use Rattle.bus_transcript.specs.declared.item.Item.TheVariants as items

@@ -28,19 +28,19 @@ use Rattle.bus_due.specs.bus_dialogue.specs.Exchange.{bytes_of_messages}
 use Rattle.bus_due.specs.bus_dialogue.specs.NextPhase.{phase_of}
 use Rattle.bus_due.specs.RunState.{RunState, bus_of}
 use Rattle.bus_due.specs.RunSteps.{run_state}
-use Rattle.trace_laws.specs.bus_books.proofs.Given.{in_is_whole}
-use Rattle.trace_laws.specs.bus_books.proofs.InConnection.{in_connection}
+use Rattle.progress_laws.specs.bus_books.proofs.Given.{in_is_whole}
+use Rattle.progress_laws.specs.bus_books.proofs.InConnection.{in_connection}
 use Rattle.bus_due.specs.bus_story.proofs.StorySteps.{events_link}
 use Rattle.bus_transcript.specs.declared.part.Incoming.{Incoming}
 use Rattle.bus_transcript.specs.declared.part.Incoming.TheVariants.{Whole, Broken}
 use Rattle.bus_transcript.specs.declared.part.Part.{Part}
 use Rattle.bus_transcript.specs.declared.part.Part.TheVariants as parts_of
 use Rattle.bus_transcript.specs.Opened.{OpenedValue, is_completion, with_all_out, with_out, with_part, with_fault, with_in, with_in_if, with_phase, spoken, broken_off, data_parts, phase_parts, phase_over, phase_entered}
-use Rattle.trace_laws.specs.LastTalks.{LastBy, LastGiven, still_stays, to_close, to_save, closed}
-use Rattle.trace_laws.proofs.LastFacts.{last_or}
-use Rattle.trace_laws.proofs.Impossible.{none_some}
-use Rattle.trace_laws.proofs.PhaseLines.{in_out, in_phase, out_phase}
-use Rattle.trace_laws.proofs.RowItems.{heard_link, LinkAfter, says, hears, stays, link_crossed, link_still}
+use Rattle.progress_laws.specs.trace_laws.specs.LastTalks.{LastBy, LastGiven, still_stays, to_close, to_save, closed}
+use Rattle.progress_laws.specs.trace_laws.proofs.LastFacts.{last_or}
+use Rattle.progress_laws.specs.trace_laws.proofs.Impossible.{none_some}
+use Rattle.progress_laws.specs.trace_laws.proofs.PhaseLines.{in_out, in_phase, out_phase}
+use Rattle.progress_laws.specs.trace_laws.proofs.RowItems.{heard_link, LinkAfter, says, hears, stays, link_crossed, link_still}
 use Rattle.transcript_laws.specs.Parts.{is_talk}
 use Rattle.transcript_laws.proofs.EndParts.{last_held, are_silent, silent_more}
 use Rattle.transcript_laws.proofs.HeldLast.{left_none, still_held, over_held}

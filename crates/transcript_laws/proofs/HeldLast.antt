@@ -24,18 +24,18 @@ use Rattle.bus_due.specs.bus_story.specs.HistoryEvents as story_of
 use Rattle.bus_due.specs.bus_story.specs.Links.{Link, last_in, last_out}
 use Rattle.bus_due.specs.RunState.{RunState, bus_of}
 use Rattle.bus_due.specs.RunSteps.{run_state}
-use Rattle.trace_laws.specs.bus_books.specs.Listening.{Understanding, nothing_understood, understood_byte, form_messages}
-use Rattle.trace_laws.specs.bus_books.specs.Speaking.{IsSpeaking}
-use Rattle.trace_laws.specs.bus_books.proofs.Given.{in_is_whole}
+use Rattle.progress_laws.specs.bus_books.specs.Listening.{Understanding, nothing_understood, understood_byte, form_messages}
+use Rattle.progress_laws.specs.bus_books.specs.Speaking.{IsSpeaking}
+use Rattle.progress_laws.specs.bus_books.proofs.Given.{in_is_whole}
 use Rattle.bus_transcript.specs.declared.part.Incoming.TheVariants.{Whole, Broken}
 use Rattle.bus_transcript.specs.Opened.{OpenedValue, is_complete, messages_of, with_all_out, with_in, with_in_if, spoken, phase_over}
-use Rattle.trace_laws.specs.ItemTalks.{TalksBy, IsTaken, talk_of}
-use Rattle.trace_laws.proofs.Joint.{link_unbegun}
-use Rattle.trace_laws.proofs.NamedSteps.{out_last}
-use Rattle.trace_laws.proofs.PhaseLines.{out_phase, in_out}
-use Rattle.trace_laws.proofs.RowItems.{heard_link, LinkAfter, says, hears, stays, link_crossed, link_still}
-use Rattle.trace_laws.specs.bus_books.proofs.Gives.{not_both}
-use Rattle.trace_laws.proofs.TalkSteps.{last_before}
+use Rattle.progress_laws.specs.trace_laws.specs.ItemTalks.{TalksBy, IsTaken, talk_of}
+use Rattle.progress_laws.specs.trace_laws.proofs.Joint.{link_unbegun}
+use Rattle.progress_laws.specs.trace_laws.proofs.NamedSteps.{out_last}
+use Rattle.progress_laws.specs.trace_laws.proofs.PhaseLines.{out_phase, in_out}
+use Rattle.progress_laws.specs.trace_laws.proofs.RowItems.{heard_link, LinkAfter, says, hears, stays, link_crossed, link_still}
+use Rattle.progress_laws.specs.bus_books.proofs.Gives.{not_both}
+use Rattle.progress_laws.specs.trace_laws.proofs.TalkSteps.{last_before}
 use Rattle.transcript_laws.proofs.OpenedBytes.{OpenedBytes, still_keeps, turned, CrossingMade, crossed_out, crossed_in, crossed_status, crossed_else, crossing_made, lines_same, out_same}
 use Rattle.transcript_laws.proofs.OpenedFacts.{Going, RowMade, made_still, made_crossing, made_turn, plain_before, knows_before}
 use Rattle.transcript_laws.proofs.PartLists.{none_held}

@@ -36,14 +36,14 @@ use Rattle.bus_due.specs.bus_phases.specs.declared.dialogue.Dialogue.{Dialogue}
 use Rattle.bus_due.specs.bus_phases.specs.Dialogue.{fresh_bytes, byte_out, byte_in, byte_else}
 use Rattle.bus_due.specs.bus_dialogue.specs.Exchange.{Exchange, plan_anew, plan_after_message, struck_plan}
 use Rattle.bus_due.specs.bus_dialogue.specs.Planning.{plan_in_message_out}
-use Rattle.trace_laws.specs.bus_books.specs.Rows.{reading_in as row_reading_in}
-use Rattle.trace_laws.specs.bus_books.specs.Speaking.{IsAboutToSpeak}
-use Rattle.trace_laws.specs.bus_books.specs.Tests.{is_selected}
-use Rattle.trace_laws.specs.bus_books.proofs.Given.{in_is_known}
+use Rattle.progress_laws.specs.bus_books.specs.Rows.{reading_in as row_reading_in}
+use Rattle.progress_laws.specs.bus_books.specs.Speaking.{IsAboutToSpeak}
+use Rattle.progress_laws.specs.bus_books.specs.Tests.{is_selected}
+use Rattle.progress_laws.specs.bus_books.proofs.Given.{in_is_known}
 use Rattle.bus_due.specs.Sights.{hearing_of, leaving}
-use Rattle.trace_laws.specs.bus_books.specs.Knowing.{Knows}
-use Rattle.trace_laws.specs.bus_books.proofs.Gives.{in_io, not_both}
-use Rattle.trace_laws.specs.bus_books.proofs.InConnection.{InConnection, in_connection, SamePhase}
+use Rattle.progress_laws.specs.bus_books.specs.Knowing.{Knows}
+use Rattle.progress_laws.specs.bus_books.proofs.Gives.{in_io, not_both}
+use Rattle.progress_laws.specs.bus_books.proofs.InConnection.{InConnection, in_connection, SamePhase}
 use Rattle.bus_due.specs.RunState.{RunState, bus_of}
 use Rattle.bus_due.specs.RunSteps.{run_state}
 use Rattle.bus_transcript.specs.declared.part.Incoming.{Incoming}
@@ -51,12 +51,12 @@ use Rattle.bus_transcript.specs.declared.part.Incoming.TheVariants.{Whole, Broke
 use Rattle.bus_transcript.specs.declared.part.Part.{Part}
 use Rattle.bus_transcript.specs.declared.part.Part.TheVariants.{Command, Completion, StatusPhase}
 use Rattle.bus_transcript.specs.Opened.{OpenedValue, is_complete, is_completion, with_all_out, with_in, with_in_if, with_part, with_fault, with_still_row, spoken, broken_off, data_parts, phase_entered, phase_over}
-use Rattle.trace_laws.specs.Named.{Named, known, said, refused}
-use Rattle.trace_laws.specs.Tells.{IsServed, of_process, of_abort}
-use Rattle.trace_laws.proofs.CloseCounts.{counted_row, turn_handshakes}
-use Rattle.trace_laws.proofs.OverItems.{Grows}
-use Rattle.trace_laws.proofs.PhaseLines.{in_phase, message_line, out_in, in_out, out_line, out_lines, out_no_status}
-use Rattle.trace_laws.proofs.RowItems.{heard_link, LinkAfter, says, hears, stays, link_crossed, over_after, link_still}
+use Rattle.progress_laws.specs.trace_laws.specs.Named.{Named, known, said, refused}
+use Rattle.progress_laws.specs.trace_laws.specs.Tells.{IsServed, of_process, of_abort}
+use Rattle.progress_laws.specs.trace_laws.proofs.CloseCounts.{counted_row, turn_handshakes}
+use Rattle.progress_laws.specs.trace_laws.proofs.OverItems.{Grows}
+use Rattle.progress_laws.specs.trace_laws.proofs.PhaseLines.{in_phase, message_line, out_in, in_out, out_line, out_lines, out_no_status}
+use Rattle.progress_laws.specs.trace_laws.proofs.RowItems.{heard_link, LinkAfter, says, hears, stays, link_crossed, over_after, link_still}
 use Rattle.transcript_laws.specs.Parts.{are_talk, base_parts, is_known}
 use Rattle.transcript_laws.specs.RowTests.{is_broken}
 use Rattle.transcript_laws.proofs.HeldLast.{HeldLast, still_held, over_held}

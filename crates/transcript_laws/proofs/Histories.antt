@@ -10,7 +10,7 @@ use Rattle.bus_due.specs.bus_trace.specs.declared.rows.Row.{Row}
 use Rattle.bus_due.specs.scenario.specs.Value.{ScenarioValue}
 use Rattle.bus_due.specs.bus_story.specs.Items as told
 use Rattle.bus_due.specs.bus_story.specs.TraceHistory.{story, trace_history}
-use Rattle.trace_laws.specs.bus_books.proofs.Lookups.{self_id, id_is}
+use Rattle.progress_laws.specs.bus_books.proofs.Lookups.{self_id, id_is}
 use Rattle.bus_transcript.specs.declared.item.Name.{Name}
 use Rattle.bus_transcript.specs.Events.{same_name, names_begun, name_sent, named_if, refused_name, refused_names, TellsHistory}
 use Rattle.bus_transcript.specs.Rows.{transcript_of}

@@ -22,11 +22,11 @@ use Rattle.bus_due.specs.bus_story.specs.Links.{Link, last_in, is_of_nexus, is_o
 use Rattle.bus_due.specs.bus_story.specs.Story.{Story}
 use Rattle.bus_due.specs.bus_story.specs.TraceHistory.{story_with_carried, carried_after_message_if, story}
 use Rattle.bus_due.specs.bus_story.proofs.CarriedLists.{carried_id}
-use Rattle.trace_laws.specs.bus_books.specs.RowTests.{same_item_if}
-use Rattle.trace_laws.specs.bus_books.proofs.RowTies.{item_if_is}
-use Rattle.trace_laws.proofs.OverItems.{grows_same}
-use Rattle.trace_laws.proofs.Impossible.{none_some}
-use Rattle.trace_laws.proofs.PointerStorySteps.{named_story}
+use Rattle.progress_laws.specs.bus_books.specs.RowTests.{same_item_if}
+use Rattle.progress_laws.specs.bus_books.proofs.RowTies.{item_if_is}
+use Rattle.progress_laws.specs.trace_laws.proofs.OverItems.{grows_same}
+use Rattle.progress_laws.specs.trace_laws.proofs.Impossible.{none_some}
+use Rattle.progress_laws.specs.trace_laws.proofs.PointerStorySteps.{named_story}
 use Rattle.bus_transcript.specs.declared.part.Incoming.TheVariants.{Whole}
 use Rattle.bus_transcript.specs.declared.part.Part.{Part}
 use Rattle.bus_transcript.specs.declared.part.Part.TheVariants as parts_of

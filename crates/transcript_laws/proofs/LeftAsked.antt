@@ -9,13 +9,13 @@ use Rattle.bus_due.specs.bus_trace.specs.declared.rows.Row.{Row}
 use Rattle.bus_due.specs.bus_trace.proofs.Sets.{same_self}
 use Rattle.bus_due.specs.scenario.specs.Value.{ScenarioValue}
 use Rattle.bus_due.specs.bus_dialogue.specs.Hearing.{begun}
-use Rattle.trace_laws.specs.bus_laws.specs.Ends.{EndLines, Linked, connected_bus, initiator_side, target_side}
-use Rattle.trace_laws.specs.bus_laws.specs.Rows.{row_of_fault, row_of_lines}
-use Rattle.trace_laws.specs.bus_laws.proofs.Rows.{fault_change}
-use Rattle.trace_laws.specs.link_laws.specs.Phases.{ends}
-use Rattle.trace_laws.specs.link_laws.proofs.Moves.{initiator_moves, target_moves, phase_same}
-use Rattle.trace_laws.proofs.LinkRows as rows
-use Rattle.trace_laws.proofs.LinkRows.{LinkRow, is_unasked}
+use Rattle.progress_laws.specs.bus_laws.specs.Ends.{EndLines, Linked, connected_bus, initiator_side, target_side}
+use Rattle.progress_laws.specs.bus_laws.specs.Rows.{row_of_fault, row_of_lines}
+use Rattle.progress_laws.specs.bus_laws.proofs.Rows.{fault_change}
+use Rattle.progress_laws.specs.link_laws.specs.Phases.{ends}
+use Rattle.progress_laws.specs.link_laws.proofs.Moves.{initiator_moves, target_moves, phase_same}
+use Rattle.progress_laws.specs.trace_laws.proofs.LinkRows as rows
+use Rattle.progress_laws.specs.trace_laws.proofs.LinkRows.{LinkRow, is_unasked}
 use Rattle.bus_due.specs.bus_base.proofs.Tests.{wrong, wrong'}
 
 -- ---- rows with which the phase stays

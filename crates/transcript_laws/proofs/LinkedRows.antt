@@ -19,10 +19,10 @@ use Rattle.bus_due.specs.bus_story.specs.Items.{Item}
 use Rattle.bus_due.specs.bus_story.specs.Links.{Link}
 use Rattle.bus_due.specs.bus_story.specs.Story.{Story, story_after_events}
 use Rattle.bus_due.specs.bus_story.specs.TraceHistory.{story_in_connection, story_on_bus, story_with_history, story_with, story_by, story}
-use Rattle.trace_laws.specs.bus_books.specs.Accounts.{is_open_in}
-use Rattle.trace_laws.specs.bus_books.proofs.InConnection.{SamePhase}
-use Rattle.trace_laws.proofs.OverItems.{Grows}
-use Rattle.trace_laws.proofs.Impossible.{none_some}
+use Rattle.progress_laws.specs.bus_books.specs.Accounts.{is_open_in}
+use Rattle.progress_laws.specs.bus_books.proofs.InConnection.{SamePhase}
+use Rattle.progress_laws.specs.trace_laws.proofs.OverItems.{Grows}
+use Rattle.progress_laws.specs.trace_laws.proofs.Impossible.{none_some}
 use Rattle.bus_transcript.specs.Events.{names_begun}
 use Rattle.bus_transcript.specs.Opened.{OpenedValue, with_row}
 use Rattle.bus_transcript.specs.Rows.{TranscriberValue, under_reset, in_connection, on_bus, by_change, with_bus, transcribed}

@@ -12,7 +12,7 @@ use Rattle.bus_due.specs.RunSteps.{run_state}
 use Rattle.bus_due.proofs.Plains.{run_state_plain}
 use Rattle.bus_transcript.specs.Events.{TellsHistory, names_begun}
 use Rattle.bus_transcript.specs.Rows.{transcribed, transcript_of}
-use Rattle.trace_laws.proofs.Whole.{whole}
+use Rattle.progress_laws.specs.trace_laws.proofs.Whole.{whole}
 use Rattle.transcript_laws.specs.RowTests.{fit, fits_row, are_named}
 use Rattle.transcript_laws.proofs.MoreItems.{names_end, names_one}
 use Rattle.transcript_laws.proofs.SentCount.{few_sent}

@@ -20,15 +20,15 @@ use Rattle.bus_due.specs.Plain.{IsPlain}
 use Rattle.bus_due.specs.RunState.{RunState, bus_of}
 use Rattle.bus_due.specs.RunSteps.{run_state}
 use Rattle.bus_due.proofs.Plains.{run_state_plain}
-use Rattle.trace_laws.specs.bus_books.specs.Knowing.{Knows}
-use Rattle.trace_laws.specs.scsi_device.proofs.FitLines.{obeys_fits, units_are}
+use Rattle.progress_laws.specs.bus_books.specs.Knowing.{Knows}
+use Rattle.progress_laws.specs.scsi_device.proofs.FitLines.{obeys_fits, units_are}
 use Rattle.bus_transcript.specs.Opened.{OpenedValue}
 use Rattle.bus_transcript.specs.Rows.{transcribed}
-use Rattle.trace_laws.specs.Tells.{IsServed, of_process, of_abort}
-use Rattle.trace_laws.proofs.ConnectionRows.{stage_of_connection}
-use Rattle.trace_laws.proofs.Joint.{link_unbegun}
-use Rattle.trace_laws.proofs.Impossible.{none_some}
-use Rattle.trace_laws.proofs.Whole.{Whole, whole}
+use Rattle.progress_laws.specs.trace_laws.specs.Tells.{IsServed, of_process, of_abort}
+use Rattle.progress_laws.specs.trace_laws.proofs.ConnectionRows.{stage_of_connection}
+use Rattle.progress_laws.specs.trace_laws.proofs.Joint.{link_unbegun}
+use Rattle.progress_laws.specs.trace_laws.proofs.Impossible.{none_some}
+use Rattle.progress_laws.specs.trace_laws.proofs.Whole.{Whole, whole}
 use Rattle.transcript_laws.specs.Parts.{are_talk, base_parts, out_parts, parts_now, summary_by, name_process}
 use Rattle.transcript_laws.specs.RowTests.{is_named}
 use Rattle.transcript_laws.proofs.OpenedFacts.{always}

@@ -28,18 +28,18 @@ use Rattle.bus_due.specs.RunState.{RunState, bus_of, process_item}
 use Rattle.bus_due.specs.RunSteps.{run_state, exchange_after, leaving_of, served_after, item_if, may_negotiate, messages_if}
 use Rattle.bus_due.specs.Wants.{ready_of}
 use Rattle.bus_due.proofs.Plains.{run_state_plain}
-use Rattle.trace_laws.specs.bus_books.specs.Giving.{AreGiven, OnMessage}
-use Rattle.trace_laws.specs.bus_books.specs.Knowing.{IsNoName}
-use Rattle.trace_laws.specs.bus_books.specs.Listening.{half_after}
-use Rattle.trace_laws.specs.bus_books.specs.Traces.{Begins, IsReadyFor}
-use Rattle.trace_laws.specs.bus_books.proofs.InConnection.{in_connection}
-use Rattle.trace_laws.specs.scsi_device.proofs.FitLines.{obeys_fits, units_are}
+use Rattle.progress_laws.specs.bus_books.specs.Giving.{AreGiven, OnMessage}
+use Rattle.progress_laws.specs.bus_books.specs.Knowing.{IsNoName}
+use Rattle.progress_laws.specs.bus_books.specs.Listening.{half_after}
+use Rattle.progress_laws.specs.bus_books.specs.Traces.{Begins, IsReadyFor}
+use Rattle.progress_laws.specs.bus_books.proofs.InConnection.{in_connection}
+use Rattle.progress_laws.specs.scsi_device.proofs.FitLines.{obeys_fits, units_are}
 use Rattle.bus_transcript.specs.Nexus.{no_summary}
 use Rattle.bus_transcript.specs.Opened.{OpenedValue, opened_connection}
 use Rattle.bus_transcript.specs.Rows.{transcribed}
-use Rattle.trace_laws.proofs.FreshItems.{items_found}
-use Rattle.trace_laws.proofs.ItemFacts.{beginning}
-use Rattle.trace_laws.proofs.Whole.{Whole}
+use Rattle.progress_laws.specs.trace_laws.proofs.FreshItems.{items_found}
+use Rattle.progress_laws.specs.trace_laws.proofs.ItemFacts.{beginning}
+use Rattle.progress_laws.specs.trace_laws.proofs.Whole.{Whole}
 use Rattle.transcript_laws.specs.Parts.{are_talk, base_parts, out_parts, parts_now, summary_by, name_process}
 use Rattle.transcript_laws.specs.RowTests.{is_named}
 use Rattle.transcript_laws.proofs.NamedFits.{Standing, standing, item_is_served, served_process}

@@ -24,7 +24,7 @@ use Rattle.bus_due.specs.msg_grammar.specs.Grammar.{is_abort}
 use Rattle.transcript_laws.specs.Parts.{out_parts, summary_by}
 use Rattle.transcript_laws.proofs.OutNames.{outs_of, is_tame, are_tame}
 use Rattle.bus_due.specs.bus_base.proofs.Tests.{wrong, wrong', and_first, and_second}
-use Rattle.trace_laws.proofs.NamedBytes.{all_bytes, identify_got, Tagged, bare, numbered, tagged_is}
+use Rattle.progress_laws.specs.trace_laws.proofs.NamedBytes.{all_bytes, identify_got, Tagged, bare, numbered, tagged_is}
 
 -- ---- the messages of a target among parts
 

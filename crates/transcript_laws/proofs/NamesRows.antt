@@ -28,18 +28,18 @@ use Rattle.bus_due.specs.bus_dialogue.specs.declared.exchange.Next.TheVariants a
 use Rattle.bus_due.specs.bus_dialogue.specs.Exchange.{Exchange, bytes_of_messages, plan_after_message, struck_plan}
 use Rattle.bus_due.specs.RunState.{RunState, bus_of}
 use Rattle.bus_due.specs.RunSteps.{run_state}
-use Rattle.trace_laws.specs.bus_books.specs.Giving.{OnMessages}
-use Rattle.trace_laws.specs.bus_books.specs.Knowing.{IsNoName}
-use Rattle.trace_laws.specs.bus_books.specs.Speaking.{IsSpeaking}
-use Rattle.trace_laws.specs.bus_books.proofs.Gives.{counted, few_messages, in_io}
-use Rattle.trace_laws.specs.bus_books.proofs.Given.{in_is_known}
-use Rattle.trace_laws.specs.bus_books.proofs.InConnection.{InConnection, in_connection, SamePhase}
+use Rattle.progress_laws.specs.bus_books.specs.Giving.{OnMessages}
+use Rattle.progress_laws.specs.bus_books.specs.Knowing.{IsNoName}
+use Rattle.progress_laws.specs.bus_books.specs.Speaking.{IsSpeaking}
+use Rattle.progress_laws.specs.bus_books.proofs.Gives.{counted, few_messages, in_io}
+use Rattle.progress_laws.specs.bus_books.proofs.Given.{in_is_known}
+use Rattle.progress_laws.specs.bus_books.proofs.InConnection.{InConnection, in_connection, SamePhase}
 use Rattle.bus_transcript.specs.declared.part.Incoming.{Incoming}
 use Rattle.bus_transcript.specs.Nexus.{no_summary}
 use Rattle.bus_transcript.specs.Opened.{OpenedValue, held_part, with_in_if}
-use Rattle.trace_laws.proofs.CloseCounts.{counted_row}
-use Rattle.trace_laws.proofs.PhaseLines.{in_out}
-use Rattle.trace_laws.proofs.TalkBytes.{on_message}
+use Rattle.progress_laws.specs.trace_laws.proofs.CloseCounts.{counted_row}
+use Rattle.progress_laws.specs.trace_laws.proofs.PhaseLines.{in_out}
+use Rattle.progress_laws.specs.trace_laws.proofs.TalkBytes.{on_message}
 use Rattle.transcript_laws.specs.Parts.{is_void, base_parts}
 use Rattle.transcript_laws.proofs.CrossingFits.{whole_on}
 use Rattle.transcript_laws.proofs.HeldSince.{IsHeardIn, IsAnswering, none_half}

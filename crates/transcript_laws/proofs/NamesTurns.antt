@@ -32,25 +32,25 @@ use Rattle.bus_due.specs.Plain.{IsPlain}
 use Rattle.bus_due.specs.RunState.{RunState, bus_of}
 use Rattle.bus_due.specs.RunSteps.{run_state}
 use Rattle.bus_due.specs.Sights.{serving_of, hearing_of, leaving}
-use Rattle.trace_laws.specs.bus_books.specs.Giving.{OnMessages}
-use Rattle.trace_laws.specs.bus_books.specs.Hearing.{LeavesWhole, is_out_phase, is_in_phase}
-use Rattle.trace_laws.specs.bus_books.specs.Knowing.{IsNoName}
-use Rattle.trace_laws.specs.bus_books.specs.Rows.{reading_in}
-use Rattle.trace_laws.specs.bus_books.proofs.InConnection.{InConnection, in_connection}
+use Rattle.progress_laws.specs.bus_books.specs.Giving.{OnMessages}
+use Rattle.progress_laws.specs.bus_books.specs.Hearing.{LeavesWhole, is_out_phase, is_in_phase}
+use Rattle.progress_laws.specs.bus_books.specs.Knowing.{IsNoName}
+use Rattle.progress_laws.specs.bus_books.specs.Rows.{reading_in}
+use Rattle.progress_laws.specs.bus_books.proofs.InConnection.{InConnection, in_connection}
 use Rattle.bus_transcript.specs.Nexus.{no_summary}
 use Rattle.bus_transcript.specs.Opened.{OpenedValue, phase_entered, phase_over}
-use Rattle.trace_laws.specs.Offers.{IsHeardOut, opens, repeats, answers_it, detects, is_detected}
-use Rattle.trace_laws.proofs.CloseCounts.{turn_handshakes}
-use Rattle.trace_laws.proofs.CommandTurns.{is_command_next}
-use Rattle.trace_laws.proofs.ConnectionRows.{stage_of_connection}
-use Rattle.trace_laws.proofs.Joint.{link_phase}
-use Rattle.trace_laws.proofs.NamedRows.{in_lines}
-use Rattle.trace_laws.proofs.NamedTurns.{refusal_is}
-use Rattle.trace_laws.proofs.Plans.{is_in_message}
-use Rattle.trace_laws.proofs.OfferLeavings.{all_said, parity_said}
-use Rattle.trace_laws.proofs.OfferSteps.{left_is}
-use Rattle.trace_laws.proofs.OfferTurns.{out_by_phase}
-use Rattle.trace_laws.proofs.PhaseLines.{in_phase, out_phase, in_out, out_in}
+use Rattle.progress_laws.specs.trace_laws.specs.Offers.{IsHeardOut, opens, repeats, answers_it, detects, is_detected}
+use Rattle.progress_laws.specs.trace_laws.proofs.CloseCounts.{turn_handshakes}
+use Rattle.progress_laws.specs.trace_laws.proofs.CommandTurns.{is_command_next}
+use Rattle.progress_laws.specs.trace_laws.proofs.ConnectionRows.{stage_of_connection}
+use Rattle.progress_laws.specs.trace_laws.proofs.Joint.{link_phase}
+use Rattle.progress_laws.specs.trace_laws.proofs.NamedRows.{in_lines}
+use Rattle.progress_laws.specs.trace_laws.proofs.NamedTurns.{refusal_is}
+use Rattle.progress_laws.specs.trace_laws.proofs.Plans.{is_in_message}
+use Rattle.progress_laws.specs.trace_laws.proofs.OfferLeavings.{all_said, parity_said}
+use Rattle.progress_laws.specs.trace_laws.proofs.OfferSteps.{left_is}
+use Rattle.progress_laws.specs.trace_laws.proofs.OfferTurns.{out_by_phase}
+use Rattle.progress_laws.specs.trace_laws.proofs.PhaseLines.{in_phase, out_phase, in_out, out_in}
 use Rattle.transcript_laws.specs.Parts.{is_void, base_parts}
 use Rattle.transcript_laws.proofs.HeldSince.{IsHeardIn, IsAnswering, follows_in}
 use Rattle.transcript_laws.proofs.NamesHeard.{ins_of, heard_names, AreNames, Says, Repeats, says_again, names_said, repeats_from, repeats_name, settled_half}

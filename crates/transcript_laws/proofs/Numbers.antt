@@ -14,7 +14,7 @@ use Rattle.bus_transcript.specs.Processes.{process_of, with_last, same_nexus, pr
 use Rattle.transcript_laws.specs.Numbered.{OnNames, AreOther, AreDistinct, HasLast, AreNumbered}
 use Rattle.transcript_laws.proofs.LastProcesses.{is_last, nexus_is, nexus_turned}
 use Rattle.bus_due.specs.bus_base.proofs.Tests.{wrong}
-use Rattle.trace_laws.proofs.Impossible.{none_some}
+use Rattle.progress_laws.specs.trace_laws.proofs.Impossible.{none_some}
 use Rattle.bus_due.specs.disk_array.proofs.SeatLookups.{number_same}
 
 -- ---- numbers

@@ -9,8 +9,8 @@ use Rattle.bus_due.specs.bus_story.specs.CarriedBytes.{CarriedBytes, carried_of,
 use Rattle.bus_due.specs.bus_story.specs.Items.{Item}
 use Rattle.bus_due.specs.bus_story.specs.Story.{Story}
 use Rattle.bus_due.specs.bus_story.proofs.CarriedLists.{carried_with}
-use Rattle.trace_laws.specs.bus_books.specs.Accounts.{is_open_in}
-use Rattle.trace_laws.specs.bus_books.proofs.Lookups.{id_is}
+use Rattle.progress_laws.specs.bus_books.specs.Accounts.{is_open_in}
+use Rattle.progress_laws.specs.bus_books.proofs.Lookups.{id_is}
 use Rattle.bus_transcript.specs.declared.item.Name.{Name}
 use Rattle.bus_transcript.specs.declared.process.Process.{Process}
 use Rattle.bus_transcript.specs.Events.{names_begun, name_sent}

@@ -14,10 +14,10 @@ use Rattle.bus_due.specs.bus_dialogue.specs.Exchange.{Exchange}
 use Rattle.bus_due.specs.bus_story.specs.CarriedBytes.{is_status_phase}
 use Rattle.bus_due.specs.RunState.{RunState, bus_of}
 use Rattle.bus_due.specs.RunSteps.{run_state}
-use Rattle.trace_laws.specs.bus_books.specs.Rows.{reading_in}
-pub use Rattle.trace_laws.specs.bus_books.proofs.Gives.{in_same}
-pub use Rattle.trace_laws.specs.bus_books.proofs.Speaks.{out_same}
-use Rattle.trace_laws.specs.bus_books.proofs.InConnection.{reading_is, in_connection, SamePhase, same_phase_is}
+use Rattle.progress_laws.specs.bus_books.specs.Rows.{reading_in}
+pub use Rattle.progress_laws.specs.bus_books.proofs.Gives.{in_same}
+pub use Rattle.progress_laws.specs.bus_books.proofs.Speaks.{out_same}
+use Rattle.progress_laws.specs.bus_books.proofs.InConnection.{reading_is, in_connection, SamePhase, same_phase_is}
 use Rattle.bus_due.specs.scenario.specs.Value.{ScenarioValue}
 use Rattle.bus_transcript.specs.declared.part.Part.TheVariants.{Completion, StatusPhase, Status}
 use Rattle.bus_transcript.specs.Opened.{OpenedValue, with_part, with_in_if, with_said, with_crossing, with_fault, is_completion, with_still_row, phase_entered, phase_over}

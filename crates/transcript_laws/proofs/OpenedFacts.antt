@@ -17,19 +17,19 @@ use Rattle.bus_due.specs.Plain.{IsPlain}
 use Rattle.bus_due.specs.RunState.{RunState, bus_of}
 use Rattle.bus_due.specs.RunSteps.{run_state}
 use Rattle.bus_due.proofs.Plains.{run_state_plain}
-use Rattle.trace_laws.specs.bus_books.specs.Knowing.{Knows}
-use Rattle.trace_laws.specs.bus_books.specs.Rows.{RowKind, still, strikes, crosses, turns, reading_in}
-use Rattle.trace_laws.specs.bus_books.proofs.InConnection.{reading_is}
-use Rattle.trace_laws.specs.bus_laws.proofs.Apart.{change_plain}
-use Rattle.trace_laws.specs.bus_laws.proofs.Prompt.{least_is}
-use Rattle.trace_laws.specs.bus_laws.specs.Ends.{BeginsConnection, by_selection, by_reselection}
+use Rattle.progress_laws.specs.bus_books.specs.Knowing.{Knows}
+use Rattle.progress_laws.specs.bus_books.specs.Rows.{RowKind, still, strikes, crosses, turns, reading_in}
+use Rattle.progress_laws.specs.bus_books.proofs.InConnection.{reading_is}
+use Rattle.progress_laws.specs.bus_laws.proofs.Apart.{change_plain}
+use Rattle.progress_laws.specs.bus_laws.proofs.Prompt.{least_is}
+use Rattle.progress_laws.specs.bus_laws.specs.Ends.{BeginsConnection, by_selection, by_reselection}
 use Rattle.bus_transcript.specs.Opened.{OpenedValue, opened_connection, with_crossing, phase_entered, phase_over, with_still_row, with_row}
 use Rattle.bus_transcript.specs.Rows.{transcribed}
 use Rattle.bus_due.specs.bus_lines.specs.Handshakes.{no_handshakes}
-use Rattle.trace_laws.proofs.CloseCounts.{first_handshakes}
-use Rattle.trace_laws.proofs.ConnectionRows.{ConnectionRow, connection_row, GoingRow, going_row, RowKindOf, begins_now, goes_now, row_kind}
-use Rattle.trace_laws.proofs.Impossible.{none_some}
-use Rattle.trace_laws.proofs.Whole.{Whole, whole, standing_next}
+use Rattle.progress_laws.specs.trace_laws.proofs.CloseCounts.{first_handshakes}
+use Rattle.progress_laws.specs.trace_laws.proofs.ConnectionRows.{ConnectionRow, connection_row, GoingRow, going_row, RowKindOf, begins_now, goes_now, row_kind}
+use Rattle.progress_laws.specs.trace_laws.proofs.Impossible.{none_some}
+use Rattle.progress_laws.specs.trace_laws.proofs.Whole.{Whole, whole, standing_next}
 use Rattle.transcript_laws.proofs.OpenedRows.{opened_first, was_opened}
 
 -- ---- a row with which a connection goes on

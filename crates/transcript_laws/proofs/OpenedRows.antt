@@ -11,7 +11,7 @@ use Rattle.bus_due.specs.scenario.specs.Value.{ScenarioValue}
 use Rattle.bus_due.specs.bus_story.specs.BusState.{BusState, RowReading, row_reading}
 use Rattle.bus_due.specs.bus_story.specs.Story.{Story}
 use Rattle.bus_due.specs.bus_story.specs.TraceHistory.{story}
-use Rattle.trace_laws.proofs.Impossible.{none_some}
+use Rattle.progress_laws.specs.trace_laws.proofs.Impossible.{none_some}
 use Rattle.bus_transcript.specs.declared.part.Part.TheVariants.{Completion}
 use Rattle.bus_transcript.specs.Opened.{OpenedValue, opened_connection, with_part, with_crossing, phase_entered, phase_over, is_completion, with_fault, with_row}
 use Rattle.bus_transcript.specs.Rows.{TranscriberValue, closed_by, closed_if, under_reset, in_connection, on_bus, by_change, transcribed}

@@ -19,10 +19,10 @@ use Rattle.bus_due.specs.bus_story.specs.TraceHistory.{is_parity_error}
 use Rattle.bus_due.specs.bus_dialogue.specs.Words.{parity_error}
 use Rattle.bus_due.specs.RunState.{RunState, bus_of}
 use Rattle.bus_due.specs.RunSteps.{run_state}
-use Rattle.trace_laws.specs.scsi_device.proofs.FitLines.{obeys_fits, units_are}
-use Rattle.trace_laws.specs.bus_books.specs.Listening.{Understanding, nothing_understood}
-use Rattle.trace_laws.specs.bus_books.specs.Speaking.{AreWordsHeard, IsSpeaking}
-use Rattle.trace_laws.specs.bus_books.proofs.Saying.{says_byte}
+use Rattle.progress_laws.specs.scsi_device.proofs.FitLines.{obeys_fits, units_are}
+use Rattle.progress_laws.specs.bus_books.specs.Listening.{Understanding, nothing_understood}
+use Rattle.progress_laws.specs.bus_books.specs.Speaking.{AreWordsHeard, IsSpeaking}
+use Rattle.progress_laws.specs.bus_books.proofs.Saying.{says_byte}
 use Rattle.bus_transcript.specs.Opened.{OpenedValue, messages_of}
 use Rattle.transcript_laws.specs.Parts.{is_void, is_known}
 use Rattle.transcript_laws.specs.RowTests.{is_empty, says_first, is_broken, fits_out}

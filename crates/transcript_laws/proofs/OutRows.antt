@@ -17,10 +17,10 @@ use Rattle.bus_due.specs.bus_story.specs.Items.{process, Sent}
 use Rattle.bus_due.specs.bus_story.specs.Links.{Link, last_out}
 use Rattle.bus_due.specs.bus_story.specs.Story.{Story}
 use Rattle.bus_due.specs.bus_story.specs.TraceHistory.{story_with_carried, story_after_crossing, is_parity_error, story}
-use Rattle.trace_laws.specs.bus_books.proofs.InConnection.{same_phase_is}
-use Rattle.trace_laws.specs.bus_books.proofs.Lookups.{put_own, put_other}
-use Rattle.trace_laws.proofs.OverItems.{grows_same}
-use Rattle.trace_laws.proofs.Impossible.{none_some}
+use Rattle.progress_laws.specs.bus_books.proofs.InConnection.{same_phase_is}
+use Rattle.progress_laws.specs.bus_books.proofs.Lookups.{put_own, put_other}
+use Rattle.progress_laws.specs.trace_laws.proofs.OverItems.{grows_same}
+use Rattle.progress_laws.specs.trace_laws.proofs.Impossible.{none_some}
 use Rattle.bus_transcript.specs.declared.part.Incoming.{Incoming}
 use Rattle.bus_transcript.specs.declared.part.Incoming.TheVariants.{Whole, Broken}
 use Rattle.bus_transcript.specs.declared.part.Part.{Part}
@@ -43,7 +43,7 @@ use Rattle.transcript_laws.proofs.ServingSteps.{said_serves, void_serves, broken
 use Rattle.transcript_laws.proofs.StageRows.{stage_on}
 use Rattle.transcript_laws.proofs.TalkServes.{talk_append, talk_first}
 use Rattle.bus_due.specs.bus_base.proofs.Tests.{wrong, wrong'}
-use Rattle.trace_laws.specs.target_units.proofs.LiveQueue.{id_turned}
+use Rattle.progress_laws.specs.target_units.proofs.LiveQueue.{id_turned}
 
 -- ---- what is said
 

@@ -22,9 +22,9 @@ use Rattle.bus_due.specs.bus_dialogue.specs.declared.exchange.Cause.TheVariants 
 use Rattle.bus_due.specs.bus_dialogue.specs.Exchange.{Exchange}
 use Rattle.bus_due.specs.bus_dialogue.specs.Words.{offer_if, tag_bytes, abort_bytes, process_opening, abort_opening, parity_error, host_answer}
 use Rattle.bus_due.specs.Defs.{host_of, opening}
-use Rattle.trace_laws.specs.bus_books.specs.Speaking.{AreWordsFor, opens, refuses, answers, rejects_data, rejects_status}
-pub use Rattle.trace_laws.specs.bus_books.proofs.FirstWords.{process_unit as unit_small}
-use Rattle.trace_laws.specs.scsi_device.specs.Lines.{AreUnits}
+use Rattle.progress_laws.specs.bus_books.specs.Speaking.{AreWordsFor, opens, refuses, answers, rejects_data, rejects_status}
+pub use Rattle.progress_laws.specs.bus_books.proofs.FirstWords.{process_unit as unit_small}
+use Rattle.progress_laws.specs.scsi_device.specs.Lines.{AreUnits}
 use Rattle.transcript_laws.proofs.SaidWords.{said_of}
 
 -- ---- one message after another

@@ -13,8 +13,8 @@ use Rattle.bus_due.specs.msg_grammar.specs.declared.message.MsgOut.{MsgOut}
 use Rattle.bus_due.specs.bus_story.specs.CarriedBytes.{CarriedBytes}
 use Rattle.bus_due.specs.bus_story.specs.Items as told
 use Rattle.bus_due.specs.bus_story.specs.Items.{process, has_item}
-use Rattle.trace_laws.specs.bus_books.proofs.Lookups.{self_id}
-use Rattle.trace_laws.proofs.Impossible.{none_some}
+use Rattle.progress_laws.specs.bus_books.proofs.Lookups.{self_id}
+use Rattle.progress_laws.specs.trace_laws.proofs.Impossible.{none_some}
 use Rattle.bus_transcript.specs.declared.item.Item.{Item}
 use Rattle.bus_transcript.specs.declared.item.Item.TheVariants as items
 use Rattle.bus_transcript.specs.declared.item.Name.{Name}

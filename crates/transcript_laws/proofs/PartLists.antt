@@ -13,7 +13,7 @@ use Rattle.bus_transcript.specs.declared.part.Part.TheVariants as parts_of
 use Rattle.bus_transcript.specs.Opened.{OpenedValue, held_part, settled, with_out, with_all_out, with_in, spoken, broken_off, phase_parts, with_phase, phase_over}
 use Rattle.transcript_laws.specs.Parts.{is_void, out_parts, parts_now}
 use Rattle.bus_due.specs.bus_story.specs.TraceHistory.{is_parity_error}
-use Rattle.trace_laws.proofs.Impossible.{none_some}
+use Rattle.progress_laws.specs.trace_laws.proofs.Impossible.{none_some}
 
 -- ---- as the messages of MESSAGE OUT stand
 

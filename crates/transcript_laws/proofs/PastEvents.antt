@@ -8,7 +8,7 @@ use Rattle.bus_due.specs.bus_base.specs.declared.Event.TheVariants as events
 use Rattle.bus_due.specs.bus_base.specs.declared.ProcId.{ProcId}
 use Rattle.bus_due.specs.bus_story.specs.Items as told
 use Rattle.bus_due.specs.bus_story.specs.Items.{process, has_item}
-use Rattle.trace_laws.specs.bus_books.proofs.Lookups.{id_is}
+use Rattle.progress_laws.specs.bus_books.proofs.Lookups.{id_is}
 use Rattle.bus_transcript.specs.declared.item.Item.{Item}
 use Rattle.bus_transcript.specs.declared.item.Name.{Name}
 use Rattle.bus_transcript.specs.Events.{name_begun, names_begun, name_sent, event_shown, items_if, items_told, named_events}

@@ -24,17 +24,17 @@ use Rattle.bus_due.specs.bus_dialogue.specs.declared.exchange.Phase.TheVariants 
 use Rattle.bus_due.specs.bus_dialogue.specs.Exchange.{one_message}
 use Rattle.bus_due.specs.RunState.{RunState, bus_of}
 use Rattle.bus_due.specs.RunSteps.{run_state}
-use Rattle.trace_laws.specs.bus_books.specs.Knowing.{Knows}
-use Rattle.trace_laws.specs.bus_books.specs.Rows.{RowKind, still, strikes, crosses, turns, reading_in}
-use Rattle.trace_laws.specs.bus_books.proofs.Given.{in_is_whole}
+use Rattle.progress_laws.specs.bus_books.specs.Knowing.{Knows}
+use Rattle.progress_laws.specs.bus_books.specs.Rows.{RowKind, still, strikes, crosses, turns, reading_in}
+use Rattle.progress_laws.specs.bus_books.proofs.Given.{in_is_whole}
 use Rattle.bus_transcript.specs.Opened.{OpenedValue, is_complete}
-use Rattle.trace_laws.specs.ItemTalks.{TalksBy, IsTaken, talk_of}
-use Rattle.trace_laws.specs.LastTalks.{LastBy, LastGiven, still_stays, to_close, to_save, closed}
-use Rattle.trace_laws.specs.Statuses.{CarriesBy, HasStatus}
-use Rattle.trace_laws.specs.Tells.{IsServed, of_process, of_abort}
-use Rattle.trace_laws.proofs.PhaseLines.{in_phase, out_in, out_lines}
-use Rattle.trace_laws.proofs.CloseStays.{complete_is}
-use Rattle.trace_laws.specs.bus_books.proofs.Gives.{not_both}
+use Rattle.progress_laws.specs.trace_laws.specs.ItemTalks.{TalksBy, IsTaken, talk_of}
+use Rattle.progress_laws.specs.trace_laws.specs.LastTalks.{LastBy, LastGiven, still_stays, to_close, to_save, closed}
+use Rattle.progress_laws.specs.trace_laws.specs.Statuses.{CarriesBy, HasStatus}
+use Rattle.progress_laws.specs.trace_laws.specs.Tells.{IsServed, of_process, of_abort}
+use Rattle.progress_laws.specs.trace_laws.proofs.PhaseLines.{in_phase, out_in, out_lines}
+use Rattle.progress_laws.specs.trace_laws.proofs.CloseStays.{complete_is}
+use Rattle.progress_laws.specs.bus_books.proofs.Gives.{not_both}
 use Rattle.transcript_laws.specs.Parts.{are_talk, base_parts, is_known}
 use Rattle.transcript_laws.specs.RowTests.{is_broken, fits_out, fits_in, is_no_abort, fits_crossing, undoes_nothing, arrives_first, gets_known, is_open_item, fits_turn, has_status, fits_still, fits_on}
 use Rattle.transcript_laws.proofs.CrossingFits.{completes_none, no_message_line, takes_none, names_fit}

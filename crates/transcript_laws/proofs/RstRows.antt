@@ -10,10 +10,10 @@ use Rattle.bus_due.specs.bus_story.specs.BusState.{row_reading}
 use Rattle.bus_due.specs.Plain.{AreOfDevices}
 use Rattle.bus_due.specs.RunSteps.{run_state}
 use Rattle.bus_due.proofs.Plains.{run_state_plain}
-use Rattle.trace_laws.specs.bus_laws.proofs.Apart.{change_plain}
+use Rattle.progress_laws.specs.bus_laws.proofs.Apart.{change_plain}
 use Rattle.bus_transcript.specs.Opened.{OpenedValue}
 use Rattle.bus_transcript.specs.Rows.{transcribed}
-use Rattle.trace_laws.proofs.UnderRst.{raises_or_stands}
+use Rattle.progress_laws.specs.trace_laws.proofs.UnderRst.{raises_or_stands}
 use Rattle.transcript_laws.proofs.OpenedRows.{opened_reset}
 use Rattle.bus_due.specs.bus_base.proofs.Tests.{or_true, or_second}
 

@@ -33,23 +33,23 @@ use Rattle.bus_due.specs.RunState.{RunState, bus_of, process_item}
 use Rattle.bus_due.specs.RunSteps.{run_state, served_after, item_if}
 use Rattle.bus_due.specs.Sights.{hearing_of, leaving}
 use Rattle.bus_due.specs.Wants.{ready_of}
-use Rattle.trace_laws.specs.bus_laws.specs.Ends.{connected_bus, ends_selected}
-use Rattle.trace_laws.specs.bus_books.specs.Rows.{reading_in}
-use Rattle.trace_laws.specs.bus_books.specs.Speaking.{AreWordsFor, AreWordsHeard, IsSpeaking, opens, refuses, answers, rejects_data, rejects_status}
-use Rattle.trace_laws.specs.bus_books.specs.Tests.{is_selected}
-use Rattle.trace_laws.specs.bus_books.specs.Traces.{Begins}
-use Rattle.trace_laws.specs.bus_books.proofs.InConnection.{InConnection, in_connection}
-use Rattle.trace_laws.specs.scsi_device.specs.Lines.{AreUnits}
-use Rattle.trace_laws.specs.scsi_device.proofs.FitLines.{obeys_fits, units_are}
+use Rattle.progress_laws.specs.bus_laws.specs.Ends.{connected_bus, ends_selected}
+use Rattle.progress_laws.specs.bus_books.specs.Rows.{reading_in}
+use Rattle.progress_laws.specs.bus_books.specs.Speaking.{AreWordsFor, AreWordsHeard, IsSpeaking, opens, refuses, answers, rejects_data, rejects_status}
+use Rattle.progress_laws.specs.bus_books.specs.Tests.{is_selected}
+use Rattle.progress_laws.specs.bus_books.specs.Traces.{Begins}
+use Rattle.progress_laws.specs.bus_books.proofs.InConnection.{InConnection, in_connection}
+use Rattle.progress_laws.specs.scsi_device.specs.Lines.{AreUnits}
+use Rattle.progress_laws.specs.scsi_device.proofs.FitLines.{obeys_fits, units_are}
 use Rattle.bus_transcript.specs.declared.part.Part.{Part}
 use Rattle.bus_transcript.specs.declared.part.Part.TheVariants as parts_of
 use Rattle.bus_transcript.specs.Opened.{OpenedValue, held_part, is_complete, is_completion, with_part, with_fault, with_in_if, phase_entered, phase_over, phase_parts, data_parts}
-use Rattle.trace_laws.specs.ItemFacts.{IsNext, is_abort, is_sense, is_command as is_next_command}
-use Rattle.trace_laws.proofs.FreshItems.{calm_before}
-use Rattle.trace_laws.proofs.ItemFacts.{aimed_next, beginning}
-use Rattle.trace_laws.proofs.Joint.{link_unbegun}
-use Rattle.trace_laws.proofs.PhaseLines.{in_out, out_no_status, out_phase}
-use Rattle.trace_laws.proofs.Whole.{Whole}
+use Rattle.progress_laws.specs.trace_laws.specs.ItemFacts.{IsNext, is_abort, is_sense, is_command as is_next_command}
+use Rattle.progress_laws.specs.trace_laws.proofs.FreshItems.{calm_before}
+use Rattle.progress_laws.specs.trace_laws.proofs.ItemFacts.{aimed_next, beginning}
+use Rattle.progress_laws.specs.trace_laws.proofs.Joint.{link_unbegun}
+use Rattle.progress_laws.specs.trace_laws.proofs.PhaseLines.{in_out, out_no_status, out_phase}
+use Rattle.progress_laws.specs.trace_laws.proofs.Whole.{Whole}
 use Rattle.transcript_laws.specs.Parts.{are_talk, base_parts, out_parts, parts_now}
 use Rattle.transcript_laws.proofs.BaseParts.{base_more, base_turned}
 use Rattle.transcript_laws.proofs.OpenedAll.{OpenedAll, all_hold}

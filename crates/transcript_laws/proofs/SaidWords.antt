@@ -22,13 +22,13 @@ use Rattle.bus_due.specs.Defs.{host_of}
 use Rattle.bus_due.specs.RunState.{RunState, bus_of}
 use Rattle.bus_due.specs.RunSteps.{run_state}
 use Rattle.bus_due.specs.Sights.{hearing_of}
-use Rattle.trace_laws.specs.bus_books.specs.Listening.{Understanding, nothing_understood, understood, understood_byte}
-use Rattle.trace_laws.specs.bus_books.specs.Rows.{reading_in}
-use Rattle.trace_laws.specs.bus_books.specs.Speaking.{AreWordsHeard, IsSpeaking}
-use Rattle.trace_laws.specs.bus_books.proofs.InConnection.{in_connection}
-use Rattle.trace_laws.specs.bus_books.proofs.Saying.{says_byte, says_more}
+use Rattle.progress_laws.specs.bus_books.specs.Listening.{Understanding, nothing_understood, understood, understood_byte}
+use Rattle.progress_laws.specs.bus_books.specs.Rows.{reading_in}
+use Rattle.progress_laws.specs.bus_books.specs.Speaking.{AreWordsHeard, IsSpeaking}
+use Rattle.progress_laws.specs.bus_books.proofs.InConnection.{in_connection}
+use Rattle.progress_laws.specs.bus_books.proofs.Saying.{says_byte, says_more}
 use Rattle.bus_transcript.specs.Opened.{OpenedValue, messages_of, phase_over}
-use Rattle.trace_laws.proofs.OneMessages.{take_front}
+use Rattle.progress_laws.specs.trace_laws.proofs.OneMessages.{take_front}
 use Rattle.transcript_laws.proofs.OpenedBytes.{still_keeps, turned, CrossingMade, crossed_out, crossed_in, crossed_status, crossed_else, crossing_made, lines_same, out_same, begun_crossing}
 use Rattle.transcript_laws.proofs.OpenedFacts.{Going, RowMade, made_still, made_crossing, made_turn, Holds}
 use Rattle.transcript_laws.proofs.PartLists.{over_keeps}

@@ -13,7 +13,7 @@ use Rattle.bus_due.specs.disk_array.specs.Processes.{Process, command_at, proces
 use Rattle.bus_due.specs.bus_story.specs.BusState.{row_reading}
 use Rattle.bus_due.specs.bus_story.specs.HistoryEvents.{abort_line_at}
 use Rattle.bus_due.specs.bus_story.specs.Items.{Item, process, abort, same_item, has_item, command_item, sense_item}
-use Rattle.trace_laws.proofs.SentItems.{own_has, more_has}
+use Rattle.progress_laws.specs.trace_laws.proofs.SentItems.{own_has, more_has}
 use Rattle.std.proofs.lemmas.Option.{same_Some}
 use Rattle.std.proofs.lemmas.Bool.{or_left}
 use Rattle.bus_due.specs.Next.{IsPrompt}
@@ -21,16 +21,16 @@ use Rattle.bus_due.specs.Plain.{IsPlain}
 use Rattle.bus_due.specs.RunState.{RunState}
 use Rattle.bus_due.specs.RunSteps.{run_state}
 use Rattle.bus_due.proofs.Plains.{run_state_plain}
-use Rattle.trace_laws.specs.scsi_device.proofs.FitLines.{obeys_fits}
-use Rattle.trace_laws.specs.bus_laws.proofs.Apart.{change_plain}
-use Rattle.trace_laws.specs.bus_laws.proofs.Prompt.{least_is}
-use Rattle.trace_laws.specs.bus_books.specs.Items.{IsItem, is_process, is_abort}
-use Rattle.trace_laws.specs.bus_books.proofs.Aims.{aims_are}
-use Rattle.trace_laws.proofs.FreshItems.{items_fresh}
+use Rattle.progress_laws.specs.scsi_device.proofs.FitLines.{obeys_fits}
+use Rattle.progress_laws.specs.bus_laws.proofs.Apart.{change_plain}
+use Rattle.progress_laws.specs.bus_laws.proofs.Prompt.{least_is}
+use Rattle.progress_laws.specs.bus_books.specs.Items.{IsItem, is_process, is_abort}
+use Rattle.progress_laws.specs.bus_books.proofs.Aims.{aims_are}
+use Rattle.progress_laws.specs.trace_laws.proofs.FreshItems.{items_fresh}
 use Rattle.bus_due.specs.disk_array.proofs.SeatLookups.{none_at}
-use Rattle.trace_laws.proofs.Whole.{Whole, whole}
-use Rattle.trace_laws.proofs.Impossible.{none_some}
-use Rattle.trace_laws.proofs.OpenCommands.{item_is}
+use Rattle.progress_laws.specs.trace_laws.proofs.Whole.{Whole, whole}
+use Rattle.progress_laws.specs.trace_laws.proofs.Impossible.{none_some}
+use Rattle.progress_laws.specs.trace_laws.proofs.OpenCommands.{item_is}
 use Rattle.transcript_laws.proofs.SentProcesses.{SentAfter, as_before, one_more, row_sends}
 use Rattle.transcript_laws.proofs.SentNames.{has_append}
 use Rattle.bus_due.specs.bus_base.proofs.Tests.{wrong, wrong', or_true}

@@ -4,7 +4,7 @@ use Rattle.std.specs.Prelude.{if◌then◌else◌}
 use Rattle.std.proofs.lemmas.List.{reverse-append}
 use Rattle.bus_due.specs.bus_base.specs.declared.ProcId.{ProcId}
 use Rattle.bus_due.specs.bus_story.specs.Items.{Item, process, same_item, has_item}
-use Rattle.trace_laws.specs.bus_books.proofs.Lookups.{self_id}
+use Rattle.progress_laws.specs.bus_books.proofs.Lookups.{self_id}
 use Rattle.bus_transcript.specs.declared.item.Name.{Name}
 use Rattle.bus_transcript.specs.Events.{name_sent}
 use Rattle.bus_due.specs.bus_base.proofs.Tests.{wrong, wrong'}

@@ -17,17 +17,17 @@ use Rattle.bus_due.specs.bus_story.specs.Story.{Story, by_reset, story_with_ends
 use Rattle.bus_due.specs.bus_story.specs.TraceHistory.{aim_of, story_with_sent, story_with_restored, story_after_connection, story_in_connection, story_on_bus, story_by_change}
 use Rattle.bus_due.specs.RunState.{RunState}
 use Rattle.bus_due.specs.RunSteps.{run_state, run_state_after}
-use Rattle.trace_laws.specs.bus_books.specs.Items.{IsItem, is_process, is_abort}
-use Rattle.trace_laws.specs.bus_books.proofs.Aims.{aims_are}
-use Rattle.trace_laws.specs.bus_books.proofs.Lookups.{id_is}
-use Rattle.trace_laws.specs.ItemFacts.{AreChecked, IsChecked}
-use Rattle.trace_laws.proofs.OverItems.{reset_senses}
+use Rattle.progress_laws.specs.bus_books.specs.Items.{IsItem, is_process, is_abort}
+use Rattle.progress_laws.specs.bus_books.proofs.Aims.{aims_are}
+use Rattle.progress_laws.specs.bus_books.proofs.Lookups.{id_is}
+use Rattle.progress_laws.specs.trace_laws.specs.ItemFacts.{AreChecked, IsChecked}
+use Rattle.progress_laws.specs.trace_laws.proofs.OverItems.{reset_senses}
 use Rattle.bus_due.specs.disk_array.proofs.SeatLookups.{none_at}
-use Rattle.trace_laws.proofs.PointerEnds.{reset_over}
-use Rattle.trace_laws.proofs.RowItems.{inside_sent}
-use Rattle.trace_laws.proofs.SentItems.{own_has, more_has, free_keeps, restored_sent}
+use Rattle.progress_laws.specs.trace_laws.proofs.PointerEnds.{reset_over}
+use Rattle.progress_laws.specs.trace_laws.proofs.RowItems.{inside_sent}
+use Rattle.progress_laws.specs.trace_laws.proofs.SentItems.{own_has, more_has, free_keeps, restored_sent}
 use Rattle.bus_due.specs.bus_story.proofs.StorySteps.{event_sent, events_sent}
-use Rattle.trace_laws.proofs.Impossible.{none_some}
+use Rattle.progress_laws.specs.trace_laws.proofs.Impossible.{none_some}
 use Rattle.transcript_laws.specs.RowTests.{is_open_process, ends_all}
 use Rattle.bus_due.specs.bus_base.proofs.Tests.{wrong', and_false}
 

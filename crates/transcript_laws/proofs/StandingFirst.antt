@@ -1,7 +1,7 @@
 -- Before any row nothing was sent, told or kept.
 use Rattle.std.proofs.Common.{[], refl}
 use Rattle.bus_due.specs.scenario.specs.Value.{ScenarioValue}
-use Rattle.trace_laws.proofs.Impossible.{none_some}
+use Rattle.progress_laws.specs.trace_laws.proofs.Impossible.{none_some}
 use Rattle.transcript_laws.specs.Standing.{Standing, apart}
 use Rattle.bus_due.specs.bus_base.proofs.Tests.{wrong'}
 

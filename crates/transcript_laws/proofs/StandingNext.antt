@@ -20,8 +20,8 @@ use Rattle.bus_due.specs.bus_story.specs.Items.{Item, process, abort, has_item}
 use Rattle.bus_due.specs.bus_story.specs.Story.{Story}
 use Rattle.bus_due.specs.bus_story.specs.TraceHistory.{aim_of, story}
 use Rattle.bus_due.specs.bus_story.proofs.CarriedLists.{carried_id}
-use Rattle.trace_laws.specs.bus_books.proofs.Lookups.{id_is}
-use Rattle.trace_laws.proofs.Impossible.{none_some}
+use Rattle.progress_laws.specs.bus_books.proofs.Lookups.{id_is}
+use Rattle.progress_laws.specs.trace_laws.proofs.Impossible.{none_some}
 use Rattle.bus_transcript.specs.declared.item.Name.{Name}
 use Rattle.bus_transcript.specs.Events.{same_name, names_begun, name_sent, TellsHistory}
 use Rattle.bus_transcript.specs.Opened.{OpenedValue}

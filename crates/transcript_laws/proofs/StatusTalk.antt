@@ -27,19 +27,19 @@ use Rattle.bus_due.specs.bus_dialogue.specs.Words.{is_naming}
 use Rattle.bus_due.specs.RunState.{RunState, bus_of, item_of}
 use Rattle.bus_due.specs.RunSteps.{run_state}
 use Rattle.bus_due.specs.Sights.{hearing_of, leaving, serving_of}
-use Rattle.trace_laws.specs.bus_books.specs.Rows.{reading_in}
-use Rattle.trace_laws.specs.bus_books.proofs.Gives.{byte_messages, not_both}
-use Rattle.trace_laws.specs.bus_books.proofs.InConnection.{InConnection, in_connection}
+use Rattle.progress_laws.specs.bus_books.specs.Rows.{reading_in}
+use Rattle.progress_laws.specs.bus_books.proofs.Gives.{byte_messages, not_both}
+use Rattle.progress_laws.specs.bus_books.proofs.InConnection.{InConnection, in_connection}
 use Rattle.bus_due.specs.bus_story.proofs.StorySteps.{events_link}
 use Rattle.bus_transcript.specs.declared.part.Part.{Part}
 use Rattle.bus_transcript.specs.declared.part.Part.TheVariants as parts_of
 use Rattle.bus_transcript.specs.Opened.{OpenedValue, is_completion, with_part, with_fault, phase_entered, phase_over, phase_parts}
-use Rattle.trace_laws.specs.LastTalks.{LastBy, LastGiven}
-use Rattle.trace_laws.specs.Named.{Named, known, said, refused}
-use Rattle.trace_laws.specs.Tells.{IsServed, of_process, of_abort}
-use Rattle.trace_laws.proofs.NamedBytes.{names_first}
-use Rattle.trace_laws.proofs.PhaseLines.{in_phase, out_in, out_lines}
-use Rattle.trace_laws.proofs.StatusLeavings.{Completes, in_status, refused as refused_again, completes_from, left_alone}
+use Rattle.progress_laws.specs.trace_laws.specs.LastTalks.{LastBy, LastGiven}
+use Rattle.progress_laws.specs.trace_laws.specs.Named.{Named, known, said, refused}
+use Rattle.progress_laws.specs.trace_laws.specs.Tells.{IsServed, of_process, of_abort}
+use Rattle.progress_laws.specs.trace_laws.proofs.NamedBytes.{names_first}
+use Rattle.progress_laws.specs.trace_laws.proofs.PhaseLines.{in_phase, out_in, out_lines}
+use Rattle.progress_laws.specs.trace_laws.proofs.StatusLeavings.{Completes, in_status, refused as refused_again, completes_from, left_alone}
 use Rattle.transcript_laws.specs.Parts.{are_talk, base_parts, out_parts, parts_now}
 use Rattle.transcript_laws.proofs.BaseParts.{base_more, base_turned}
 use Rattle.transcript_laws.proofs.HeldSince.{follows_in}

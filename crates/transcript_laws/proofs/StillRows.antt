@@ -27,8 +27,8 @@ use Rattle.bus_due.specs.bus_story.specs.Story.{Story, by_status, story_with_end
 use Rattle.bus_due.specs.bus_story.specs.TraceHistory.{story_with_carried, carried_after_fault_if, story_after_fault, story_after_crossing, story_in_connection, story}
 use Rattle.bus_due.specs.bus_story.proofs.StorySteps.{check_keeps, events_sent}
 use Rattle.bus_due.specs.bus_story.proofs.CarriedLists.{carried_id}
-use Rattle.trace_laws.specs.bus_books.proofs.InConnection.{same_phase_is}
-use Rattle.trace_laws.proofs.OverItems.{grows_same, events_grow}
+use Rattle.progress_laws.specs.bus_books.proofs.InConnection.{same_phase_is}
+use Rattle.progress_laws.specs.trace_laws.proofs.OverItems.{grows_same, events_grow}
 use Rattle.bus_transcript.specs.declared.part.Part.{Part}
 use Rattle.bus_transcript.specs.declared.part.Part.TheVariants as parts_of
 use Rattle.bus_transcript.specs.Events.{names_begun}

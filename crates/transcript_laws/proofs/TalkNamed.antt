@@ -28,21 +28,21 @@ use Rattle.bus_due.specs.RunState.{RunState, bus_of}
 use Rattle.bus_due.specs.RunSteps.{run_state}
 use Rattle.bus_due.specs.Sights.{hearing_of, leaving, serving_of}
 use Rattle.bus_due.proofs.Stills.{still_talk}
-use Rattle.trace_laws.specs.bus_books.specs.Giving.{OnMessages}
-use Rattle.trace_laws.specs.bus_books.specs.Knowing.{IsNoName}
-use Rattle.trace_laws.specs.bus_books.specs.Rows.{reading_in}
-use Rattle.trace_laws.specs.bus_books.proofs.Gives.{byte_messages}
-use Rattle.trace_laws.specs.bus_books.proofs.InConnection.{InConnection, in_connection}
-use Rattle.trace_laws.specs.bus_books.proofs.Knows.{nameless_item, others_nameless, from_nameless}
-use Rattle.trace_laws.specs.bus_books.proofs.Leavings.{left_messages}
+use Rattle.progress_laws.specs.bus_books.specs.Giving.{OnMessages}
+use Rattle.progress_laws.specs.bus_books.specs.Knowing.{IsNoName}
+use Rattle.progress_laws.specs.bus_books.specs.Rows.{reading_in}
+use Rattle.progress_laws.specs.bus_books.proofs.Gives.{byte_messages}
+use Rattle.progress_laws.specs.bus_books.proofs.InConnection.{InConnection, in_connection}
+use Rattle.progress_laws.specs.bus_books.proofs.Knows.{nameless_item, others_nameless, from_nameless}
+use Rattle.progress_laws.specs.bus_books.proofs.Leavings.{left_messages}
 use Rattle.bus_transcript.specs.declared.part.Incoming.{Incoming}
 use Rattle.bus_transcript.specs.declared.part.Incoming.TheVariants.{Whole, Broken}
 use Rattle.bus_transcript.specs.declared.part.Part.{Part}
 use Rattle.bus_transcript.specs.declared.part.Part.TheVariants as parts_of
 use Rattle.bus_transcript.specs.Opened.{OpenedValue, held_part, is_complete, is_completion, with_part, with_in_if, with_fault, with_still_row, phase_entered, phase_over, phase_parts, data_parts}
-use Rattle.trace_laws.specs.Named.{Named, known, said, refused}
-use Rattle.trace_laws.proofs.RowItems.{heard_link, LinkAfter, says, hears, stays, link_crossed, link_still}
-use Rattle.trace_laws.proofs.TalkBytes.{on_message}
+use Rattle.progress_laws.specs.trace_laws.specs.Named.{Named, known, said, refused}
+use Rattle.progress_laws.specs.trace_laws.proofs.RowItems.{heard_link, LinkAfter, says, hears, stays, link_crossed, link_still}
+use Rattle.progress_laws.specs.trace_laws.proofs.TalkBytes.{on_message}
 use Rattle.transcript_laws.specs.Parts.{is_talk, are_talk, is_void, held_parts, base_parts, out_parts, parts_now}
 use Rattle.transcript_laws.proofs.BaseParts.{base_turned}
 use Rattle.transcript_laws.proofs.CrossingFits.{whole_on}

@@ -19,11 +19,11 @@ use Rattle.bus_due.specs.Plain.{IsPlain, AreOfDevices}
 use Rattle.bus_due.specs.RunState.{RunState}
 use Rattle.bus_due.specs.RunSteps.{run_state}
 use Rattle.bus_due.proofs.Plains.{run_state_plain}
-use Rattle.trace_laws.specs.bus_laws.proofs.Apart.{change_plain}
-use Rattle.trace_laws.specs.bus_laws.proofs.Prompt.{least_is}
+use Rattle.progress_laws.specs.bus_laws.proofs.Apart.{change_plain}
+use Rattle.progress_laws.specs.bus_laws.proofs.Prompt.{least_is}
 use Rattle.bus_transcript.specs.Opened.{OpenedValue}
 use Rattle.bus_transcript.specs.Rows.{transcribed}
-use Rattle.trace_laws.proofs.Whole.{Whole, whole}
+use Rattle.progress_laws.specs.trace_laws.proofs.Whole.{Whole, whole}
 use Rattle.transcript_laws.specs.RowTests.{is_fresh, is_alone, fits_linked, fits_first, fits_bus, ends_all, fits_reading, fits_row, is_named, are_named, fit}
 use Rattle.transcript_laws.proofs.AloneItems.{begins_alone}
 use Rattle.transcript_laws.proofs.BeginRows.{fresh_item, begins_quiet}
@@ -36,7 +36,7 @@ use Rattle.transcript_laws.proofs.RowFits.{going_fits}
 use Rattle.transcript_laws.proofs.RstRows.{rst_none, rst_row}
 use Rattle.transcript_laws.proofs.SentProcesses.{reset_ends, sent_known}
 use Rattle.transcript_laws.proofs.UndoneMessages.{undoes_row}
-use Rattle.trace_laws.proofs.Impossible.{none_some}
+use Rattle.progress_laws.specs.trace_laws.proofs.Impossible.{none_some}
 use Rattle.bus_due.specs.bus_base.proofs.Tests.{wrong'}
 
 row_by_state : (s : ScenarioValue) (p : List Row) (row : Row) → Obeys s → IsPrompt s (row ∷ p)

@@ -9,7 +9,7 @@ use Rattle.bus_due.specs.bus_base.specs.declared.ProcId.{ProcId}
 use Rattle.bus_due.specs.bus_story.specs.CarriedBytes.{CarriedBytes}
 use Rattle.bus_due.specs.bus_story.specs.HistoryEvents.{is_refuse, status_event}
 use Rattle.bus_due.specs.bus_story.specs.Story.{marked_refused, marked_shown}
-use Rattle.trace_laws.specs.bus_books.proofs.Lookups.{self_id}
+use Rattle.progress_laws.specs.bus_books.proofs.Lookups.{self_id}
 use Rattle.bus_due.specs.disk_array.specs.Processes.{same_id}
 use Rattle.bus_transcript.specs.declared.item.Item.{Item}
 use Rattle.bus_transcript.specs.declared.item.Item.TheVariants as items

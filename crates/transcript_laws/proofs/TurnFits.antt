@@ -24,18 +24,18 @@ use Rattle.bus_due.specs.bus_dialogue.specs.NextPhase.{phase_of}
 use Rattle.bus_due.specs.Plain.{IsPlain}
 use Rattle.bus_due.specs.RunState.{RunState, or_start, bus_of, process_item}
 use Rattle.bus_due.specs.RunSteps.{run_state}
-use Rattle.trace_laws.specs.bus_books.specs.Knowing.{Knows}
-use Rattle.trace_laws.specs.bus_books.proofs.CarriedRows.{process_id}
-use Rattle.trace_laws.specs.bus_books.proofs.InConnection.{InConnection, in_connection}
+use Rattle.progress_laws.specs.bus_books.specs.Knowing.{Knows}
+use Rattle.progress_laws.specs.bus_books.proofs.CarriedRows.{process_id}
+use Rattle.progress_laws.specs.bus_books.proofs.InConnection.{InConnection, in_connection}
 use Rattle.bus_transcript.specs.Opened.{OpenedValue}
-use Rattle.trace_laws.specs.DataPointers.{is_marked}
-use Rattle.trace_laws.specs.Named.{Named, known, said, refused}
-use Rattle.trace_laws.specs.Places.{IsUntouched, PlacedIf, PlacedIn}
-use Rattle.trace_laws.specs.Tells.{IsServed, of_process, of_abort}
-use Rattle.trace_laws.proofs.PhaseLines.{command_phase}
-use Rattle.trace_laws.proofs.RowItems.{over_after, link_still}
-use Rattle.trace_laws.proofs.TellRows.{unbegun_lines}
-use Rattle.trace_laws.proofs.Impossible.{none_some}
+use Rattle.progress_laws.specs.trace_laws.specs.DataPointers.{is_marked}
+use Rattle.progress_laws.specs.trace_laws.specs.Named.{Named, known, said, refused}
+use Rattle.progress_laws.specs.trace_laws.specs.Places.{IsUntouched, PlacedIf, PlacedIn}
+use Rattle.progress_laws.specs.trace_laws.specs.Tells.{IsServed, of_process, of_abort}
+use Rattle.progress_laws.specs.trace_laws.proofs.PhaseLines.{command_phase}
+use Rattle.progress_laws.specs.trace_laws.proofs.RowItems.{over_after, link_still}
+use Rattle.progress_laws.specs.trace_laws.proofs.TellRows.{unbegun_lines}
+use Rattle.progress_laws.specs.trace_laws.proofs.Impossible.{none_some}
 use Rattle.transcript_laws.specs.RowTests.{is_open_item, arrives_first, leaves_talk, gets_known}
 use Rattle.transcript_laws.proofs.OpenedBytes.{OpenedBytes, begun_turned}
 use Rattle.transcript_laws.proofs.OpenedFacts.{Going, plain_before, knows_before}

@@ -12,13 +12,13 @@ use Rattle.bus_due.specs.bus_story.specs.HistoryEvents.{is_refuse, status_event}
 use Rattle.bus_due.specs.bus_story.specs.Story.{Story, by_status, marked_refused, marked_shown, story_with_end, story_after_event, story_after_events}
 use Rattle.bus_due.specs.bus_story.proofs.StorySteps.{check_keeps}
 use Rattle.bus_due.specs.bus_story.proofs.CarriedLists.{carried_id}
-use Rattle.trace_laws.specs.bus_books.proofs.Lookups.{self_id, put_own, put_other}
+use Rattle.progress_laws.specs.bus_books.proofs.Lookups.{self_id, put_own, put_other}
 use Rattle.transcript_laws.specs.Past.{IsOwnEvent, AreOwnEvents}
 use Rattle.transcript_laws.specs.Serving.{marked_by, marked_with}
 use Rattle.transcript_laws.specs.Told.{has_refusal, has_answer, IsMarked}
 use Rattle.transcript_laws.proofs.TurnEvents.{arrivals, turn_events, Turn, quiet, shows, turn, refused_turn, event_mark}
 use Rattle.bus_due.specs.bus_base.proofs.Tests.{wrong}
-use Rattle.trace_laws.specs.target_units.proofs.LiveQueue.{id_turned}
+use Rattle.progress_laws.specs.target_units.proofs.LiveQueue.{id_turned}
 
 -- ---- what is carried
 

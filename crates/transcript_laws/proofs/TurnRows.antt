@@ -25,11 +25,11 @@ use Rattle.bus_due.specs.bus_story.specs.Story.{Story, story_after_events}
 use Rattle.bus_due.specs.bus_story.specs.TraceHistory.{story_after_fault, story_after_crossing, story_in_connection, story}
 use Rattle.bus_due.specs.bus_story.proofs.StorySteps.{events_link, events_sent}
 use Rattle.bus_due.specs.bus_story.proofs.CarriedLists.{carried_id}
-use Rattle.trace_laws.specs.bus_books.proofs.Lookups.{id_is}
-use Rattle.trace_laws.specs.bus_books.proofs.Reading.{nil_is}
-use Rattle.trace_laws.proofs.OverItems.{events_grow}
-use Rattle.trace_laws.proofs.Impossible.{none_some}
-use Rattle.trace_laws.proofs.TellRows.{no_events}
+use Rattle.progress_laws.specs.bus_books.proofs.Lookups.{id_is}
+use Rattle.progress_laws.specs.bus_books.proofs.Reading.{nil_is}
+use Rattle.progress_laws.specs.trace_laws.proofs.OverItems.{events_grow}
+use Rattle.progress_laws.specs.trace_laws.proofs.Impossible.{none_some}
+use Rattle.progress_laws.specs.trace_laws.proofs.TellRows.{no_events}
 use Rattle.bus_transcript.specs.Accounts.{AccountValue}
 use Rattle.bus_transcript.specs.Events.{names_begun}
 use Rattle.bus_transcript.specs.Opened.{OpenedValue, with_crossing, with_still_row, phase_over, phase_entered, with_row}

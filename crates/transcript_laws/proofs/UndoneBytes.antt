@@ -30,14 +30,14 @@ use Rattle.bus_due.specs.bus_story.proofs.StorySteps.{check_keeps, out_link, mes
 use Rattle.bus_due.specs.bus_story.proofs.CarriedLists.{carried_id}
 use Rattle.bus_due.specs.RunState.{RunState}
 use Rattle.bus_due.specs.RunSteps.{run_state_after}
-use Rattle.trace_laws.specs.bus_books.specs.Rows.{IsRowIn, reading_in}
-use Rattle.trace_laws.specs.bus_books.proofs.Blocks.{same_self}
-use Rattle.trace_laws.specs.bus_books.proofs.Knows.{link_after}
-use Rattle.trace_laws.specs.bus_books.proofs.Lookups.{put_own}
-use Rattle.trace_laws.proofs.FailureNext.{is_restore}
-use Rattle.trace_laws.proofs.PointerStories.{story_row}
-use Rattle.trace_laws.proofs.PointerStorySteps.{fault_id, message_byte, in_link}
-use Rattle.trace_laws.proofs.TellRows.{no_events}
+use Rattle.progress_laws.specs.bus_books.specs.Rows.{IsRowIn, reading_in}
+use Rattle.progress_laws.specs.bus_books.proofs.Blocks.{same_self}
+use Rattle.progress_laws.specs.bus_books.proofs.Knows.{link_after}
+use Rattle.progress_laws.specs.bus_books.proofs.Lookups.{put_own}
+use Rattle.progress_laws.specs.trace_laws.proofs.FailureNext.{is_restore}
+use Rattle.progress_laws.specs.trace_laws.proofs.PointerStories.{story_row}
+use Rattle.progress_laws.specs.trace_laws.proofs.PointerStorySteps.{fault_id, message_byte, in_link}
+use Rattle.progress_laws.specs.trace_laws.proofs.TellRows.{no_events}
 use Rattle.transcript_laws.specs.RowTests.{is_alike, undoes_nothing}
 use Rattle.transcript_laws.proofs.ChangedBytes.{KeepsId, changed_each, after_message, after_fault, ChangesBy, by_fault, unchanged, by_none}
 use Rattle.bus_due.specs.bus_base.proofs.Tests.{wrong, eq_self}

@@ -25,9 +25,9 @@ use Rattle.bus_due.specs.bus_dialogue.specs.DataRuns.{runs_in_all}
 use Rattle.bus_due.specs.bus_dialogue.specs.Exchange.{one_message}
 use Rattle.bus_due.specs.bus_dialogue.specs.NextPhase.{Serving, bus_free, phase_entry, with_task, recovery, recovery_limit, pointer_restoration, next_data_phase, request_or_command, after_offer, message_repetition, message_out_leaving, after_messages, after_arrival, after_run, disconnection, disconnect_messages, data_in_leaving, phase_leaving}
 use Rattle.bus_due.specs.bus_dialogue.specs.Words.{reply_to, request_by, is_naming, target_answer}
-use Rattle.trace_laws.specs.bus_books.specs.Giving.{OnMessages}
-use Rattle.trace_laws.specs.Tells.{is_short}
-use Rattle.trace_laws.proofs.FailureNext.{RestoresNone}
+use Rattle.progress_laws.specs.bus_books.specs.Giving.{OnMessages}
+use Rattle.progress_laws.specs.trace_laws.specs.Tells.{is_short}
+use Rattle.progress_laws.specs.trace_laws.proofs.FailureNext.{RestoresNone}
 
 abbrev pub is_brief : Option MsgIn → Bool
 is_brief m = is_none m || is_short m

@@ -43,21 +43,21 @@ use Rattle.bus_due.specs.RunState.{RunState, bus_of}
 use Rattle.bus_due.specs.RunSteps.{run_state}
 use Rattle.bus_due.specs.Sights.{hearing_of, leaving, serving_of}
 use Rattle.bus_due.proofs.Plains.{run_state_plain}
-use Rattle.trace_laws.specs.bus_books.specs.Giving.{AreGiven, OnMessage, OnMessages}
-use Rattle.trace_laws.specs.bus_books.specs.Listening.{half_after}
-use Rattle.trace_laws.specs.bus_books.specs.Rows.{reading_in}
-use Rattle.trace_laws.specs.bus_books.specs.Tests.{is_selected}
-use Rattle.trace_laws.specs.bus_books.proofs.Reading.{nil_is}
-use Rattle.trace_laws.specs.bus_books.proofs.InConnection.{InConnection, in_connection}
+use Rattle.progress_laws.specs.bus_books.specs.Giving.{AreGiven, OnMessage, OnMessages}
+use Rattle.progress_laws.specs.bus_books.specs.Listening.{half_after}
+use Rattle.progress_laws.specs.bus_books.specs.Rows.{reading_in}
+use Rattle.progress_laws.specs.bus_books.specs.Tests.{is_selected}
+use Rattle.progress_laws.specs.bus_books.proofs.Reading.{nil_is}
+use Rattle.progress_laws.specs.bus_books.proofs.InConnection.{InConnection, in_connection}
 use Rattle.bus_transcript.specs.Opened.{OpenedValue}
 use Rattle.bus_transcript.specs.Rows.{transcribed}
-use Rattle.trace_laws.specs.Named.{Named, Names, known, said, refused, all, tag_alone}
-use Rattle.trace_laws.proofs.PhaseLines.{in_out, message_line, out_in, out_line, out_lines}
-use Rattle.trace_laws.specs.bus_books.proofs.Gives.{not_both}
-use Rattle.trace_laws.proofs.TellRows.{unbegun_lines}
-use Rattle.trace_laws.proofs.UndoneAnswers.{SamePlan, plan_stays}
-use Rattle.trace_laws.proofs.Whole.{Whole, whole}
-use Rattle.trace_laws.proofs.FailureNext.{RestoresNone}
+use Rattle.progress_laws.specs.trace_laws.specs.Named.{Named, Names, known, said, refused, all, tag_alone}
+use Rattle.progress_laws.specs.trace_laws.proofs.PhaseLines.{in_out, message_line, out_in, out_line, out_lines}
+use Rattle.progress_laws.specs.bus_books.proofs.Gives.{not_both}
+use Rattle.progress_laws.specs.trace_laws.proofs.TellRows.{unbegun_lines}
+use Rattle.progress_laws.specs.trace_laws.proofs.UndoneAnswers.{SamePlan, plan_stays}
+use Rattle.progress_laws.specs.trace_laws.proofs.Whole.{Whole, whole}
+use Rattle.progress_laws.specs.trace_laws.proofs.FailureNext.{RestoresNone}
 use Rattle.transcript_laws.specs.RowTests.{undoes_nothing}
 use Rattle.transcript_laws.proofs.CrossingFits.{whole_on}
 use Rattle.transcript_laws.proofs.HeldSince.{follows_in, message_no_command}
@@ -66,8 +66,8 @@ use Rattle.transcript_laws.proofs.OpenedFacts.{Going, Starts, Holds, RowMade, ma
 use Rattle.transcript_laws.proofs.UndoneBytes.{UndoesSo, row_undoes}
 use Rattle.transcript_laws.proofs.UndoneLeavings.{is_brief, are_brief, Leads, briefly, answers, again, leads_from}
 use Rattle.bus_due.specs.bus_base.proofs.Tests.{wrong, wrong', and_first, and_second, and_true}
-use Rattle.trace_laws.specs.scsi_device.specs.Heard.{is_command_phase}
-use Rattle.trace_laws.specs.scsi_device.proofs.PhaseLines.{command_is}
+use Rattle.progress_laws.specs.scsi_device.specs.Heard.{is_command_phase}
+use Rattle.progress_laws.specs.scsi_device.proofs.PhaseLines.{command_is}
 
 -- Each of the messages that the target gives is one byte; or none of them restores pointers, and nothing is to be brought back but data.
 abbrev pub Undone : Story → Messages → Type 0

@@ -5,7 +5,7 @@ use Rattle.std.proofs.lemmas.Bool.{and_parts}
 use Rattle.scenario.specs.declared.value.CmdDef.{CmdDef}
 use Rattle.bus_due.specs.RunSteps.{run_state}
 use Rattle.disk_array.specs.Processes.{command_at}
-use Rattle.trace_laws.specs.scsi_device.specs.Lines.{IsCommandLine}
+use Rattle.delivery_laws.specs.scsi_device.specs.Lines.{IsCommandLine}
 use Rattle.initiator.specs.Received.{undoes_no_byte}
 use Rattle.bus_engine.specs.Answers.{are_answered_from}
 use Rattle.bus_engine.specs.Over.{IsPlaceOver}

@@ -4,7 +4,7 @@ use Rattle.bus_trace.specs.declared.Row.{Row}
 use Rattle.scenario.specs.declared.value.CmdDef.{CmdDef}
 use Rattle.scenario.specs.Value.{ScenarioValue}
 use Rattle.bus_due.specs.RunSteps.{run_state}
-use Rattle.trace_laws.specs.scsi_device.specs.Lines.{FitsBus}
+use Rattle.delivery_laws.specs.scsi_device.specs.Lines.{FitsBus}
 use Rattle.bus_engine.specs.Answers.{are_answered}
 use Rattle.bus_engine.specs.Over.{AreOver}
 use Rattle.bus_engine.proofs.Replies.{AreAsked}

@@ -4,7 +4,7 @@ use Rattle.disk_array.specs.ArrayHistory.{array_after, disks_of, unit_contents}
 use Rattle.bus_due.specs.bus_story.specs.TraceHistory.{trace_history}
 use Rattle.bus_due.specs.RunState.{array_of}
 use Rattle.bus_due.specs.RunSteps.{run_state}
-use Rattle.trace_laws.specs.target_units.specs.Units.{UnitsState}
+use Rattle.delivery_laws.specs.target_units.specs.Units.{UnitsState}
 use Rattle.run_record.specs.Value.{held_by}
 use Rattle.bus_engine.specs.Disks.{AreHeld, AreLinesApart}
 use Rattle.bus_engine.proofs.Items.{ok_map}

@@ -23,7 +23,7 @@ use Rattle.delivery_laws.specs.progress_laws.proofs.Ended.{joined}
 use Rattle.bus_due.specs.bus_story.specs.Outcomes.{Outcome}
 use Rattle.delivery_laws.specs.Delivery.{AreAnswered, AreCaused, AreChecked, AreOwnSenses, AreStoppedSenses, HaveStrikes, IsDelivered}
 use Rattle.delivery_laws.specs.Resets.{AreResets}
-use Rattle.trace_laws.specs.bus_books.specs.WrongParity.{complains_truly}
+use Rattle.delivery_laws.specs.bus_books.specs.WrongParity.{complains_truly}
 use Rattle.bus_engine.specs.Limits.{row_limit}
 use Rattle.bus_engine.proofs.Answered.{all_answered}
 use Rattle.bus_engine.proofs.Items.{all_reversed}

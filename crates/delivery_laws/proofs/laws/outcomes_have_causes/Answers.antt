@@ -4,7 +4,7 @@ use Rattle.bus_due.specs.bus_base.specs.declared.Event.TheVariants as events
 use Rattle.bus_due.specs.bus_story.specs.Items.{command_id}
 use Rattle.bus_due.specs.bus_story.specs.Story.{Story}
 use Rattle.bus_due.proofs.Plains.{prompt_plain}
-use Rattle.trace_laws.specs.bus_books.specs.FullQueues.{has_event, was_refused}
+use Rattle.progress_laws.specs.bus_books.specs.FullQueues.{has_event, was_refused}
 use Rattle.initiator.specs.Causes.{has_bus_reset, has_command_abort}
 use Rattle.delivery_laws.proofs.Delivered.{HaveCauses}
 use Rattle.delivery_laws.proofs.OutcomeCauses.{abort_came, failed_above, full_refused, lost_above, reset_came, unanswered_above}

@@ -4,7 +4,7 @@ use Rattle.bus_due.specs.bus_base.specs.declared.Event.TheVariants as events
 use Rattle.bus_due.specs.bus_story.specs.Items.{command_id}
 use Rattle.bus_due.specs.bus_story.specs.Story.{Story}
 use Rattle.bus_due.proofs.Plains.{prompt_plain}
-use Rattle.trace_laws.specs.bus_books.specs.FullQueues.{has_event}
+use Rattle.progress_laws.specs.bus_books.specs.FullQueues.{has_event}
 use Rattle.delivery_laws.specs.Delivery.{IsOwnSense, RanSo}
 use Rattle.delivery_laws.proofs.OutcomeCauses.{failed_above}
 use Rattle.delivery_laws.proofs.OwnOutcomes.{own_failed, own_sense, ran_so}
