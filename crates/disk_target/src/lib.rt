@@ -10,6 +10,9 @@
 //! in the queue of its unit, or outside it with a reply of its own. Stands on `target_course`, `target_units`,
 //! `disk_unit`, `scsi_device` and the definitions of `disk_array` and `bus_due`.
 //!
+//! A run asks what is due of it (`Target::due`). `Target::step`, what it does by a clock, serves a caller with devices
+//! of his own, and nothing here calls it.
+//!
 //! Public contract: after `new` and a `see` for each row each part knows what the rows made known
 //! (`specs/Targets.antt`, `IsTargetAfter`). So what a target does next is exactly what is due of it, what it shows with
 //! a row is what the target of that connection shows, and its units are those of the plain disk array. `see` rests on

@@ -2,14 +2,17 @@
 //! and 7).
 //!
 //! A [`Host`] is an initiator of a scenario. It is told of every row and of the events that it shows (`Host::see`),
-//! and what it does next is `Host::due`, which changes nothing. It has parts, each of which goes on by every row:
-//! [`Itself`](scsi_device::Itself), when it made its own rows and drives RST next; [`Intent`], which commands,
-//! automatic REQUEST SENSE and aborts of its own are sent and over, and so since when it wants the bus, for what, and
-//! whom it calls; [`Negotiations`], with which targets it may still negotiate; [`Speech`], what it says in MESSAGE OUT;
-//! [`Transfers`], the pointers and the status of its own processes, and to which of them its connection belongs;
-//! [`Endings`] and [`Received`], how each of its commands ended, and the data that came. `specs/Hosts.antt` puts the
-//! parts together, and each has a file of its own there; `specs/States.antt` and `Dues.antt` say what it does next by
-//! what it knows. Stands on `scsi_device`, `bus_due`, `bus_dialogue`, `io_pointers`, `connect` and `handshake`.
+//! and what it does next is `Host::due`, which changes nothing. A run asks that alone; `Host::step`, what it does by a
+//! clock, serves a caller with devices of his own, and here only tests call it.
+//!
+//! It has parts, each of which goes on by every row: [`Itself`](scsi_device::Itself), when it made its own rows and
+//! drives RST next; [`Intent`], which commands, automatic REQUEST SENSE and aborts of its own are sent and over, and so
+//! since when it wants the bus, for what, and whom it calls; [`Negotiations`], with which targets it may still
+//! negotiate; [`Speech`], what it says in MESSAGE OUT; [`Transfers`], the pointers and the status of its own processes,
+//! and to which of them its connection belongs; [`Endings`] and [`Received`], how each of its commands ended, and the
+//! data that came. `specs/Hosts.antt` puts the parts together, and each has a file of its own there;
+//! `specs/States.antt` and `Dues.antt` say what it does next by what it knows. Stands on `scsi_device`, `bus_due`,
+//! `bus_dialogue`, `io_pointers`, `connect` and `handshake`.
 //!
 //! Public contract: after any rows of the eight devices, lawful or not, a `Host` that was told of each of them knows
 //! what these make known (`IsHostAfter`), and what it does next is exactly what is due of it (`Host::due`). No call but
