@@ -48,6 +48,27 @@ MAKES = sorted(str(path) for path in (ROOT / "tools" / "make_cases").glob("*.scs
 SMALL = sorted(str(path) for path in (ROOT / "tools" / "run_cases").glob("*.scn"))
 GUARDS = sorted(str(path) for path in (ROOT / "tools" / "guard_cases").glob("*.scn"))
 LAWS = sorted(str(path) for path in (ROOT / "tools" / "law_cases").glob("*.scn"))
+# Runs at the limit of the faults that a command bears, below and above it; and runs with each outcome.
+LIMITS = [
+    str(ROOT / "tools" / "due_cases" / (name + ".scn"))
+    for name in (
+        "command_struck_twice", "request_of_a_target_struck", "pulsed_read_struck", "pulsed_write_struck", "selected_id_struck",
+        "tagged_opening_struck", "command_given_up", "data_in_given_up", "lost", "status_given_up", "given_up", "status_struck",
+        "opening_given_up", "complete_struck",
+    )
+] + sorted(str(path) for path in (ROOT / "tools" / "limit_cases").glob("*.scn"))
+OUTCOMES = (
+    [
+        str(ROOT / "tools" / "due_cases" / (name + ".scn"))
+        for name in (
+            "full_queue", "lost", "command_given_up", "data_in_given_up", "data_out_given_up", "held_reselection", "hold_of_a_unit",
+            "own_processes_aborted", "tag_aborted", "queue_cleared", "device_reset_by_message", "overlapping_resets",
+            "reset_in_a_selection", "unanswered", "absent_unit",
+        )
+    ]
+    + [str(ROOT / "tools" / "cases" / (name + ".scn")) for name in ("failures", "two_aborts")]
+    + [str(ROOT / "tools" / "limit_cases" / (name + ".scn")) for name in ("absent_target", "ids_twice")]
+)
 # Of each generated file its maker's words, and the file that the maker reads from standard input, where there is one.
 MADE = {
     "crates/bus_cases/proofs/RuleCases.antt": (["tools/makers/rule_cases.py"], "tools/rule_cases.txt"),
@@ -69,6 +90,8 @@ MADE = {
     "crates/disk_target/proofs/AttendedCases.antt": (["tools/makers/attended_case.py", "Cases"] + RUNS, None),
     "crates/bus_books/proofs/CauseRunCases.antt": (["tools/makers/cause_case.py", "Cases"] + RUNS, None),
     "crates/bus_laws/proofs/Cases.antt": (["tools/makers/law_case.py"] + LAWS, None),
+    "crates/delivery_laws/proofs/LimitCases.antt": (["tools/makers/limit_case.py"] + LIMITS, None),
+    "crates/delivery_laws/proofs/OutcomeCases.antt": (["tools/makers/outcome_case.py"] + OUTCOMES, None),
     "crates/vcd_text/proofs/TraceCases.antt": (["tools/makers/dump_case.py"] + DUMPS, None),
     "crates/bus_transcript/proofs/Cases.antt": (["tools/makers/transcript_case.py"] + TRANSCRIPTS, None),
     "crates/bus_transcript/proofs/ToldCases.antt": (["tools/makers/told_case.py"] + TOLD, None),

@@ -73,7 +73,8 @@ use Rattle.progress_laws.specs.trace_laws.proofs.Joint.{Stood}
 use Rattle.progress_laws.specs.trace_laws.proofs.OpenCommands.{item_is}
 use Rattle.progress_laws.specs.trace_laws.proofs.PointerWaits.{connection_sent}
 use Rattle.progress_laws.specs.trace_laws.proofs.UnderRst.{quiet_at_end}
-use Rattle.progress_laws.specs.trace_laws.proofs.Whole.{whole}
+use Rattle.progress_laws.specs.trace_laws.proofs.Whole.{Whole, whole}
+use Rattle.progress_laws.specs.trace_laws.specs.ItemFacts.{IsNext}
 use Rattle.right_laws.proofs.Calls.{Follows, calling_follows, GoesOn, call_goes}
 use Rattle.right_laws.proofs.Moments.{apart_of, linked_of, reset_of}
 use Rattle.progress_laws.proofs.Rooms.{target_there}
@@ -299,7 +300,7 @@ event_tries s b (events.Lost id) = refl
 event_tries s b (events.Aborted host target unit what) = ends_tries (is_aborted host target unit what) (is_sense_stopped host target unit what) by_abort 1 s.commands b
 event_tries s b (events.Reset dev) = ends_tries (λ c. true) (λ c. true) by_reset 1 s.commands b
 
-events_tries : (s : ScenarioValue) (b : Story) (shown : List Event) → (story_after_events s b shown).sent.tries ≡ b.sent.tries
+pub events_tries : (s : ScenarioValue) (b : Story) (shown : List Event) → (story_after_events s b shown).sent.tries ≡ b.sent.tries
 events_tries s b [] = refl
 events_tries s b (e ∷ shown) = event_tries s (story_after_events s b shown) e ∙ events_tries s b shown
 
@@ -312,7 +313,7 @@ sent_tries : (b : Story) (item : Option Item) → (story_with_sent b item).sent.
 sent_tries b None = refl
 sent_tries b (Some item) = refl
 
-connection_tries : (b : Story) (n : Connection) → (story_after_connection b n).sent.tries ≡ b.sent.tries
+pub connection_tries : (b : Story) (n : Connection) → (story_after_connection b n).sent.tries ≡ b.sent.tries
 connection_tries b n = go n.reselected
   where
     go : (q : Bool) → (if q then record b { link = Some (link_of n None) } else story_with_restored (story_with_sent (record b { link = Some (link_of n (aim_of b.aims n.initiator)) }) (aim_of b.aims n.initiator)) (aim_of b.aims n.initiator)).sent.tries ≡ b.sent.tries
@@ -322,7 +323,7 @@ connection_tries b n = go n.reselected
         restored_tries (story_with_sent c (aim_of b.aims n.initiator)) (aim_of b.aims n.initiator) ∙ sent_tries c (aim_of b.aims n.initiator)
 
 -- One calling in vain more for the item of the call that stands, as SEL falls, or none.
-data Tried (b c : Story) (d : RowReading) : Type 0 where
+pub data Tried (b c : Story) (d : RowReading) : Type 0 where
   no_more : c.sent.tries ≡ b.sent.tries → Tried b c d
   one_more : (k : Call) (g : Calling) (i : Item) → falls d.change.before.sel d.change.after.sel ≡ true → d.change.after.rst ≡ false → b.bus_state.connection ≡ None → b.bus_state.call ≡ Some k → k.calling ≡ Some g → is_some g.answered ≡ false → g.reselects ≡ false → aim_of b.aims k.caller ≡ Some i
       → c.sent.tries ≡ i ∷ b.sent.tries → Tried b c d
@@ -368,7 +369,7 @@ free_tried s b d row off con = go (is_arbitration_entry b d) (falls d.change.bef
     go false false e = no_more refl
     go false true e = calling_tried s b d e off con b.bus_state.call refl
 
-change_tried : (s : ScenarioValue) (b : Story) (d : RowReading) (row : Row) → Tried b (story_by_change s b d row) d
+pub change_tried : (s : ScenarioValue) (b : Story) (d : RowReading) (row : Row) → Tried b (story_by_change s b d row) d
 change_tried s b d row = go d.change.after.rst refl
   where
     on_bus : d.change.after.rst ≡ false → (m n : Option Connection) → b.bus_state.connection ≡ m → Tried b (story_on_bus s b m n d row) d
@@ -530,6 +531,42 @@ pending_next s p row item dv lt e = by_call (call q) refl (ap (λ (o : Option Ca
     by_call None ek z = wrong' z
     by_call (Some kk) ek z = by_calling kk ek kk.calling refl (and_first (is_struck_by kk.calling) (is_call_for j.story.aims item (Some kk)) z) (and_second (is_struck_by kk.calling) (is_call_for j.story.aims item (Some kk)) z)
 
+-- SEL becomes false, and RST is false after it: so it was before.
+falls_both : (a b : Bool) → falls a b ≡ true → (a ≡ true) × (b ≡ false)
+falls_both true true z = wrong' z
+falls_both true false z = (refl, refl)
+falls_both false b z = wrong' z
+
+pub calm_as_sel_falls : (s : ScenarioValue) (p : List Row) (row : Row) → Obeys s → IsPrompt s (row ∷ p) → falls (change_of p row).before.sel (change_of p row).after.sel ≡ true → (change_of p row).after.rst ≡ false → (bus p).rst ≡ false
+calm_as_sel_falls s p row o prompt fall off = go (bus p).rst refl
+  where
+    go : (z : Bool) → (bus p).rst ≡ z → (bus p).rst ≡ false
+    go false e = e
+    go true e =
+        wrong (sym (falls_both (bus p).sel (change_of p row).after.sel fall).0
+        ∙ reset_sel s p row (whole s p o prompt.0).stood (least_is s p row prompt.1).inside ((row_none p row).1 (whole s (row ∷ p) o prompt).stood.standing.lawful.1) e off)
+
+-- The item of a calling that ends without an answer is what its initiator sends next: neither sent nor over.
+pub next_of_vain : (s : ScenarioValue) (p : List Row) (row : Row) → Obeys s → IsPrompt s (row ∷ p) → (kk : Call) (g : Calling) (i : Item) → falls (change_of p row).before.sel (change_of p row).after.sel ≡ true → (change_of p row).after.rst ≡ false
+    → (run_state s p).story.bus_state.connection ≡ None → (run_state s p).story.bus_state.call ≡ Some kk → kk.calling ≡ Some g → g.reselects ≡ false → aim_of (run_state s p).story.aims kk.caller ≡ Some i → IsNext s (run_state s p).story.sent kk.caller i
+next_of_vain s p row o prompt kk g i fall off con call_is f sel aim =
+    (w.facts.items.aims alone calm).calls kk ek ((w.stood.called alone calm kk g ek f).host_is ∙ ap not sel) i aim
+  where
+    w : Whole s p
+    w = whole s p o prompt.0
+
+    pl : IsPlain s p (run_state s p)
+    pl = run_state_plain s p w.stood.standing.devices
+
+    calm : (bus p).rst ≡ false
+    calm = calm_as_sel_falls s p row o prompt fall off
+
+    alone : connection p ≡ None
+    alone = sym pl.connection ∙ con
+
+    ek : call p ≡ Some kk
+    ek = sym pl.call ∙ call_is
+
 -- ---- in numbers
 
 stays_less : (a b c d e : ℕ) → a ≡ b → b + c ≤ d → a + 0 ≤ d + e
@@ -607,32 +644,17 @@ counts_next s p row o prompt item t lat et el h = by_tried (change_tried s k.sto
         → changed.sent.tries ≡ i ∷ k.story.sent.tries → Counts s q item
     fallen kk g i fall off con call_is f un sel aim more = by_item (same_item i item) refl
       where
-        falls_both : (a b : Bool) → falls a b ≡ true → (a ≡ true) × (b ≡ false)
-        falls_both true true z = wrong' z
-        falls_both true false z = (refl, refl)
-        falls_both false b z = wrong' z
-
-        two : (d.change.before.sel ≡ true) × (d.change.after.sel ≡ false)
-        two = falls_both d.change.before.sel d.change.after.sel fall
-
-        high : (bus p).sel ≡ true
-        high = ap (λ (y : Change). y.before.sel) (sym c) ∙ two.0
+        plain_fall : falls (change_of p row).before.sel (change_of p row).after.sel ≡ true
+        plain_fall = ap (λ (y : Change). falls y.before.sel y.after.sel) (sym c) ∙ fall
 
         low : (bus q).sel ≡ false
-        low = ap (λ (y : Change). y.after.sel) (sym c) ∙ two.1
+        low = (falls_both (change_of p row).before.sel (change_of p row).after.sel plain_fall).1
 
         calm_after : (bus q).rst ≡ false
         calm_after = ap (λ (y : Change). y.after.rst) (sym c) ∙ off
 
-        obeys : broken_rule p row ≡ None
-        obeys = (row_none p row).1 (whole s q o prompt).stood.standing.lawful.1
-
         calm : (bus p).rst ≡ false
-        calm = go (bus p).rst refl
-          where
-            go : (z : Bool) → (bus p).rst ≡ z → (bus p).rst ≡ false
-            go false e = e
-            go true e = wrong (sym high ∙ reset_sel s p row was m.inside obeys e calm_after)
+        calm = calm_as_sel_falls s p row o prompt plain_fall calm_after
 
         alone : connection p ≡ None
         alone = sym pl.connection ∙ con

@@ -1,16 +1,20 @@
 -- In a prompt trace a process is answered once: one that ran has the reply that it got then.
-use Rattle.std.proofs.Common.{◌≡◌, Bool, ◌∙◌, List, [], ◌∷◌, ◌++◌, Option, Some, None, refl, sym, ap, subst}
-use Rattle.std.specs.Prelude.{if◌then◌else◌, is_some, ⊤}
+use Rattle.std.proofs.Common.{ℕ, ◌≡◌, Bool, true, false, ◌&&◌, ◌||◌, ◌∙◌, List, [], ◌∷◌, ◌++◌, Option, Some, None, refl, sym, ap, subst}
+use Rattle.std.specs.Prelude.{if◌then◌else◌, is_some, ⊤, ◌==◌}
+use Rattle.std.specs.List.{list_any}
+use Rattle.std.proofs.lemmas.Bool.{eqb-true}
 use Rattle.std.proofs.lemmas.Option.{same_Some}
 use Rattle.bus_due.specs.bus_base.specs.declared.Event.{Event}
 use Rattle.bus_due.specs.bus_base.specs.declared.Event.TheVariants as events
 use Rattle.bus_due.specs.bus_base.specs.declared.ProcId.{ProcId}
+use Rattle.bus_due.specs.bus_base.proofs.Tests.{and_first, and_second, wrong'}
 use Rattle.progress_laws.specs.bus_laws.proofs.Prompt.{least_is}
 use Rattle.bus_due.specs.bus_trace.specs.declared.Row.{Row}
 use Rattle.bus_due.specs.scenario.specs.Value.{ScenarioValue}
 use Rattle.bus_due.specs.scenario.specs.Writing.{Obeys}
 use Rattle.bus_due.specs.disk_array.specs.ArrayHistory.{array_after, array_step, reply_in}
-use Rattle.bus_due.specs.disk_array.specs.Execution.{Reply, aborted_reply, execution, queue_full}
+use Rattle.bus_due.specs.disk_array.specs.Execution.{Reply, aborted_reply, execution, is_request_sense, queue_full}
+use Rattle.bus_due.specs.cdb_codec.specs.Cdb.{command_of}
 use Rattle.bus_due.specs.disk_array.specs.Processes.{Process, process_of, same_id}
 use Rattle.bus_due.specs.disk_array.specs.SoundArray.{IsSound}
 use Rattle.bus_due.specs.disk_array.specs.Steps as Steps
@@ -24,6 +28,8 @@ use Rattle.bus_due.specs.bus_story.specs.Items.{Sent}
 use Rattle.bus_due.specs.bus_story.specs.Story.{Story, story_after_events}
 use Rattle.bus_due.specs.bus_story.specs.TraceHistory.{story_by_change}
 use Rattle.bus_due.specs.Next.{IsPrompt}
+use Rattle.bus_due.specs.Telling.{same_event}
+use Rattle.progress_laws.specs.bus_books.specs.FullQueues.{has_event}
 use Rattle.bus_due.specs.Plain.{IsPlain}
 use Rattle.bus_due.specs.RunState.{RunState}
 use Rattle.bus_due.specs.RunSteps.{array_after_events, run_state}
@@ -147,3 +153,66 @@ run_lasts s (e ∷ h) a id reply (x ∷ later) earlier was p o fresh plays split
 
 pub ran_lasts : (s : ScenarioValue) (p : List Row) (a : Array) (id : ProcId) (reply : Reply) → Obeys s → IsPrompt s p → array_after s (run_state s p).story.history ≡ Some a → HasRun s (run_state s p).story.history id reply → reply_in a.replies id ≡ Some reply
 ran_lasts s p a id reply o prompt plays w = run_lasts s (run_state s p).story.history a id reply w.later w.earlier w.array w.process o (all_fresh s p o prompt) plays w.split w.array_is w.process_is w.reply_is
+
+-- ---- one that failed, or was refused
+
+-- An event that this test names lists this reply.
+abbrev Lists : ScenarioValue → (Event → Bool) → ProcId → Reply → Type 0
+Lists s f id reply = (a d : Array) (e : Event) → IsSound s a → f e ≡ true → Steps.step s e a ≡ Some d → reply_in d.replies id ≡ Some reply
+
+fail_lists : (s : ScenarioValue) (id : ProcId) (code : ℕ) → Lists s (λ e. same_event e (events.Fail id code)) id (aborted_reply code)
+fail_lists s id code a d (events.Fail p x) sound e st =
+    subst (IfBooks f) st (books.settled f (Steps.event_step s a (events.Fail p x)) (books.failed f s a p (aborted_reply x) (Steps.running_process a p) now))
+  where
+    f : List (Nexus × Sense) → List (ProcId × Reply) → Type 0
+    f y z = reply_in z id ≡ Some (aborted_reply code)
+
+    now : reply_in ((p, aborted_reply x) ∷ a.replies) id ≡ Some (aborted_reply code)
+    now =
+        ap (λ (q : Bool). if q then Some (aborted_reply x) else reply_in a.replies id) (and_first (same_id p id) (x == code) e)
+        ∙ ap (λ (y : ℕ). Some (aborted_reply y)) (eqb-true x code (and_second (same_id p id) (x == code) e))
+fail_lists s id code a d (events.Accept p) sound e st = wrong' e
+fail_lists s id code a d (events.Refuse p) sound e st = wrong' e
+fail_lists s id code a d (events.Run p) sound e st = wrong' e
+fail_lists s id code a d (events.End p status) sound e st = wrong' e
+fail_lists s id code a d (events.Lost p) sound e st = wrong' e
+fail_lists s id code a d (events.Aborted i t n what) sound e st = wrong' e
+fail_lists s id code a d (events.Reset dev) sound e st = wrong' e
+
+refuse_lists : (s : ScenarioValue) (id : ProcId) → Lists s (λ e. same_event e (events.Refuse id)) id queue_full
+refuse_lists s id a d (events.Refuse p) sound e st =
+    subst (IfBooks f) st (books.settled f (Steps.event_step s a (events.Refuse p)) (books.refused f a (process_of s p) now))
+  where
+    f : List (Nexus × Sense) → List (ProcId × Reply) → Type 0
+    f y z = reply_in z id ≡ Some queue_full
+
+    now : (q : Process) → process_of s p ≡ Some q → is_request_sense (command_of q.cdb) ≡ false → reply_in ((q.id, queue_full) ∷ a.replies) id ≡ Some queue_full
+    now q is other = ap (λ (x : Bool). if x then Some queue_full else reply_in a.replies id) (ap (λ (x : ProcId). same_id x id) (id_is s p q is) ∙ e)
+refuse_lists s id a d (events.Accept p) sound e st = wrong' e
+refuse_lists s id a d (events.Fail p x) sound e st = wrong' e
+refuse_lists s id a d (events.Run p) sound e st = wrong' e
+refuse_lists s id a d (events.End p status) sound e st = wrong' e
+refuse_lists s id a d (events.Lost p) sound e st = wrong' e
+refuse_lists s id a d (events.Aborted i t n what) sound e st = wrong' e
+refuse_lists s id a d (events.Reset dev) sound e st = wrong' e
+
+listed_lasts : (s : ScenarioValue) (h : List Event) (a : Array) (id : ProcId) (reply : Reply) (f : Event → Bool) → Obeys s → AreFresh s h → Lists s f id reply → array_after s h ≡ Some a → list_any (λ e. f e) h ≡ true → reply_in a.replies id ≡ Some reply
+listed_lasts s [] a id reply f o fresh lists plays has = wrong' has
+listed_lasts s (e ∷ h) a id reply f o fresh lists plays has = go (array_after s h) refl plays (λ b z has. listed_lasts s h b id reply f o fresh.1 lists z has)
+  where
+    go : (b : Option Array) → array_after s h ≡ b → array_step s e b ≡ Some a → ((c : Array) → array_after s h ≡ Some c → list_any (λ x. f x) h ≡ true → reply_in c.replies id ≡ Some reply) → reply_in a.replies id ≡ Some reply
+    go None z st rest = none_some a st
+    go (Some b) z st rest = by (f e) refl has
+      where
+        sound : IsSound s b
+        sound = history_sound s h b (seats_are s (obeys_fits s o)) z
+
+        by : (q : Bool) → f e ≡ q → (q || list_any (λ x. f x) h) ≡ true → reply_in a.replies id ≡ Some reply
+        by true y w = lists b a e sound y st
+        by false y w = step_keeps s b a e id reply sound (fresh.0 b z) st (rest b z w)
+
+pub failed_lasts : (s : ScenarioValue) (p : List Row) (a : Array) (id : ProcId) (code : ℕ) → Obeys s → IsPrompt s p → array_after s (run_state s p).story.history ≡ Some a → has_event (run_state s p).story.history (events.Fail id code) ≡ true → reply_in a.replies id ≡ Some (aborted_reply code)
+failed_lasts s p a id code o prompt plays has = listed_lasts s (run_state s p).story.history a id (aborted_reply code) (λ e. same_event e (events.Fail id code)) o (all_fresh s p o prompt) (fail_lists s id code) plays has
+
+pub refused_lasts : (s : ScenarioValue) (p : List Row) (a : Array) (id : ProcId) → Obeys s → IsPrompt s p → array_after s (run_state s p).story.history ≡ Some a → has_event (run_state s p).story.history (events.Refuse id) ≡ true → reply_in a.replies id ≡ Some queue_full
+refused_lasts s p a id o prompt plays has = listed_lasts s (run_state s p).story.history a id queue_full (λ e. same_event e (events.Refuse id)) o (all_fresh s p o prompt) (refuse_lists s id) plays has

@@ -22,4 +22,16 @@ pub mod Unheard
 pub mod CheckedOutcomes
 pub mod ResetDevices
 pub mod ResetLines
+pub mod FirstEndings
+pub mod SenseStops
+pub mod ExactOutcomes
+pub mod Arrivals
+pub mod RecoveryRows
+pub mod StruckPhases
+pub mod GiveUpRows
+pub mod OpeningWords
 mod Cases
+mod Limits
+mod LimitCases
+mod OutcomeCases
+mod PremiseCases

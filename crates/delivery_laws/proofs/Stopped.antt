@@ -25,6 +25,7 @@ use Rattle.bus_due.specs.RunState.{RunState, array_of, or_start}
 use Rattle.bus_due.specs.RunSteps.{run_state}
 use Rattle.bus_due.proofs.Plains.{prompt_plain}
 use Rattle.progress_laws.specs.trace_laws.specs.ItemFacts.{Items}
+use Rattle.progress_laws.specs.trace_laws.proofs.Whole.{whole}
 use Rattle.progress_laws.proofs.Answered.{AreUnwanted, sense_wanted}
 use Rattle.progress_laws.proofs.DebtTraces.{Indebted, indebted}
 use Rattle.progress_laws.proofs.Ended.{Joined, free_when_ended, joined, unwanted_when_ended}
@@ -121,8 +122,21 @@ abbrev pub AreStopped : Type 0
 AreStopped =
     (s : ScenarioValue) (rows : List Row) (n : ℕ) (c : CmdDef) → command_at s.commands n ≡ Some c → has_item (run_state s rows).story.sent.over (sense_item n) ≡ true → has_end (run_state s rows).story.history (sense_id n) ≡ false → has_sense_stop (run_state s rows).story.history n c ≡ true
 
-pub sense_stopped : (s : ScenarioValue) (p : List Row) (n : ℕ) (c : CmdDef) → WantsAreItems → HaveCauses → AreStopped → Obeys s → IsPrompt s p → IsEnded s p → command_at s.commands n ≡ Some c → outcome_of s (story s p) n ≡ Some (ended_check None) → has_sense_stop (run_state s p).story.history n c ≡ true
-sense_stopped s p n c wants causes stops o prompt end at e = by_end (has_end k.story.history (sense_id n)) refl
+-- Of a command that ended with a status other than GOOD and QUEUE FULL: its reply has that status, which is CHECK CONDITION; its automatic REQUEST SENSE is
+-- over; and where that has ended it brought bytes.
+pub record IsFetched (s : ScenarioValue) (p : List Row) (n status : ℕ) : Type 0 where
+  pub replied : HasReply s (run_state s p) (command_id n) status
+  pub check : (status == CHECK_CONDITION) ≡ true
+  pub over : has_item (run_state s p).story.sent.over (sense_item n) ≡ true
+  pub brought : has_end (run_state s p).story.history (sense_id n) ≡ true → is_some (sense_of_end s (run_state s p).story.history (sense_id n)) ≡ true
+
+pub is_replied : (s : ScenarioValue) (p : List Row) (n status : ℕ) → HaveCauses → Obeys s → IsPrompt s p → ending_of (run_state s p).story.ended n ≡ Some (by_status status) → HasReply s (run_state s p) (command_id n) status
+is_replied s p n status causes o prompt e =
+    end_reply s (run_state s p) (command_id n) status ((whole s p o prompt).statuses.areas.areas (command_id n))
+    (end_found s (run_state s p) (run_state s p).story.history (command_id n) status (all_ended s p o prompt (all_joined s p o prompt)) (causes.status s p n status e))
+
+pub fetched : (s : ScenarioValue) (p : List Row) (n status : ℕ) (c : CmdDef) → WantsAreItems → HaveCauses → Obeys s → IsPrompt s p → IsEnded s p → command_at s.commands n ≡ Some c → ending_of (run_state s p).story.ended n ≡ Some (by_status status) → (status == GOOD) ≡ false → (status == QUEUE_FULL) ≡ false → IsFetched s p n status
+fetched s p n status c wants causes o prompt end at e bad unfull = record { replied = is_replied s p n status causes o prompt e; check = check_is; over = over; brought = brought }
   where
     k : RunState
     k = run_state s p
@@ -145,17 +159,17 @@ sense_stopped s p n c wants causes stops o prompt end at e = by_end (has_end k.s
     reply_for : (id : ProcId) (status : ℕ) → has_status k.story.history id status ≡ true → HasReply s k id status
     reply_for id status has = end_reply s k id status (h.whole.statuses.areas.areas id) (end_found s k k.story.history id status (all_ended s p o prompt (all_joined s p o prompt)) has)
 
-    w : Senseless s k.story.history n (ending_of k.story.ended n)
-    w = senseless s k.story.history n (ending_of k.story.ended n) (ap is_senseless (ap (λ (b : Story). outcome_of s b n) pl.story ∙ e))
+    has : has_status k.story.history (command_id n) status ≡ true
+    has = causes.status s p n status e
 
-    has : has_status k.story.history (command_id n) w.status ≡ true
-    has = causes.status s p n w.status w.ending_is
+    known : is_known status ≡ true
+    known = let r = reply_for (command_id n) status has in ap is_known r.status_is ∙ (told (command_id n) r.reply r.reply_is).known
 
-    known : is_known w.status ≡ true
-    known = let r = reply_for (command_id n) w.status has in ap is_known r.status_is ∙ (told (command_id n) r.reply r.reply_is).known
+    check_is : (status == CHECK_CONDITION) ≡ true
+    check_is = is_check status known bad unfull
 
     check : has_status k.story.history (command_id n) CHECK_CONDITION ≡ true
-    check = subst (λ (x : ℕ). has_status k.story.history (command_id n) x ≡ true) (eqb-true w.status CHECK_CONDITION (is_check w.status known w.bad w.unfull)) has
+    check = subst (λ (x : ℕ). has_status k.story.history (command_id n) x ≡ true) (eqb-true status CHECK_CONDITION check_is) has
 
     rest : k.served ≡ None
     rest = (h.whole.facts.items.items.apart (pl.connection ∙ (free_when_ended s p j end).stands.connection_is)).1
@@ -173,6 +187,18 @@ sense_stopped s p n c wants causes stops o prompt end at e = by_end (has_end k.s
         ap (λ (q : Bool). is_some (if q then sense_in (reply_bytes s k.story.history (sense_id n)) else None)) ended
         ∙ ap (λ (x : List ℕ). is_some (sense_in x)) bytes ∙ sense_given r.reply.bytes ((told (sense_id n) r.reply r.reply_is).filled refl good)
 
+pub sense_stopped : (s : ScenarioValue) (p : List Row) (n : ℕ) (c : CmdDef) → WantsAreItems → HaveCauses → AreStopped → Obeys s → IsPrompt s p → IsEnded s p → command_at s.commands n ≡ Some c → outcome_of s (story s p) n ≡ Some (ended_check None) → has_sense_stop (run_state s p).story.history n c ≡ true
+sense_stopped s p n c wants causes stops o prompt end at e = by_end (has_end k.story.history (sense_id n)) refl
+  where
+    k : RunState
+    k = run_state s p
+
+    w : Senseless s k.story.history n (ending_of k.story.ended n)
+    w = senseless s k.story.history n (ending_of k.story.ended n) (ap is_senseless (ap (λ (b : Story). outcome_of s b n) (prompt_plain s p prompt).story ∙ e))
+
+    f : IsFetched s p n w.status
+    f = fetched s p n w.status c wants causes o prompt end at w.ending_is w.bad w.unfull
+
     by_end : (q : Bool) → has_end k.story.history (sense_id n) ≡ q → has_sense_stop k.story.history n c ≡ true
-    by_end false z = stops s p n c at over z
-    by_end true z = wrong (sym (brought z) ∙ w.none)
+    by_end false z = stops s p n c at f.over z
+    by_end true z = wrong (sym (f.brought z) ∙ w.none)

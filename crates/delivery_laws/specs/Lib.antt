@@ -1,5 +1,8 @@
 pub mod Delivery
 pub mod Resets
+pub mod Endings
+pub mod Recoveries
+pub mod Openings
 -- Handed on to the crates above that list this one and not these.
 pub use Rattle.progress_laws
 pub use Rattle.right_laws

@@ -14,7 +14,7 @@ ghost use Rattle.bus_due.specs.scenario.specs.declared.value.CmdDef.{CmdDef};
 ghost use Rattle.bus_due.specs.scenario.specs.Value.{ScenarioValue};
 ghost use Rattle.bus_due.specs.scenario.specs.Writing.{Obeys};
 ghost use Rattle.bus_due.specs.disk_array.specs.ArrayHistory.{array_after, reply_in, reply_of};
-ghost use Rattle.bus_due.specs.disk_array.specs.Execution.{Reply};
+ghost use Rattle.bus_due.specs.disk_array.specs.Execution.{Reply, aborted_reply, queue_full};
 ghost use Rattle.bus_due.specs.disk_array.specs.Processes.{command_at};
 ghost use Rattle.bus_due.specs.disk_array.specs.Units.{Array};
 ghost use Rattle.bus_due.specs.cdb_codec.specs.declared.status.TheConstants.{GOOD};
@@ -23,6 +23,9 @@ ghost use Rattle.bus_due.specs.bus_story.specs.Outcomes.{ending_of, is_roomy, is
 ghost use Rattle.bus_due.specs.bus_story.specs.Story.{unanswered};
 ghost use Rattle.bus_due.specs.bus_story.specs.TraceHistory.{retries_of, story, trace_history};
 ghost use Rattle.bus_due.specs.scenario.specs.Lookups.{has_target};
+ghost use Rattle.delivery_laws.specs.Endings.{AreExact, arrive_by_room};
+ghost use Rattle.delivery_laws.specs.Openings.{AreAnsweredOffers, AreOpenings};
+ghost use Rattle.delivery_laws.specs.Recoveries.{AreRecoveries};
 ghost use Rattle.delivery_laws.specs.Delivery.{AreAnswered, AreCaused, AreChecked, AreOwnSenses, AreStoppedSenses, Delivers, HasRun, IsGiven};
 ghost use Rattle.delivery_laws.specs.Delivery.{calling_faults, command_faults, fault_limit, is_calm_event, is_given_up_by};
 ghost use Rattle.delivery_laws.specs.Resets.{are_lines, are_releases, has_line};
@@ -31,8 +34,12 @@ ghost use Rattle.std.specs.List.{list_all};
 
 use bus_due::wants_are_items;
 use initiator::endings_have_causes;
-use progress_laws::the_bus_books::replies_have_causes;
-use progress_laws::the_trace_laws::limits_are_kept;
+use progress_laws::the_bus_books::{
+    give_ups_have_causes, refusals_have_causes, replies_have_causes,
+};
+use progress_laws::the_trace_laws::{
+    connections_are_of_the_scenario, ends_know_what_rows_tell, limits_are_kept,
+};
 use progress_laws::{ended_traces_are_quiet, ended_traces_have_outcomes};
 use right_laws::{fault_rows_are_of_the_scenario, prompt_traces_are_right};
 
@@ -173,13 +180,63 @@ pub fn resets_are_by_lines()
         → list_all (λ (r : ResetDef). has_line rows r) s.resets ≡ true }
 {}
 
-/// In a prompt trace a process is answered once: one that ran has the reply that it got as it ran (`ran`); so a command
-/// that ran with CHECK CONDITION, and that neither was lost nor ended by a reset or an abort, ends with CHECK CONDITION
+/// In a prompt trace a process is answered once: one that ran has the reply that it got as it ran (`ran`), one that
+/// failed that of its failure (`failed`), and one that was refused QUEUE FULL (`refused`); so a command that ran with
+/// CHECK CONDITION, and that neither was lost nor ended by a reset or an abort, ends with CHECK CONDITION
 /// and this sense, or without sense (`checked`).
 pub fn replies_last()
     ensures ran { (s : ScenarioValue) (rows : List Row) (id : ProcId) (r : Reply) → Obeys s → IsPrompt s rows
         → HasRun s (trace_history s rows) id r → reply_of (array_after s (trace_history s rows)) id ≡ Some r }
+    ensures failed { (s : ScenarioValue) (rows : List Row) (id : ProcId) (code : ℕ) → Obeys s → IsPrompt s rows
+        → has_event (trace_history s rows) (events.Fail id code) ≡ true
+        → reply_of (array_after s (trace_history s rows)) id ≡ Some (aborted_reply code) }
+    ensures refused { (s : ScenarioValue) (rows : List Row) (id : ProcId) → Obeys s → IsPrompt s rows
+        → has_event (trace_history s rows) (events.Refuse id) ≡ true
+        → reply_of (array_after s (trace_history s rows)) id ≡ Some queue_full }
     ensures checked { (s : ScenarioValue) (rows : List Row) → Obeys s → IsPrompt s rows → AreAnswered s rows }
 {
     endings_have_causes();
 }
+
+/// In a prompt trace each command that arrives is refused exactly where it finds the queue of its unit full.
+pub fn arrivals_are_by_room()
+    ensures { (s : ScenarioValue) (rows : List Row) → Obeys s → IsPrompt s rows
+        → arrive_by_room s (trace_history s rows) ≡ true }
+{
+    refusals_have_causes();
+}
+
+/// How each command of a prompt trace that has ended has ended, exactly: its outcome is that of the first row that ends
+/// it, with the bytes, or the sense, of its own reply, unless its automatic REQUEST SENSE was stopped; it ends
+/// unanswered exactly where its initiator called for it in vain more often than it tries again, and with QUEUE FULL
+/// exactly where it was refused at a full queue and its first end has that status; the status with which it ended is
+/// that of its reply; and a process has a reply exactly as it ran, failed, or was refused.
+pub fn outcomes_are_exact()
+    ensures { (s : ScenarioValue) (rows : List Row) → Obeys s → IsPrompt s rows → IsEnded s rows → AreExact s rows }
+{
+    wants_are_items();
+    endings_have_causes();
+    outcomes_have_causes();
+    replies_are_given();
+    replies_last();
+}
+
+/// At each row of a prompt trace: a phase with wrong parity is left for the recovery exactly where it is tried again,
+/// by the target's limit, and else to give up; and a process fails, or is lost, only so.
+pub fn recoveries_are_due()
+    ensures { (s : ScenarioValue) (rows : List Row) → Obeys s → IsPrompt s rows → AreRecoveries s rows }
+{
+    ends_know_what_rows_tell();
+    connections_are_of_the_scenario();
+    give_ups_have_causes();
+    refusals_have_causes();
+}
+
+/// What an initiator says first in a connection that it began is the opening that is due to it, whole, as its target
+/// leaves the first phase (`said`): IDENTIFY, the tag, and an offer where its ends may negotiate, or IDENTIFY and the
+/// message of an abort; and while COMMAND, data or STATUS stands no request for synchronous transfer is open
+/// (`answered`).
+pub fn openings_are_said()
+    ensures said { (s : ScenarioValue) (rows : List Row) → Obeys s → IsPrompt s rows → AreOpenings s rows }
+    ensures answered { (s : ScenarioValue) (rows : List Row) → Obeys s → IsPrompt s rows → AreAnsweredOffers rows }
+{}

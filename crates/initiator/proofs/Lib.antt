@@ -4,7 +4,7 @@ mod EndingRows
 mod CausesOfEvents
 mod CausesOfRows
 mod OutcomeReplies
-mod StoryEnds
+pub mod StoryEnds
 mod Books
 mod BookSteps
 mod Foreign

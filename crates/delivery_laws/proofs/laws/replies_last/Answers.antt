@@ -1,5 +1,7 @@
 use Rattle.std.proofs.Common.{◌∙◌, List, Option, sym, ap, subst}
 use Rattle.bus_due.specs.bus_base.specs.declared.Event.{Event}
+use Rattle.bus_due.specs.bus_base.specs.declared.Event.TheVariants as events
+use Rattle.progress_laws.specs.bus_books.specs.FullQueues.{has_event}
 use Rattle.bus_due.specs.disk_array.specs.ArrayHistory.{array_after, reply_of}
 use Rattle.bus_due.specs.disk_array.specs.Units.{Array}
 use Rattle.bus_due.specs.bus_story.specs.Items.{command_id}
@@ -11,7 +13,7 @@ use Rattle.bus_due.proofs.Plains.{prompt_plain}
 use Rattle.delivery_laws.specs.Delivery.{HasRun}
 use Rattle.delivery_laws.proofs.CheckedOutcomes.{ran_outcome}
 use Rattle.delivery_laws.proofs.Delivered.{HaveCauses}
-use Rattle.delivery_laws.proofs.LastingReplies.{ran_lasts}
+use Rattle.delivery_laws.proofs.LastingReplies.{failed_lasts, ran_lasts, refused_lasts}
 use Rattle.delivery_laws.proofs.OwnOutcomes.{own_plays}
 use Rattle.delivery_laws.proofs.laws.replies_last.Goals as goal
 
@@ -20,6 +22,18 @@ returns-clause-ran c = λ s rows id r o prompt w.
     let same = ap (λ (b : Story). b.history) (prompt_plain s rows prompt).story in
     ap (λ (h : List Event). reply_of (array_after s h) id) (sym same) ∙ ap (λ (x : Option Array). reply_of x id) (own_plays s rows o prompt)
     ∙ ran_lasts s rows (array_of s (run_state s rows)) id r o prompt (own_plays s rows o prompt) (subst (λ (h : List Event). HasRun s h id r) (sym same) w)
+
+pub returns-clause-failed : goal.returns-clause-failed
+returns-clause-failed c = λ s rows id code o prompt has.
+    let same = ap (λ (b : Story). b.history) (prompt_plain s rows prompt).story in
+    ap (λ (h : List Event). reply_of (array_after s h) id) (sym same) ∙ ap (λ (x : Option Array). reply_of x id) (own_plays s rows o prompt)
+    ∙ failed_lasts s rows (array_of s (run_state s rows)) id code o prompt (own_plays s rows o prompt) (ap (λ (h : List Event). has_event h (events.Fail id code)) same ∙ has)
+
+pub returns-clause-refused : goal.returns-clause-refused
+returns-clause-refused c = λ s rows id o prompt has.
+    let same = ap (λ (b : Story). b.history) (prompt_plain s rows prompt).story in
+    ap (λ (h : List Event). reply_of (array_after s h) id) (sym same) ∙ ap (λ (x : Option Array). reply_of x id) (own_plays s rows o prompt)
+    ∙ refused_lasts s rows (array_of s (run_state s rows)) id o prompt (own_plays s rows o prompt) (ap (λ (h : List Event). has_event h (events.Refuse id)) same ∙ has)
 
 pub returns-clause-checked : goal.returns-clause-checked
 returns-clause-checked c = λ s rows o prompt n status r w check e.
