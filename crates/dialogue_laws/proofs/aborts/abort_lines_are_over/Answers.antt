@@ -1,0 +1,9 @@
+use Rattle.dialogue_laws.proofs.AbortLines.{aborts_ended, abort_states}
+use Rattle.dialogue_laws.proofs.aborts.abort_lines_are_over.Goals as goal
+
+pub returns-clause-so_far : goal.returns-clause-so_far
+returns-clause-so_far c = λ s rows n a o prompt at. abort_states s rows n a o prompt at
+
+pub returns-clause-ended : goal.returns-clause-ended
+returns-clause-ended c = λ s rows n a o prompt end at.
+    aborts_ended s rows n a o prompt (c.ended_traces_are_quiet.ensures.unwanted s rows o prompt end) at
