@@ -253,3 +253,14 @@ told_next s p row n a o prompt at was h sent = go nx.row_is
 pub told_states : (s : ScenarioValue) (p : List Row) (n : ℕ) (a : AbortDef) → Obeys s → IsPrompt s p → abort_line_at s.aborts n ≡ Some a → has_item (run_state s p).story.sent.sent (abort n) ≡ true → ToldState s p n a
 told_states s [] n a o prompt at sent = wrong' sent
 told_states s (row ∷ p) n a o prompt at sent = told_next s p row n a o prompt at (whole s p o prompt.0) (λ e. told_states s p n a o prompt.0 at e) sent
+
+pub aborts_told : (s : ScenarioValue) (p : List Row) (n : ℕ) (a : AbortDef) → Obeys s → IsPrompt s p → connection p ≡ None → abort_line_at s.aborts n ≡ Some a → has_item (run_state s p).story.sent.sent (abort n) ≡ true
+    → (has_event (run_state s p).story.history (aborted a) ≡ true) ⊎ (is_cut s p n ≡ true)
+aborts_told s p n a o prompt apart at sent = by (told_states s p n a o prompt at sent)
+  where
+    was : Whole s p
+    was = whole s p o prompt
+
+    by : ToldState s p n a → (has_event (run_state s p).story.history (aborted a) ≡ true) ⊎ (is_cut s p n ≡ true)
+    by (inl (served, off)) = none_some (abort n) (sym (was.facts.items.items.apart ((run_state_plain s p was.stood.standing.devices).connection ∙ apart)).1 ∙ served)
+    by (inr t) = t

@@ -1,2 +1,3 @@
 pub mod AbortLines
 pub mod AbortsTold
+mod Cases
