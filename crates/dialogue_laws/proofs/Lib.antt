@@ -1,3 +1,5 @@
 pub mod AbortLines
 pub mod AbortsTold
 mod Cases
+pub mod StruckPlans
+pub mod PhaseEnds
