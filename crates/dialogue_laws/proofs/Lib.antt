@@ -3,3 +3,4 @@ pub mod AbortsTold
 mod Cases
 pub mod StruckPlans
 pub mod PhaseEnds
+pub mod RecoveryRows
