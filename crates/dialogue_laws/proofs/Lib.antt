@@ -1,0 +1,6 @@
+pub mod AbortLines
+pub mod AbortsTold
+mod Cases
+pub mod StruckPlans
+pub mod PhaseEnds
+pub mod RecoveryRows

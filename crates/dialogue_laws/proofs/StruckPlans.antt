@@ -1,0 +1,107 @@
+-- In COMMAND and DATA OUT the target knows that a fault row stands in the phase.
+use Rattle.std.proofs.Common.{◌≡◌, Bool, true, false, not, ◌&&◌, ◌||◌, ◌∙◌, List, [], ◌∷◌, Option, Some, None, refl, sym, ap}
+use Rattle.std.specs.Prelude.{ℕ, if◌then◌else◌, is_some}
+use Rattle.bus_due.specs.bus_base.proofs.Tests.{wrong, wrong'}
+use Rattle.bus_due.specs.bus_trace.specs.LineSet.{LineSet}
+use Rattle.bus_due.specs.bus_trace.specs.Phases.{changes_phase, is_message_out}
+use Rattle.bus_due.specs.bus_trace.specs.Terms.{connection_after, is_fault, receiver_in, receiver_of}
+use Rattle.bus_due.specs.bus_trace.specs.declared.Row.{Row}
+use Rattle.bus_due.specs.bus_trace.specs.declared.changes.Change.{Change}
+use Rattle.bus_due.specs.bus_trace.specs.declared.connection.Connection.{Connection}
+use Rattle.bus_due.specs.scenario.specs.Value.{ScenarioValue}
+use Rattle.bus_due.specs.bus_story.specs.BusState.{RowReading, row_reading}
+use Rattle.bus_due.specs.bus_dialogue.specs.declared.exchange.Hearing.{Hearing}
+use Rattle.bus_due.specs.bus_dialogue.specs.declared.exchange.Leaving.{Leaving}
+use Rattle.bus_due.specs.bus_dialogue.specs.declared.exchange.Plan.{Plan}
+use Rattle.bus_due.specs.bus_dialogue.specs.Exchange.{struck_plan}
+use Rattle.bus_due.specs.bus_dialogue.specs.Planning.{plan_after, plan_in_phase, plan_with_byte}
+use Rattle.bus_due.specs.RunState.{RunState, bus_of}
+use Rattle.bus_due.specs.RunSteps.{exchange_after, leaving_of, run_state}
+use Rattle.bus_due.specs.Sights.{hearing_of}
+use Rattle.progress_laws.specs.bus_books.specs.Rows.{RowKind, crosses, still, strikes, turns}
+use Rattle.progress_laws.specs.bus_books.specs.Traces.{AreRowsOf, RowOf, apart as row_apart, begins, goes_on, ends, under_reset}
+use Rattle.progress_laws.specs.bus_books.specs.WrongParity.{is_struck_phase}
+use Rattle.progress_laws.specs.bus_books.proofs.InConnection.{SamePhase, same_phase_is}
+
+-- Bytes to the target that are none of a message.
+abbrev pub TakesBytes : LineSet → Type 0
+TakesBytes b = (b.io ≡ false) × (b.msg ≡ false)
+
+silent_out : (b : LineSet) → b.msg ≡ false → is_message_out b ≡ false
+silent_out b e = ap (λ (q : Bool). q && b.cd && not b.io) e
+
+plan_knows : (w : Hearing) (l : Leaving) (p : Plan) (was : Bool) → TakesBytes w.change.before → changes_phase w.change ≡ false → (w.fault ≡ true → w.crosses ≡ false) → (was ≡ true → p.struck ≡ true) → (w.fault || was) ≡ true → (plan_after w l p).struck ≡ true
+plan_knows w l p was t ep apart h e = ap (λ (q : Bool). (if q then plan_in_phase w l p else if w.crosses then plan_with_byte w p else if w.fault && not w.change.before.io then struck_plan p else p).struck) ep ∙ go w.crosses refl w.fault refl
+  where
+    byte : p.struck ≡ true → (plan_with_byte w p).struck ≡ true
+    byte s = ap (λ (q : Bool). (if q then Rattle.bus_due.specs.bus_dialogue.specs.Exchange.plan_after_message p w.is_last w.out else p).struck) (silent_out w.change.before t.1) ∙ s
+
+    go : (c : Bool) → w.crosses ≡ c → (f : Bool) → w.fault ≡ f → (if c then plan_with_byte w p else if f && not w.change.before.io then struck_plan p else p).struck ≡ true
+    go true ec true ef = wrong (sym ec ∙ apart ef)
+    go true ec false ef = byte (h (sym (ap (λ (q : Bool). q || was) ef) ∙ e))
+    go false ec true ef = ap (λ (q : Bool). (if not q then struck_plan p else p).struck) t.0
+    go false ec false ef = h (sym (ap (λ (q : Bool). q || was) ef) ∙ e)
+
+four : (a b c d : Bool) → (a && b && c && d) ≡ true → (a ≡ true) × (b ≡ true) × (c ≡ true) × (d ≡ true)
+four true true true d e = (refl, refl, refl, e)
+four true true false d e = wrong' e
+four true false c d e = wrong' e
+four false b c d e = wrong' e
+
+unchanged : (q : Bool) → not q ≡ true → q ≡ false
+unchanged true e = wrong' e
+unchanged false e = refl
+
+pub struck_known : (s : ScenarioValue) (p : List Row) → AreRowsOf s p → is_struck_phase s p ≡ true → TakesBytes (bus_of (run_state s p)) → (run_state s p).exchange.plan.struck ≡ true
+struck_known s [] rows e t = wrong' e
+struck_known s (row ∷ p) rows e t = by (λ z x. struck_known s p rows.0 z x) k.story.bus_state.connection refl d.next refl
+  where
+    k : RunState
+    k = run_state s p
+
+    d : RowReading
+    d = row_reading k.story.bus_state row
+
+    w : Hearing
+    w = hearing_of k row d
+
+    l : Leaving
+    l = leaving_of s k k.story.bus_state.connection
+
+    parts : (is_some k.story.bus_state.connection ≡ true) × (is_some d.next ≡ true) × (not (changes_phase d.change) ≡ true) × ((is_fault row.kind || is_struck_phase s p) ≡ true)
+    parts = four (is_some k.story.bus_state.connection) (is_some d.next) (not (changes_phase d.change)) (is_fault row.kind || is_struck_phase s p) e
+
+    stays : changes_phase d.change ≡ false
+    stays = unchanged (changes_phase d.change) parts.2
+
+    same : SamePhase d.change.before d.change.after
+    same = same_phase_is d.change stays
+
+    before : TakesBytes d.change.before
+    before = (sym same.io ∙ t.0, sym same.msg ∙ t.1)
+
+    no_byte : (o : Option ℕ) → o ≡ None → is_some o ≡ false
+    no_byte o f = ap (λ (x : Option ℕ). is_some x) f
+
+    apart : is_fault row.kind ≡ true → d.crosses ≡ false
+    apart f = of (rows.1)
+      where
+        kinds : (n : Connection) (c : Change) → k.story.bus_state.connection ≡ Some n → d.change ≡ c → RowKind row n c → d.crosses ≡ false
+        kinds n c con ch (still g ep er) = wrong (sym f ∙ g)
+        kinds n c con ch (strikes g ep er) = (λ i. is_some (receiver_of (con i) (ch i))) ∙ no_byte (receiver_in n c) er
+        kinds n c con ch (crosses dev g ep er) = wrong (sym f ∙ g)
+        kinds n c con ch (turns g ep er) = wrong (sym f ∙ g)
+
+        of : RowOf s k row → d.crosses ≡ false
+        of (row_apart con gone) = wrong' (sym (ap (λ (x : Option Connection). is_some x) con) ∙ parts.0)
+        of (begins n b) = wrong' (sym (ap (λ (x : Option Connection). is_some x) b.first.connection_is) ∙ parts.0)
+        of (goes_on n c g) = kinds n c g.row_is.connection_is g.row_is.change_is g.row_is.kind
+        of (ends n g) = wrong' (sym (ap (λ (x : Option Connection). is_some x) g.next_is) ∙ parts.1)
+        of (under_reset on quiet) = quiet
+
+    by : (is_struck_phase s p ≡ true → TakesBytes (bus_of k) → k.exchange.plan.struck ≡ true) → (a : Option Connection) → k.story.bus_state.connection ≡ a → (b : Option Connection) → d.next ≡ b → (run_state s (row ∷ p)).exchange.plan.struck ≡ true
+    by was None ea b eb = wrong' (sym (ap (λ (x : Option Connection). is_some x) ea) ∙ parts.0)
+    by was (Some m) ea None eb = wrong' (sym (ap (λ (x : Option Connection). is_some x) eb) ∙ parts.1)
+    by was (Some m) ea (Some n) eb =
+        (λ i. (exchange_after s k row d (ea i) (eb i) l).plan.struck)
+        ∙ plan_knows w l k.exchange.plan (is_struck_phase s p) before stays apart (λ z. was z before) parts.3

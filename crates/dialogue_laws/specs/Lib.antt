@@ -1,0 +1,2 @@
+pub mod AbortLines
+pub mod Recoveries

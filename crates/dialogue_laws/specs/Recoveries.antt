@@ -1,0 +1,72 @@
+-- How the target goes on as it leaves a phase in which parity was wrong: it recovers, or gives up the process (6.6.10, 6.6.13, 6.6.19).
+use Rattle.std.specs.Prelude.{ℕ, ◌+◌, ◌≡◌, Bool, true, false, not, ◌&&◌, List, [], ◌∷◌, Option, Some, None, nat_lt}
+use Rattle.bus_due.specs.bus_base.specs.declared.Event.TheVariants as events
+use Rattle.bus_due.specs.bus_trace.specs.LineSet.{LineSet}
+use Rattle.bus_due.specs.bus_trace.specs.Terms.{connection}
+use Rattle.bus_due.specs.bus_trace.specs.Trace.{bus}
+use Rattle.bus_due.specs.bus_trace.specs.declared.Row.{Row}
+use Rattle.bus_due.specs.bus_trace.specs.declared.connection.Connection.{Connection}
+use Rattle.bus_due.specs.scenario.specs.Value.{ScenarioValue}
+use Rattle.bus_due.specs.disk_array.specs.Processes.{Process}
+use Rattle.bus_due.specs.disk_array.specs.Seats.{in_hold}
+use Rattle.bus_due.specs.disk_array.specs.Units.{nexus_of}
+use Rattle.bus_due.specs.bus_dialogue.specs.declared.exchange.Messages.{Messages}
+use Rattle.bus_due.specs.bus_dialogue.specs.declared.exchange.Next.{Next}
+use Rattle.bus_due.specs.bus_dialogue.specs.declared.exchange.Phase.{Phase}
+use Rattle.bus_due.specs.bus_dialogue.specs.declared.exchange.Phase.TheVariants as phases
+use Rattle.bus_due.specs.bus_dialogue.specs.NextPhase.{phase_of, recovery_limit}
+use Rattle.bus_due.specs.bus_dialogue.specs.PhaseBytes.{one_if}
+use Rattle.bus_due.specs.Defs.{target_def_of}
+use Rattle.bus_due.specs.LastingState.{progress_in}
+use Rattle.bus_due.specs.RunState.{RunState, array_of}
+use Rattle.bus_due.specs.RunSteps.{events_of_row, run_state}
+
+-- The phase of the connection after these rows; without a connection BUS FREE.
+abbrev pub phase_if : Option Connection → LineSet → Option Phase
+phase_if None lines = None
+phase_if (Some n) lines = Some (phase_of lines)
+
+abbrev pub present_phase : List Row → Option Phase
+present_phase rows = phase_if (connection rows) (bus rows)
+
+-- ---- how many recoveries a process has
+
+-- For an initiator that stands in the hold of the unit none counts.
+abbrev pub is_uncounted : ScenarioValue → RunState → Process → Bool
+is_uncounted s k p = in_hold (array_of s k).holds (nexus_of p)
+
+abbrev pub recoveries_of : RunState → Process → ℕ
+recoveries_of k p = (progress_in k.progress p.id).recoveries
+
+-- One more would count, and as many were counted as the limit of the target.
+abbrev pub is_spent : ScenarioValue → RunState → Connection → Process → Bool
+is_spent s k n p = not (is_uncounted s k p) && not (nat_lt (recoveries_of k p) (recovery_limit (target_def_of s n.target)))
+
+-- ---- with the row after these
+
+-- MESSAGE IN follows, in which the target has these messages to say, and after which it means to go on so; nothing is told. One
+-- recovery more is counted, if any.
+pub record Repeats (s : ScenarioValue) (rows : List Row) (row : Row) (p : Process) (m : Messages) (next : Next) (counts : Bool) : Type 0 where
+  pub phase : present_phase (row ∷ rows) ≡ Some phases.MessageIn
+  pub messages : (run_state s (row ∷ rows)).exchange.plan.messages ≡ m
+  pub follows : (run_state s (row ∷ rows)).exchange.plan.next ≡ next
+  pub counted : recoveries_of (run_state s (row ∷ rows)) p ≡ recoveries_of (run_state s rows) p + one_if counts
+  pub silent : events_of_row s rows row ≡ []
+
+-- A recovery.
+abbrev pub Recovers : ScenarioValue → List Row → Row → Process → Messages → Next → Type 0
+Recovers s rows row p m next = Repeats s rows row p m next (not (is_uncounted s (run_state s rows) p))
+
+-- STATUS follows, and the process fails with this code of ABORTED COMMAND.
+pub record FailsWith (s : ScenarioValue) (rows : List Row) (row : Row) (p : Process) (code : ℕ) : Type 0 where
+  pub phase : present_phase (row ∷ rows) ≡ Some phases.Status
+  pub shown : events_of_row s rows row ≡ events.Fail p.id code ∷ []
+
+-- BUS FREE follows, and the process is lost.
+pub record IsLost (s : ScenarioValue) (rows : List Row) (row : Row) (p : Process) : Type 0 where
+  pub phase : present_phase (row ∷ rows) ≡ None
+  pub shown : events_of_row s rows row ≡ events.Lost p.id ∷ []
+
+-- The target recovers, or gives up exactly where the limit is spent.
+abbrev pub RecoversUnless : Bool → Type 0 → Type 0 → Type 0
+RecoversUnless spent recovers gives_up = (spent ≡ false → recovers) × (spent ≡ true → gives_up)
