@@ -68,6 +68,7 @@ OUTCOMES = (
     ]
     + [str(ROOT / "tools" / "cases" / (name + ".scn")) for name in ("failures", "two_aborts")]
     + [str(ROOT / "tools" / "limit_cases" / (name + ".scn")) for name in ("absent_target", "ids_twice")]
+    + sorted(str(path) for path in (ROOT / "tools" / "outcome_cases").glob("*.scn"))
 )
 # Of each generated file its maker's words, and the file that the maker reads from standard input, where there is one.
 MADE = {

@@ -30,6 +30,7 @@ pub mod RecoveryRows
 pub mod StruckPhases
 pub mod GiveUpRows
 pub mod OpeningWords
+pub mod OfferAnswers
 mod Cases
 mod Limits
 mod LimitCases

@@ -16,7 +16,11 @@ use Rattle.bus_due.specs.msg_grammar.specs.Messages.{form_out, form_in}
 use Rattle.bus_due.specs.scenario.specs.Lookups.{has_target}
 use Rattle.bus_due.specs.scenario.specs.Needs.{need_of, sent_of}
 use Rattle.bus_due.specs.scenario.specs.Value.{ScenarioValue}
+use Rattle.bus_due.specs.bus_trace.specs.declared.agreements.Agreement.{Agreement}
 use Rattle.bus_due.specs.bus_dialogue.specs.declared.exchange.Cause.{Cause}
+use Rattle.bus_due.specs.bus_dialogue.specs.declared.exchange.Messages.{Messages}
+use Rattle.bus_due.specs.bus_dialogue.specs.Exchange.{bytes_of_messages, one_message}
+use Rattle.bus_due.specs.bus_dialogue.specs.Words.{reply_to}
 use Rattle.bus_due.specs.bus_dialogue.specs.declared.exchange.Cause.TheVariants as causes
 use Rattle.bus_due.specs.bus_dialogue.specs.declared.exchange.Phase.{Phase}
 use Rattle.bus_due.specs.bus_dialogue.specs.declared.exchange.Phase.TheVariants as phases
@@ -38,7 +42,7 @@ use Rattle.bus_due.proofs.Cases.{command_given_up_due, command_given_up_due_rows
 use Rattle.progress_laws.specs.bus_books.specs.FullQueues.{has_event}
 use Rattle.progress_laws.specs.bus_books.specs.WrongParity.{is_struck_phase, is_wrong_phase}
 use Rattle.delivery_laws.specs.Endings.{arrive_by_room, was_sense_stopped}
-use Rattle.delivery_laws.specs.Openings.{opening_since}
+use Rattle.delivery_laws.specs.Openings.{opening_since, plan_at}
 use Rattle.delivery_laws.specs.Recoveries.{is_tried_again, phase_after, phase_after_wrong}
 use Rattle.delivery_laws.proofs.LimitCases.{absent_target_limit, data_out_twice_limit, data_out_twice_limit_rows, disconnect_twice_limit, disconnect_twice_limit_rows}
 use Rattle.delivery_laws.proofs.Limits.{has_no_abort, has_no_reset}
@@ -222,6 +226,23 @@ unfolding need_of sent_of ones union_below line_of form_out form_in
 opening_with_offer_again = refl
 
 -- ---- requests for synchronous transfer
+
+-- The row leaves an opening with an offer, for MESSAGE IN with the answer, or the rejection, that is due.
+abbrev same_messages : Messages → Messages → Bool
+same_messages a b = same_bytes (bytes_of_messages a) (bytes_of_messages b)
+
+abbrev is_replied : ScenarioValue → List Row → Row → Option Connection → Option Agreement → Bool
+is_replied s rows row (Some n) (Some offer) =
+    same_next (phase_after rows row) (Some phases.MessageIn) && same_messages (plan_at s (row ∷ rows)).messages (one_message (reply_to (target_def_of s n.target) offer))
+is_replied s rows row n offer = false
+
+abbrev replied : ScenarioValue → List Row → ℕ
+replied s [] = 0
+replied s (row ∷ rows) = replied s rows + one_if (is_opening_left s rows row && is_replied s rows row (connection rows) (plan_at s rows).said.offer)
+
+offers_replied : (replied offset_255_due (onto offset_255_due_rows []) == 2) ≡ true
+unfolding need_of sent_of ones union_below line_of form_out form_in
+offers_replied = refl
 
 abbrev is_request_open : List Row → Bool
 is_request_open rows = is_some (connection rows) && is_some (dialogue rows).heard.now.offer

@@ -7,13 +7,20 @@ use Rattle.bus_due.specs.bus_trace.specs.Phases.{changes_phase, is_message_out}
 use Rattle.bus_due.specs.bus_trace.specs.Terms.{connection}
 use Rattle.bus_due.specs.bus_trace.specs.Trace.{bus}
 use Rattle.bus_due.specs.scenario.specs.Value.{ScenarioValue}
+use Rattle.bus_due.specs.bus_trace.specs.declared.agreements.Agreement.{Agreement}
 use Rattle.bus_due.specs.bus_dialogue.specs.declared.exchange.Cause.TheVariants as causes
+use Rattle.bus_due.specs.bus_dialogue.specs.declared.exchange.Phase.TheVariants as phases
+use Rattle.bus_due.specs.bus_dialogue.specs.declared.exchange.Plan.{Plan}
+use Rattle.bus_due.specs.bus_dialogue.specs.Exchange.{one_message}
+use Rattle.bus_due.specs.bus_dialogue.specs.NextPhase.{phase_of}
+use Rattle.bus_due.specs.bus_dialogue.specs.Words.{reply_to}
+use Rattle.bus_due.specs.Defs.{target_def_of}
 use Rattle.bus_due.specs.bus_dialogue.specs.Hearing.{begun}
 use Rattle.bus_due.specs.bus_phases.specs.Dialogue.{dialogue}
 use Rattle.bus_due.specs.bus_story.specs.TraceHistory.{aim_of, story}
 use Rattle.bus_due.specs.RunSteps.{opening_of, run_state}
 use Rattle.progress_laws.specs.bus_books.specs.Listening.{nothing_understood, understanding, understood}
-use Rattle.delivery_laws.specs.Recoveries.{IsLeaving}
+use Rattle.delivery_laws.specs.Recoveries.{IsLeaving, phase_after}
 
 -- Of the connection that stands after these rows, by what stood as it began: IDENTIFY, the tag of the command, and an offer where this is the first
 -- connection in which its ends may negotiate; or IDENTIFY and the message of an abort (`opening_of`).
@@ -37,3 +44,14 @@ AreOpenings s rows =
 abbrev pub AreAnsweredOffers : List Row → Type 0
 AreAnsweredOffers rows =
     (later before : List Row) (n : Connection) → rows ≡ later ++ before → connection before ≡ Some n → (bus before).rst ≡ false → begun before ≡ true → (bus before).msg ≡ false → (dialogue before).heard.now.offer ≡ None
+
+-- What the target of the connection has heard in it, and plans to say, after these rows.
+abbrev pub plan_at : ScenarioValue → List Row → Plan
+plan_at s rows = (run_state s rows).exchange.plan
+
+-- Of a trace: as an opening with an offer is left MESSAGE IN follows, for which the target plans just its answer, or MESSAGE REJECT where the offset has no limit.
+abbrev pub AreOfferReplies : ScenarioValue → List Row → Type 0
+AreOfferReplies s rows =
+    (later before : List Row) (row : Row) (n : Connection) (offer : Agreement) → rows ≡ later ++ row ∷ before → IsLeaving before row n → phase_of (bus before) ≡ phases.MessageOut → (plan_at s before).cause ≡ causes.Selected
+    → (plan_at s before).said.aborts ≡ None → (plan_at s before).said.offer ≡ Some offer
+    → (phase_after before row ≡ Some phases.MessageIn) × ((plan_at s (row ∷ before)).messages ≡ one_message (reply_to (target_def_of s n.target) offer))

@@ -24,7 +24,7 @@ ghost use Rattle.bus_due.specs.bus_story.specs.Story.{unanswered};
 ghost use Rattle.bus_due.specs.bus_story.specs.TraceHistory.{retries_of, story, trace_history};
 ghost use Rattle.bus_due.specs.scenario.specs.Lookups.{has_target};
 ghost use Rattle.delivery_laws.specs.Endings.{AreExact, arrive_by_room};
-ghost use Rattle.delivery_laws.specs.Openings.{AreAnsweredOffers, AreOpenings};
+ghost use Rattle.delivery_laws.specs.Openings.{AreAnsweredOffers, AreOfferReplies, AreOpenings};
 ghost use Rattle.delivery_laws.specs.Recoveries.{AreRecoveries};
 ghost use Rattle.delivery_laws.specs.Delivery.{AreAnswered, AreCaused, AreChecked, AreOwnSenses, AreStoppedSenses, Delivers, HasRun, IsGiven};
 ghost use Rattle.delivery_laws.specs.Delivery.{calling_faults, command_faults, fault_limit, is_calm_event, is_given_up_by};
@@ -234,9 +234,10 @@ pub fn recoveries_are_due()
 
 /// What an initiator says first in a connection that it began is the opening that is due to it, whole, as its target
 /// leaves the first phase (`said`): IDENTIFY, the tag, and an offer where its ends may negotiate, or IDENTIFY and the
-/// message of an abort; and while COMMAND, data or STATUS stands no request for synchronous transfer is open
-/// (`answered`).
+/// message of an abort. After one with an offer the target goes to MESSAGE IN, to say its answer (`replied`); and while
+/// COMMAND, data or STATUS stands no request for synchronous transfer is open (`answered`).
 pub fn openings_are_said()
     ensures said { (s : ScenarioValue) (rows : List Row) → Obeys s → IsPrompt s rows → AreOpenings s rows }
+    ensures replied { (s : ScenarioValue) (rows : List Row) → Obeys s → IsPrompt s rows → AreOfferReplies s rows }
     ensures answered { (s : ScenarioValue) (rows : List Row) → Obeys s → IsPrompt s rows → AreAnsweredOffers rows }
 {}

@@ -1,5 +1,4 @@
-use Rattle.std.proofs.Common.{◌≡◌, ◌∙◌, List, Option, Some, sym, ap}
-use Rattle.bus_due.specs.bus_base.specs.declared.Event.{Event}
+use Rattle.std.proofs.Common.{◌≡◌, ◌∙◌, Option, Some, sym, ap}
 use Rattle.bus_due.specs.disk_array.specs.ArrayHistory.{array_after, reply_of}
 use Rattle.bus_due.specs.bus_story.specs.Story.{Story}
 use Rattle.bus_due.specs.bus_story.specs.TraceHistory.{trace_history}
