@@ -4,3 +4,4 @@ mod Cases
 pub mod StruckPlans
 pub mod PhaseEnds
 pub mod RecoveryRows
+pub mod RunRows

@@ -94,6 +94,63 @@ same_one x [] h e = wrong' e
 same_one x (f ∷ []) h e = ap (λ (y : Event). y ∷ []) (h f (and_parts (same_event x f) true e).0)
 same_one x (f ∷ (g ∷ shown)) h e = wrong' (and_parts (same_event x f) false e).1
 
+abbrev names_process : Event → Bool
+names_process (events.Accept id) = true
+names_process (events.Refuse id) = true
+names_process (events.Run id) = true
+names_process (events.Fail id code) = true
+names_process (events.Lost id) = true
+names_process (events.End id status) = false
+names_process (events.Aborted h t u x) = false
+names_process (events.Reset b) = false
+
+-- Of any list of events that name processes alone.
+same_process_event : (x f : Event) → names_process x ≡ true → same_event x f ≡ true → f ≡ x
+same_process_event (events.Fail id code) f n e = same_fail id code f e
+same_process_event (events.Lost id) f n e = same_lost id f e
+same_process_event (events.Accept id) (events.Accept b) n e = λ i. events.Accept (sym (same_id_is id b e) i)
+same_process_event (events.Refuse id) (events.Refuse b) n e = λ i. events.Refuse (sym (same_id_is id b e) i)
+same_process_event (events.Run id) (events.Run b) n e = λ i. events.Run (sym (same_id_is id b e) i)
+same_process_event (events.Accept id) (events.Refuse b) n e = wrong' e
+same_process_event (events.Accept id) (events.Run b) n e = wrong' e
+same_process_event (events.Accept id) (events.Fail b y) n e = wrong' e
+same_process_event (events.Accept id) (events.End b y) n e = wrong' e
+same_process_event (events.Accept id) (events.Lost b) n e = wrong' e
+same_process_event (events.Accept id) (events.Aborted h t u x) n e = wrong' e
+same_process_event (events.Accept id) (events.Reset b) n e = wrong' e
+same_process_event (events.Refuse id) (events.Accept b) n e = wrong' e
+same_process_event (events.Refuse id) (events.Run b) n e = wrong' e
+same_process_event (events.Refuse id) (events.Fail b y) n e = wrong' e
+same_process_event (events.Refuse id) (events.End b y) n e = wrong' e
+same_process_event (events.Refuse id) (events.Lost b) n e = wrong' e
+same_process_event (events.Refuse id) (events.Aborted h t u x) n e = wrong' e
+same_process_event (events.Refuse id) (events.Reset b) n e = wrong' e
+same_process_event (events.Run id) (events.Accept b) n e = wrong' e
+same_process_event (events.Run id) (events.Refuse b) n e = wrong' e
+same_process_event (events.Run id) (events.Fail b y) n e = wrong' e
+same_process_event (events.Run id) (events.End b y) n e = wrong' e
+same_process_event (events.Run id) (events.Lost b) n e = wrong' e
+same_process_event (events.Run id) (events.Aborted h t u x) n e = wrong' e
+same_process_event (events.Run id) (events.Reset b) n e = wrong' e
+same_process_event (events.End id status) f n e = wrong' n
+same_process_event (events.Aborted h t u x) f n e = wrong' n
+same_process_event (events.Reset b) f n e = wrong' n
+
+abbrev pub all_name : List Event → Bool
+all_name [] = true
+all_name (x ∷ shown) = names_process x && all_name shown
+
+same_all : (x shown : List Event) → all_name x ≡ true → same_events x shown ≡ true → shown ≡ x
+same_all [] shown n e = same_none shown e
+same_all (x ∷ xs) [] n e = wrong' e
+same_all (x ∷ xs) (f ∷ shown) n e =
+    let name = and_parts (names_process x) (all_name xs) n in
+    let same = and_parts (same_event x f) (same_events xs shown) e in
+    λ i. same_process_event x f name.0 same.0 i ∷ same_all xs shown name.1 same.1 i
+
+pub same_events_are : (x shown : List Event) → all_name x ≡ true → same_events x shown ≡ true → shown ≡ x
+same_events_are x shown n e = same_all x shown n e
+
 -- ---- what the target decides
 
 recovers_so : (def : Option TargetDef) (t : Task) (m : Messages) (next : Next) (over : Leaving) → (not t.in_hold && not (nat_lt t.recoveries (recovery_limit def))) ≡ false
@@ -134,7 +191,7 @@ id_served : (s : ScenarioValue) (p : List Row) (row : Row) (n : Connection) (q :
 id_served s p row n q h = served_item s (run_state s p).served q h.served
 
 -- The target shows what it does as the row turns to another phase, or ends the connection.
-shows_turn : (s : ScenarioValue) (p : List Row) (row : Row) (n : Connection) (q : Process) → Left s p row n q → (next : Phase) → present_phase (row ∷ p) ≡ Some next → (shown : List Event)
+pub shows_turn : (s : ScenarioValue) (p : List Row) (row : Row) (n : Connection) (q : Process) → Left s p row n q → (next : Phase) → present_phase (row ∷ p) ≡ Some next → (shown : List Event)
     → turn_events (serving_of s (run_state s p) n.target) (bus_of (run_state s p)).atn (phase_of (bus_of (run_state s p))) q.id ≡ shown → same_events shown (events_of_row s p row) ≡ true
 shows_turn s p row n q h next e shown is =
     let k : RunState = run_state s p in
@@ -152,7 +209,7 @@ shows_end s p row n q h e shown is =
     (sym ((λ i. if not (h.leaving_row.begun i) then [] else if is_some (e i) then turn_events_if v (bus_of k).atn (phase_of (bus_of k)) (id_of (id_served s p row n q h i)) else connection_end_events n v.plan (phase_of (bus_of k)) (id_of (id_served s p row n q h i))) ∙ is))
     ∙ h.end.told
 
-turn_is : (v : Serving) (atn : Bool) (phase : Phase) (id : ProcId) (l : Leaving) (replied : Bool) (arrived : List Event) → phase_leaving v atn phase ≡ l → has_replied v.task ≡ replied → arrival_events id v.plan v.arrival phase ≡ arrived
+pub turn_is : (v : Serving) (atn : Bool) (phase : Phase) (id : ProcId) (l : Leaving) (replied : Bool) (arrived : List Event) → phase_leaving v atn phase ≡ l → has_replied v.task ≡ replied → arrival_events id v.plan v.arrival phase ≡ arrived
     → turn_events v atn phase id ≡ newest_with (if is_status_next l.to && not replied then reply_events id v.plan v.arrival phase else []) arrived
 turn_is v atn phase id l replied arrived e f g = λ i. newest_with (if is_status_next (e i).to && not (f i) then reply_events id v.plan v.arrival phase else []) (g i)
 
@@ -203,14 +260,14 @@ lost_row s p row n q h e lost =
 
 -- ---- what the target knows
 
-task_is : (s : ScenarioValue) (p : List Row) (row : Row) (n : Connection) (q : Process) → Left s p row n q → task_of s (run_state s p) ≡ Some (task_here s (run_state s p) q)
+pub task_is : (s : ScenarioValue) (p : List Row) (row : Row) (n : Connection) (q : Process) → Left s p row n q → task_of s (run_state s p) ≡ Some (task_here s (run_state s p) q)
 task_is s p row n q h = ap (task_if s (run_state s p)) h.served
 
 -- The phase of the lines.
-phase_is : (s : ScenarioValue) (p : List Row) (row : Row) (n : Connection) (q : Process) → Left s p row n q → (phase : Phase) → phase_of (bus p) ≡ phase → phase_of (bus_of (run_state s p)) ≡ phase
+pub phase_is : (s : ScenarioValue) (p : List Row) (row : Row) (n : Connection) (q : Process) → Left s p row n q → (phase : Phase) → phase_of (bus p) ≡ phase → phase_of (bus_of (run_state s p)) ≡ phase
 phase_is s p row n q h phase e = ap phase_of (run_state_plain s p h.end.was.stood.standing.devices).bus ∙ e
 
-placed_is : (s : ScenarioValue) (p : List Row) (row : Row) (n : Connection) (q : Process) → (h : Left s p row n q) → (phase : Phase) → phase_of (bus p) ≡ phase
+pub placed_is : (s : ScenarioValue) (p : List Row) (row : Row) (n : Connection) (q : Process) → (h : Left s p row n q) → (phase : Phase) → phase_of (bus p) ≡ phase
     → PlacedIn h.end.was.places.array q (run_state s p).exchange.plan (run_state s p).handshakes (bus_of (run_state s p)).atn phase
 placed_is s p row n q h phase e =
     let k : RunState = run_state s p in
@@ -219,7 +276,7 @@ placed_is s p row n q h phase e =
     (subst (λ (b : Bool). PlacedIf b h.end.was.places.array q k.exchange.plan k.handshakes (bus_of k).atn (phase_of (bus_of k))) h.leaving_row.begun
     (h.end.was.places.placed n (pl.connection ∙ h.leaving_row.stands) (ap (λ (x : LineSet). x.rst) pl.bus ∙ h.leaving_row.calm) q h.served))
 
-open_if : (s : ScenarioValue) (p : List Row) (row : Row) (n : Connection) (q : Process) → (h : Left s p row n q) → reply_in h.end.was.places.array.replies q.id ≡ None → has_replied (serving_of s (run_state s p) n.target).task ≡ false
+pub open_if : (s : ScenarioValue) (p : List Row) (row : Row) (n : Connection) (q : Process) → (h : Left s p row n q) → reply_in h.end.was.places.array.replies q.id ≡ None → has_replied (serving_of s (run_state s p) n.target).task ≡ false
 open_if s p row n q h e =
     ap has_replied (task_is s p row n q h)
     ∙ (λ i. is_some (reply_in (or_start s (h.end.was.places.array_is i)).replies q.id))
