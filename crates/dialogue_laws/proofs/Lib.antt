@@ -5,3 +5,4 @@ pub mod StruckPlans
 pub mod PhaseEnds
 pub mod RecoveryRows
 pub mod RunRows
+pub mod RunBytes

@@ -52,10 +52,10 @@ runs_counted all id = ap (λ (q : Bool). (if q then more else progress_in all id
     more : ProcessProgress
     more = record { id = id; runs = (progress_in all id).runs + 1; recoveries = (progress_in all id).recoveries + 0 }
 
-abbrev policy_here : ScenarioValue → Connection → Policy
+abbrev pub policy_here : ScenarioValue → Connection → Policy
 policy_here s n = policy_of (target_def_of s n.target)
 
-unstruck : (s : ScenarioValue) (p : List Row) → is_struck_phase s p ≡ false → (run_state s p).exchange.plan.struck ≡ false
+pub unstruck : (s : ScenarioValue) (p : List Row) → is_struck_phase s p ≡ false → (run_state s p).exchange.plan.struck ≡ false
 unstruck s p e = go (run_state s p).exchange.plan.struck refl
   where
     go : (q : Bool) → (run_state s p).exchange.plan.struck ≡ q → (run_state s p).exchange.plan.struck ≡ false
