@@ -52,12 +52,13 @@ use Rattle.progress_laws.specs.bus_books.specs.WrongParity.{is_struck_phase}
 use Rattle.progress_laws.specs.bus_books.proofs.CarriedRows.{process_id}
 use Rattle.progress_laws.specs.trace_laws.specs.Places.{PlacedAsked, PlacedIf, PlacedIn}
 use Rattle.progress_laws.specs.trace_laws.specs.Tells.{IsLeaving}
+use Rattle.progress_laws.specs.trace_laws.proofs.CommandNext.{out_unstruck}
 use Rattle.progress_laws.specs.trace_laws.proofs.Impossible.{none_some}
 use Rattle.progress_laws.specs.trace_laws.proofs.ItemRows.{served_item}
 use Rattle.progress_laws.specs.trace_laws.proofs.RunFacts.{task_here}
 use Rattle.progress_laws.specs.trace_laws.proofs.TellEnds.{none_heard}
 use Rattle.progress_laws.specs.trace_laws.proofs.TellRows.{IsHeard, is_heard}
-use Rattle.dialogue_laws.specs.Recoveries.{FailsWith, IsLost, Recovers, RecoversUnless, Repeats, is_spent, is_uncounted, present_phase, recoveries_of}
+use Rattle.dialogue_laws.specs.Recoveries.{FailsWith, HasTakenAll, IsAsked, IsLost, LeavesPhase, Recovers, RecoversUnless, Repeats, is_spent, is_uncounted, present_phase, recoveries_of}
 use Rattle.dialogue_laws.proofs.PhaseEnds.{PhaseEnd, phase_end}
 use Rattle.dialogue_laws.proofs.StruckPlans.{struck_known}
 
@@ -184,8 +185,8 @@ pub record Left (s : ScenarioValue) (p : List Row) (row : Row) (n : Connection) 
   pub leaving_row : IsLeaving s p row n
   pub served : process_served s (run_state s p) ≡ Some q
 
-pub left_of : (s : ScenarioValue) (p : List Row) (row : Row) (n : Connection) (q : Process) → Obeys s → IsPrompt s (row ∷ p) → IsLeaving s p row n → process_served s (run_state s p) ≡ Some q → Left s p row n q
-left_of s p row n q o prompt w e = record { end = phase_end s p row n o prompt w; leaving_row = w; served = e }
+pub left_of : (s : ScenarioValue) (p : List Row) (row : Row) (n : Connection) (q : Process) → Obeys s → IsPrompt s (row ∷ p) → LeavesPhase s p row n q → Left s p row n q
+left_of s p row n q o prompt w = record { end = phase_end s p row n o prompt w.leaving_row; leaving_row = w.leaving_row; served = w.served }
 
 id_served : (s : ScenarioValue) (p : List Row) (row : Row) (n : Connection) (q : Process) → Left s p row n q → (run_state s p).served ≡ Some (process q.id)
 id_served s p row n q h = served_item s (run_state s p).served q h.served
@@ -312,9 +313,10 @@ struck_plan_is s p row n q h phase here e = struck_known s p h.end.was.rows_are 
 
 pub command_recovers : (s : ScenarioValue) (p : List Row) (row : Row) (n : Connection) (q : Process) → Left s p row n q → Struck s p phases.Command
     → RecoversUnless (is_spent s (run_state s p) n q) (Recovers s p row q (one_message to_initiator.RestorePointers) nexts.Command) (FailsWith s p row q PARITY_ERROR)
-command_recovers s p row n q h e =
-    (λ z. repeats_row s p row n q (one_message to_initiator.RestorePointers) nexts.Command (not t.in_hold) h (leaves ∙ recovers_so v.def t (one_message to_initiator.RestorePointers) nexts.Command (phase_entry phases.Status) z) none,
-     λ z. fails_row s p row n q PARITY_ERROR h (leaves ∙ gives_up_so v.def t (pointer_restoration nexts.Command) (phase_entry phases.Status) z) (open_if s p row n q h (placed_is s p row n q h phases.Command e.0).reply) none fails)
+command_recovers s p row n q h e = (
+  λ z. repeats_row s p row n q (one_message to_initiator.RestorePointers) nexts.Command (not t.in_hold) h (leaves ∙ recovers_so v.def t (one_message to_initiator.RestorePointers) nexts.Command (phase_entry phases.Status) z) none,
+  λ z. fails_row s p row n q PARITY_ERROR h (leaves ∙ gives_up_so v.def t (pointer_restoration nexts.Command) (phase_entry phases.Status) z) (open_if s p row n q h (placed_is s p row n q h phases.Command e.0).reply) none fails,
+)
   where
     k : RunState
     k = run_state s p
@@ -344,9 +346,10 @@ command_recovers s p row n q h e =
 
 pub data_out_recovers : (s : ScenarioValue) (p : List Row) (row : Row) (n : Connection) (q : Process) → Left s p row n q → Struck s p phases.DataOut
     → RecoversUnless (is_spent s (run_state s p) n q) (Recovers s p row q (one_message to_initiator.RestorePointers) nexts.GoOn) (FailsWith s p row q PARITY_ERROR)
-data_out_recovers s p row n q h e =
-    (λ z. repeats_row s p row n q (one_message to_initiator.RestorePointers) nexts.GoOn (not t.in_hold) h (leaves ∙ recovers_so v.def t (one_message to_initiator.RestorePointers) nexts.GoOn (phase_entry phases.Status) z) none,
-     λ z. fails_row s p row n q PARITY_ERROR h (leaves ∙ gives_up_so v.def t (pointer_restoration nexts.GoOn) (phase_entry phases.Status) z) (open_if s p row n q h (placed_is s p row n q h phases.DataOut e.0).runs.reply) none fails)
+data_out_recovers s p row n q h e = (
+  λ z. repeats_row s p row n q (one_message to_initiator.RestorePointers) nexts.GoOn (not t.in_hold) h (leaves ∙ recovers_so v.def t (one_message to_initiator.RestorePointers) nexts.GoOn (phase_entry phases.Status) z) none,
+  λ z. fails_row s p row n q PARITY_ERROR h (leaves ∙ gives_up_so v.def t (pointer_restoration nexts.GoOn) (phase_entry phases.Status) z) (open_if s p row n q h (placed_is s p row n q h phases.DataOut e.0).runs.reply) none fails,
+)
   where
     k : RunState
     k = run_state s p
@@ -376,9 +379,6 @@ data_out_recovers s p row n q h e =
 
 -- ---- MESSAGE OUT after a phase to the initiator
 
-abbrev pub IsAsked : ScenarioValue → List Row → Cause → Type 0
-IsAsked s p cause = (phase_of (bus p) ≡ phases.MessageOut) × ((run_state s p).exchange.plan.cause ≡ cause)
-
 -- As it is left, what the target means to do by the cause.
 asked_leaves : (s : ScenarioValue) (p : List Row) (row : Row) (n : Connection) (q : Process) → Left s p row n q → (cause : Cause) → IsAsked s p cause → leaving s (run_state s p) n.target ≡ message_out_leaving (serving_of s (run_state s p) n.target) cause
 asked_leaves s p row n q h cause e =
@@ -405,9 +405,10 @@ asked_lost s p row n q o h cause e =
 
 pub data_in_recovers : (s : ScenarioValue) (p : List Row) (row : Row) (n : Connection) (q : Process) → Left s p row n q → IsAsked s p causes.InData
     → RecoversUnless (is_spent s (run_state s p) n q) (Recovers s p row q (one_message to_initiator.RestorePointers) nexts.GoOn) (FailsWith s p row q INITIATOR_DETECTED_ERROR)
-data_in_recovers s p row n q h e =
-    (λ z. repeats_row s p row n q (one_message to_initiator.RestorePointers) nexts.GoOn (not t.in_hold) h (leaves ∙ recovers_so v.def t (one_message to_initiator.RestorePointers) nexts.GoOn (phase_entry phases.Status) z) (asked_none s p row n q h causes.InData e),
-     λ z. fails_row s p row n q INITIATOR_DETECTED_ERROR h (leaves ∙ gives_up_so v.def t (pointer_restoration nexts.GoOn) (phase_entry phases.Status) z) (open_if s p row n q h placed.runs.reply) (asked_none s p row n q h causes.InData e) fails)
+data_in_recovers s p row n q h e = (
+  λ z. repeats_row s p row n q (one_message to_initiator.RestorePointers) nexts.GoOn (not t.in_hold) h (leaves ∙ recovers_so v.def t (one_message to_initiator.RestorePointers) nexts.GoOn (phase_entry phases.Status) z) (asked_none s p row n q h causes.InData e),
+  λ z. fails_row s p row n q INITIATOR_DETECTED_ERROR h (leaves ∙ gives_up_so v.def t (pointer_restoration nexts.GoOn) (phase_entry phases.Status) z) (open_if s p row n q h placed.runs.reply) (asked_none s p row n q h causes.InData e) fails,
+)
   where
     k : RunState
     k = run_state s p
@@ -432,9 +433,10 @@ data_in_recovers s p row n q h e =
 
 pub status_recovers : (s : ScenarioValue) (p : List Row) (row : Row) (n : Connection) (q : Process) → Obeys s → Left s p row n q → IsAsked s p causes.InStatus
     → RecoversUnless (is_spent s (run_state s p) n q) (Recovers s p row q (one_message to_initiator.RestorePointers) nexts.Status) (IsLost s p row q)
-status_recovers s p row n q o h e =
-    (λ z. repeats_row s p row n q (one_message to_initiator.RestorePointers) nexts.Status (not t.in_hold) h (leaves ∙ recovers_so v.def t (one_message to_initiator.RestorePointers) nexts.Status bus_free z) (asked_none s p row n q h causes.InStatus e),
-     λ z. lost_row s p row n q h (leaves ∙ gives_up_so v.def t (pointer_restoration nexts.Status) bus_free z) (asked_lost s p row n q o h causes.InStatus e))
+status_recovers s p row n q o h e = (
+  λ z. repeats_row s p row n q (one_message to_initiator.RestorePointers) nexts.Status (not t.in_hold) h (leaves ∙ recovers_so v.def t (one_message to_initiator.RestorePointers) nexts.Status bus_free z) (asked_none s p row n q h causes.InStatus e),
+  λ z. lost_row s p row n q h (leaves ∙ gives_up_so v.def t (pointer_restoration nexts.Status) bus_free z) (asked_lost s p row n q o h causes.InStatus e),
+)
   where
     k : RunState
     k = run_state s p
@@ -452,7 +454,7 @@ status_recovers s p row n q o h e =
 refused_leaves : (s : ScenarioValue) (p : List Row) (row : Row) (n : Connection) (q : Process) → Left s p row n q → IsAsked s p causes.InMessage → (run_state s p).exchange.plan.said.offer ≡ None
     → (b : Bool) → is_naming (run_state s p).exchange.plan.messages.first ≡ b
     → leaving s (run_state s p) n.target
-        ≡ (if b then message_repetition (run_state s p).exchange.plan else recovery (serving_of s (run_state s p) n.target).def (task_here s (run_state s p) q) (message_repetition (run_state s p).exchange.plan) bus_free)
+    ≡ (if b then message_repetition (run_state s p).exchange.plan else recovery (serving_of s (run_state s p) n.target).def (task_here s (run_state s p) q) (message_repetition (run_state s p).exchange.plan) bus_free)
 refused_leaves s p row n q h e none b name =
     let k : RunState = run_state s p in
     let v : Serving = serving_of s k n.target in
@@ -466,9 +468,10 @@ message_recovers s p row n q o h e none name =
     let k : RunState = run_state s p in
     let v : Serving = serving_of s k n.target in
     let t : Task = task_here s k q in
-    let leaves = refused_leaves s p row n q h e none false name in
-    (λ z. repeats_row s p row n q k.exchange.plan.messages k.exchange.plan.next (not t.in_hold) h (leaves ∙ recovers_so v.def t k.exchange.plan.messages k.exchange.plan.next bus_free z) (asked_none s p row n q h causes.InMessage e),
-     λ z. lost_row s p row n q h (leaves ∙ gives_up_so v.def t (message_repetition k.exchange.plan) bus_free z) (asked_lost s p row n q o h causes.InMessage e))
+    let leaves = refused_leaves s p row n q h e none false name in (
+      λ z. repeats_row s p row n q k.exchange.plan.messages k.exchange.plan.next (not t.in_hold) h (leaves ∙ recovers_so v.def t k.exchange.plan.messages k.exchange.plan.next bus_free z) (asked_none s p row n q h causes.InMessage e),
+      λ z. lost_row s p row n q h (leaves ∙ gives_up_so v.def t (message_repetition k.exchange.plan) bus_free z) (asked_lost s p row n q o h causes.InMessage e),
+    )
 
 -- The names of a reselected process without limit.
 pub names_repeat : (s : ScenarioValue) (p : List Row) (row : Row) (n : Connection) (q : Process) → Left s p row n q → IsAsked s p causes.InMessage → (run_state s p).exchange.plan.said.offer ≡ None
@@ -477,3 +480,14 @@ pub names_repeat : (s : ScenarioValue) (p : List Row) (row : Row) (n : Connectio
 names_repeat s p row n q h e none name =
     let k : RunState = run_state s p in
     repeats_row s p row n q k.exchange.plan.messages k.exchange.plan.next false h (refused_leaves s p row n q h e none true name) (asked_none s p row n q h causes.InMessage e)
+
+-- ---- MESSAGE OUT is left
+
+pub taken_all : (s : ScenarioValue) (p : List Row) (row : Row) (n : Connection) (q : Process) → Obeys s → Left s p row n q → phase_of (bus p) ≡ phases.MessageOut → HasTakenAll (run_state s p)
+taken_all s p row n q o h e =
+    let k : RunState = run_state s p in
+    let pl : IsPlain s p k = run_state_plain s p h.end.was.stood.standing.devices in
+    let here = phase_is s p row n q h phases.MessageOut e in
+    let speaks = h.end.was.stood.books.speaks n (pl.connection ∙ h.leaving_row.stands) (ap (λ (x : LineSet). x.rst) pl.bus ∙ h.leaving_row.calm) in
+    let heard : IsHeard s k = is_heard s k n (units_are s (obeys_fits s o)) speaks h.leaving_row.begun h.end.known h.end.over here in
+    record { last = heard.last; unstruck = out_unstruck s k n here h.end.over }

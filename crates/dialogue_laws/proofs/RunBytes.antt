@@ -36,9 +36,9 @@ use Rattle.progress_laws.specs.trace_laws.proofs.Whole.{steps}
 use Rattle.right_laws.proofs.DataOffers.{is_data_in}
 use Rattle.right_laws.proofs.ReadBooks.{read_books}
 use Rattle.dialogue_laws.specs.Recoveries.{present_phase}
-use Rattle.dialogue_laws.specs.Runs.{EndsRun}
+use Rattle.dialogue_laws.specs.Runs.{policy_at}
 use Rattle.dialogue_laws.proofs.RecoveryRows.{Left, phase_is, task_is}
-use Rattle.dialogue_laws.proofs.RunRows.{policy_here, unstruck}
+use Rattle.dialogue_laws.proofs.RunRows.{unstruck}
 
 just : (a b : ℕ) → a ≤ b → b ≤ a → a ≡ b
 just a b h k = omega (arith, h, k)
@@ -61,14 +61,14 @@ target_is s p row n q o prompt h = by (same_bool (is_writing q))
     by (inl w) = (h.end.was.sends.runs.served n q (pl.connection ∙ h.leaving_row.stands) (ap (λ (l : LineSet). l.rst) pl.bus ∙ h.leaving_row.calm) h.served w).target_is
     by (inr w) = ((read_books s p o prompt.0).pointers.served n q (pl.connection ∙ h.leaving_row.stands) (ap (λ (l : LineSet). l.rst) pl.bus ∙ h.leaving_row.calm) h.served w).target_is
 
-length_is : (s : ScenarioValue) (p : List Row) (row : Row) (n : Connection) (q : Process) → Left s p row n q → run_count s p n ≡ run_length (policy_here s n) (task_here s (run_state s p) q)
-length_is s p row n q h = ap (run_length_if (policy_here s n)) (task_is s p row n q h)
+length_is : (s : ScenarioValue) (p : List Row) (row : Row) (n : Connection) (q : Process) → Left s p row n q → run_count s p n ≡ run_length (policy_at s n) (task_here s (run_state s p) q)
+length_is s p row n q h = ap (run_length_if (policy_at s n)) (task_is s p row n q h)
 
 pub length_out : (s : ScenarioValue) (p : List Row) (row : Row) (n : Connection) (q : Process) (next : Phase) → Obeys s → IsPrompt s (row ∷ p) → Left s p row n q → present_phase (row ∷ p) ≡ Some next
-    → phase_of (bus p) ≡ phases.DataOut → is_struck_phase s p ≡ false → (handshakes p).answers ≡ run_length (policy_here s n) (task_here s (run_state s p) q)
+    → phase_of (bus p) ≡ phases.DataOut → is_struck_phase s p ≡ false → (handshakes p).answers ≡ run_length (policy_at s n) (task_here s (run_state s p) q)
 length_out s p row n q next o prompt h to phase struck =
-    just (handshakes p).answers (run_length (policy_here s n) t) (subst (λ (x : ℕ). (handshakes p).answers ≤ x) (length_is s p row n q h) counts.within)
-    (subst (λ (x : ℕ). run_length (policy_here s n) t ≤ x) (ap (λ (x : Handshakes). x.answers) pl.handshakes)
+    just (handshakes p).answers (run_length (policy_at s n) t) (subst (λ (x : ℕ). (handshakes p).answers ≤ x) (length_is s p row n q h) counts.within)
+    (subst (λ (x : ℕ). run_length (policy_at s n) t ≤ x) (ap (λ (x : Handshakes). x.answers) pl.handshakes)
     (subst (λ (x : ℕ). run_length (policy_of (target_def_of s x)) t ≤ k.handshakes.answers) (target_is s p row n q o prompt h)
     (leb-true (run_length (policy_of (target_def_of s q.target)) t) k.handshakes.answers whole.whole)))
   where
@@ -95,10 +95,10 @@ length_out s p row n q next o prompt h to phase struck =
 
 -- In DATA IN the target asks for all of them, and leaves the phase once they are taken.
 pub length_in : (s : ScenarioValue) (p : List Row) (row : Row) (n : Connection) (q : Process) → Obeys s → IsPrompt s (row ∷ p) → Left s p row n q
-    → phase_of (bus p) ≡ phases.DataIn → (handshakes p).requests ≡ run_length (policy_here s n) (task_here s (run_state s p) q)
+    → phase_of (bus p) ≡ phases.DataIn → (handshakes p).requests ≡ run_length (policy_at s n) (task_here s (run_state s p) q)
 length_in s p row n q o prompt h phase =
-    just (handshakes p).requests (run_length (policy_here s n) t) (subst (λ (x : ℕ). (handshakes p).requests ≤ x) (length_is s p row n q h) few)
-    (subst (λ (x : ℕ). run_length (policy_here s n) t ≤ x) (ap (λ (x : Handshakes). x.requests) pl.handshakes) (subst (λ (x : ℕ). x ≤ k.handshakes.requests) (ap (run_length_if (policy_here s n)) (task_is s p row n q h)) (ltb-false k.handshakes.requests (run_count s p n) all)))
+    just (handshakes p).requests (run_length (policy_at s n) t) (subst (λ (x : ℕ). (handshakes p).requests ≤ x) (length_is s p row n q h) few)
+    (subst (λ (x : ℕ). run_length (policy_at s n) t ≤ x) (ap (λ (x : Handshakes). x.requests) pl.handshakes) (subst (λ (x : ℕ). x ≤ k.handshakes.requests) (ap (run_length_if (policy_at s n)) (task_is s p row n q h)) (ltb-false k.handshakes.requests (run_count s p n) all)))
   where
     k : RunState
     k = run_state s p

@@ -40,7 +40,7 @@ use Rattle.progress_laws.specs.bus_books.specs.WrongParity.{is_struck_phase}
 use Rattle.progress_laws.specs.bus_books.proofs.Counts.{struck_is}
 use Rattle.progress_laws.specs.trace_laws.proofs.RunFacts.{task_here}
 use Rattle.dialogue_laws.specs.Recoveries.{present_phase}
-use Rattle.dialogue_laws.specs.Runs.{Disconnects, EndsRun, Follows, data_phase, has_run_left, runs_of}
+use Rattle.dialogue_laws.specs.Runs.{Arrives, Disconnects, EndsRun, Follows, GoesOnAtOnce, HasSaid, data_phase, has_run_left, policy_at, runs_of}
 use Rattle.dialogue_laws.proofs.PhaseEnds.{PhaseEnd}
 use Rattle.dialogue_laws.proofs.RecoveryRows.{Left, all_name, open_if, phase_is, placed_is, same_events_are, shows_turn, task_is, turn_is}
 
@@ -51,9 +51,6 @@ runs_counted all id = ap (λ (q : Bool). (if q then more else progress_in all id
   where
     more : ProcessProgress
     more = record { id = id; runs = (progress_in all id).runs + 1; recoveries = (progress_in all id).recoveries + 0 }
-
-abbrev pub policy_here : ScenarioValue → Connection → Policy
-policy_here s n = policy_of (target_def_of s n.target)
 
 pub unstruck : (s : ScenarioValue) (p : List Row) → is_struck_phase s p ≡ false → (run_state s p).exchange.plan.struck ≡ false
 unstruck s p e = go (run_state s p).exchange.plan.struck refl
@@ -85,7 +82,7 @@ disconnects_row s p row n q m done shown h e arrived name =
 follows_row : (s : ScenarioValue) (p : List Row) (row : Row) (n : Connection) (q : Process) (next : Phase) (done replied : Bool) (shown : List Event) → Left s p row n q → leaving s (run_state s p) n.target ≡ record (phase_entry next) { done = done }
     → has_replied (serving_of s (run_state s p) n.target).task ≡ replied
     → newest_with (if is_status_next (Some next) && not replied then reply_events q.id (serving_of s (run_state s p) n.target).plan (serving_of s (run_state s p) n.target).arrival (phase_of (bus_of (run_state s p))) else [])
-        (arrival_events q.id (serving_of s (run_state s p) n.target).plan (serving_of s (run_state s p) n.target).arrival (phase_of (bus_of (run_state s p)))) ≡ shown
+    (arrival_events q.id (serving_of s (run_state s p) n.target).plan (serving_of s (run_state s p) n.target).arrival (phase_of (bus_of (run_state s p)))) ≡ shown
     → all_name shown ≡ true → Follows s p row next shown
 follows_row s p row n q next done replied shown h e given is name =
     let k : RunState = run_state s p in
@@ -100,7 +97,7 @@ follows_row s p row n q next done replied shown h e given is name =
 
 -- ---- a run is done
 
-ends_leaving : (s : ScenarioValue) (p : List Row) (row : Row) (n : Connection) (q : Process) → Left s p row n q → EndsRun s p → leaving s (run_state s p) n.target ≡ after_run (policy_here s n) (task_here s (run_state s p) q)
+ends_leaving : (s : ScenarioValue) (p : List Row) (row : Row) (n : Connection) (q : Process) → Left s p row n q → EndsRun s p → leaving s (run_state s p) n.target ≡ after_run (policy_at s n) (task_here s (run_state s p) q)
 ends_leaving s p row n q h (inl e) =
     let k : RunState = run_state s p in
     let v : Serving = serving_of s k n.target in
@@ -144,28 +141,25 @@ counts_run s p row n q next l h phase e done counts =
 
 -- More runs are left: between them it is disconnected.
 pub pauses : (s : ScenarioValue) (p : List Row) (row : Row) (n : Connection) (q : Process) → Left s p row n q → EndsRun s p
-    → nat_lt (runs_of (run_state s p) q + 1) (runs_in_all (policy_here s n) (task_here s (run_state s p) q)) ≡ true
-    → Disconnects s p row (disconnect_messages (policy_here s n)) [] × (runs_of (run_state s (row ∷ p)) q ≡ runs_of (run_state s p) q + 1)
+    → nat_lt (runs_of (run_state s p) q + 1) (runs_in_all (policy_at s n) (task_here s (run_state s p) q)) ≡ true
+    → Disconnects s p row (disconnect_messages (policy_at s n)) [] × (runs_of (run_state s (row ∷ p)) q ≡ runs_of (run_state s p) q + 1)
 pauses s p row n q h e more =
     let t : Task = task_here s (run_state s p) q in
-    let l = ends_leaving s p row n q h e ∙ more_runs (policy_here s n) t more in
-    let d = disconnects_row s p row n q (disconnect_messages (policy_here s n)) true [] h l (no_arrival s p row n q h e) refl in
-    (d, counts_run s p row n q phases.MessageIn (record (disconnection (disconnect_messages (policy_here s n))) { done = true }) h d.phase l refl refl)
+    let l = ends_leaving s p row n q h e ∙ more_runs (policy_at s n) t more in
+    let d = disconnects_row s p row n q (disconnect_messages (policy_at s n)) true [] h l (no_arrival s p row n q h e) refl in
+    (d, counts_run s p row n q phases.MessageIn (record (disconnection (disconnect_messages (policy_at s n))) { done = true }) h d.phase l refl refl)
 
 -- It was the last: the process runs.
 pub finishes : (s : ScenarioValue) (p : List Row) (row : Row) (n : Connection) (q : Process) → Left s p row n q → EndsRun s p
-    → nat_lt (runs_of (run_state s p) q + 1) (runs_in_all (policy_here s n) (task_here s (run_state s p) q)) ≡ false
+    → nat_lt (runs_of (run_state s p) q + 1) (runs_in_all (policy_at s n) (task_here s (run_state s p) q)) ≡ false
     → Follows s p row phases.Status (events.Run q.id ∷ []) × (runs_of (run_state s (row ∷ p)) q ≡ runs_of (run_state s p) q + 1)
 finishes s p row n q h e last =
     let t : Task = task_here s (run_state s p) q in
-    let l = ends_leaving s p row n q h e ∙ last_run (policy_here s n) t last in
+    let l = ends_leaving s p row n q h e ∙ last_run (policy_at s n) t last in
     let f = follows_row s p row n q phases.Status true false (events.Run q.id ∷ []) h l (unanswered s p row n q h e) (λ i. newest_with (runs_of_run s p row n q e h i) (no_arrival s p row n q h e i)) refl in
     (f, counts_run s p row n q phases.Status (record (phase_entry phases.Status) { done = true }) h f.phase_is l refl refl)
 
 -- ---- COMMAND is left
-
-abbrev pub Arrives : ScenarioValue → List Row → Connection → Arrival → Type 0
-Arrives s p n a = (phase_of (bus p) ≡ phases.Command) × (is_struck_phase s p ≡ false) × (arrival_of s (run_state s p) (policy_here s n) ≡ a)
 
 arrival_is : (s : ScenarioValue) (p : List Row) (row : Row) (n : Connection) (q : Process) (a : Arrival) → Left s p row n q → Arrives s p n a → (serving_of s (run_state s p) n.target).arrival ≡ a
 arrival_is s p row n q a h e = ap (arrival_at s (run_state s p) n.target) (phase_is s p row n q h phases.Command e.0) ∙ e.2
@@ -225,36 +219,29 @@ not_status t = go t.writes
     go true = refl
     go false = refl
 
--- It is not queued: it goes on at once, or stays outside the queue.
-abbrev pub GoesOnAtOnce : ScenarioValue → List Row → Connection → Type 0
-GoesOnAtOnce s p n = Arrives s p n arrivals.AtOnce ⊎ Arrives s p n arrivals.Guest
-
-pub starts_data : (s : ScenarioValue) (p : List Row) (row : Row) (n : Connection) (q : Process) → Left s p row n q → GoesOnAtOnce s p n → has_run_left (policy_here s n) (task_here s (run_state s p) q) ≡ true
+pub starts_data : (s : ScenarioValue) (p : List Row) (row : Row) (n : Connection) (q : Process) → Left s p row n q → GoesOnAtOnce s p n → has_run_left (policy_at s n) (task_here s (run_state s p) q) ≡ true
     → Follows s p row (data_phase (task_here s (run_state s p) q)) (events.Accept q.id ∷ [])
 starts_data s p row n q h (inl e) more =
     let t : Task = task_here s (run_state s p) q in
-    follows_row s p row n q (data_phase t) false false (events.Accept q.id ∷ []) h (arrives_leaving s p row n q arrivals.AtOnce h e ∙ ap phase_entry (data_next (policy_here s n) t more)) (replied_not s p row n q arrivals.AtOnce h e)
+    follows_row s p row n q (data_phase t) false false (events.Accept q.id ∷ []) h (arrives_leaving s p row n q arrivals.AtOnce h e ∙ ap phase_entry (data_next (policy_at s n) t more)) (replied_not s p row n q arrivals.AtOnce h e)
     ((λ i. newest_with (if not_status t i && not false then reply_events q.id (serving_of s (run_state s p) n.target).plan (serving_of s (run_state s p) n.target).arrival (phase_of (bus_of (run_state s p))) else []) (arrived s p row n q arrivals.AtOnce h e i))) refl
 starts_data s p row n q h (inr e) more =
     let t : Task = task_here s (run_state s p) q in
-    follows_row s p row n q (data_phase t) false false (events.Accept q.id ∷ []) h (arrives_leaving s p row n q arrivals.Guest h e ∙ ap phase_entry (data_next (policy_here s n) t more)) (replied_not s p row n q arrivals.Guest h e)
+    follows_row s p row n q (data_phase t) false false (events.Accept q.id ∷ []) h (arrives_leaving s p row n q arrivals.Guest h e ∙ ap phase_entry (data_next (policy_at s n) t more)) (replied_not s p row n q arrivals.Guest h e)
     ((λ i. newest_with (if not_status t i && not false then reply_events q.id (serving_of s (run_state s p) n.target).plan (serving_of s (run_state s p) n.target).arrival (phase_of (bus_of (run_state s p))) else []) (arrived s p row n q arrivals.Guest h e i))) refl
 
-pub starts_status : (s : ScenarioValue) (p : List Row) (row : Row) (n : Connection) (q : Process) → Left s p row n q → GoesOnAtOnce s p n → has_run_left (policy_here s n) (task_here s (run_state s p) q) ≡ false
+pub starts_status : (s : ScenarioValue) (p : List Row) (row : Row) (n : Connection) (q : Process) → Left s p row n q → GoesOnAtOnce s p n → has_run_left (policy_at s n) (task_here s (run_state s p) q) ≡ false
     → Follows s p row phases.Status (events.Run q.id ∷ (events.Accept q.id ∷ []))
 starts_status s p row n q h (inl e) none =
     let t : Task = task_here s (run_state s p) q in
-    follows_row s p row n q phases.Status false false (events.Run q.id ∷ (events.Accept q.id ∷ [])) h (arrives_leaving s p row n q arrivals.AtOnce h e ∙ ap phase_entry (status_next (policy_here s n) t none)) (replied_not s p row n q arrivals.AtOnce h e)
+    follows_row s p row n q phases.Status false false (events.Run q.id ∷ (events.Accept q.id ∷ [])) h (arrives_leaving s p row n q arrivals.AtOnce h e ∙ ap phase_entry (status_next (policy_at s n) t none)) (replied_not s p row n q arrivals.AtOnce h e)
     (λ i. newest_with (answers s p row n q arrivals.AtOnce h e i) (arrived s p row n q arrivals.AtOnce h e i)) refl
 starts_status s p row n q h (inr e) none =
     let t : Task = task_here s (run_state s p) q in
-    follows_row s p row n q phases.Status false false (events.Run q.id ∷ (events.Accept q.id ∷ [])) h (arrives_leaving s p row n q arrivals.Guest h e ∙ ap phase_entry (status_next (policy_here s n) t none)) (replied_not s p row n q arrivals.Guest h e)
+    follows_row s p row n q phases.Status false false (events.Run q.id ∷ (events.Accept q.id ∷ [])) h (arrives_leaving s p row n q arrivals.Guest h e ∙ ap phase_entry (status_next (policy_at s n) t none)) (replied_not s p row n q arrivals.Guest h e)
     (λ i. newest_with (answers s p row n q arrivals.Guest h e i) (arrived s p row n q arrivals.Guest h e i)) refl
 
 -- ---- the messages of the target were given, and the initiator has nothing to say
-
-abbrev pub HasSaid : ScenarioValue → List Row → Next → Type 0
-HasSaid s p next = (phase_of (bus p) ≡ phases.MessageIn) × ((bus p).atn ≡ false) × ((run_state s p).exchange.plan.next ≡ next)
 
 said_leaving : (s : ScenarioValue) (p : List Row) (row : Row) (n : Connection) (q : Process) (next : Next) → Left s p row n q → HasSaid s p next → leaving s (run_state s p) n.target ≡ after_messages (serving_of s (run_state s p) n.target) next
 said_leaving s p row n q next h e =
@@ -276,15 +263,15 @@ pub to_free : (s : ScenarioValue) (p : List Row) (row : Row) (n : Connection) (q
 to_free s p row n q h e = to_phase s p row n q h None (ap (λ (l : Leaving). l.to) (said_leaving s p row n q nexts.FreeBus h e))
 
 goes_on : (s : ScenarioValue) (p : List Row) (row : Row) (n : Connection) (q : Process) → Left s p row n q → HasSaid s p nexts.GoOn
-    → present_phase (row ∷ p) ≡ Some (next_data_phase (policy_here s n) (task_here s (run_state s p) q) (runs_of (run_state s p) q))
+    → present_phase (row ∷ p) ≡ Some (next_data_phase (policy_at s n) (task_here s (run_state s p) q) (runs_of (run_state s p) q))
 goes_on s p row n q h e =
-    to_phase s p row n q h (Some (next_data_phase (policy_here s n) (task_here s (run_state s p) q) (runs_of (run_state s p) q)))
-    (ap (λ (l : Leaving). l.to) (said_leaving s p row n q nexts.GoOn h e) ∙ (λ i. (with_task (task_is s p row n q h i) (λ t. phase_entry (next_data_phase (policy_here s n) t t.runs))).to))
+    to_phase s p row n q h (Some (next_data_phase (policy_at s n) (task_here s (run_state s p) q) (runs_of (run_state s p) q)))
+    (ap (λ (l : Leaving). l.to) (said_leaving s p row n q nexts.GoOn h e) ∙ (λ i. (with_task (task_is s p row n q h i) (λ t. phase_entry (next_data_phase (policy_at s n) t t.runs))).to))
 
-pub to_data : (s : ScenarioValue) (p : List Row) (row : Row) (n : Connection) (q : Process) → Left s p row n q → HasSaid s p nexts.GoOn → has_run_left (policy_here s n) (task_here s (run_state s p) q) ≡ true
+pub to_data : (s : ScenarioValue) (p : List Row) (row : Row) (n : Connection) (q : Process) → Left s p row n q → HasSaid s p nexts.GoOn → has_run_left (policy_at s n) (task_here s (run_state s p) q) ≡ true
     → present_phase (row ∷ p) ≡ Some (data_phase (task_here s (run_state s p) q))
-to_data s p row n q h e more = goes_on s p row n q h e ∙ ap (λ (x : Phase). Some x) (data_next (policy_here s n) (task_here s (run_state s p) q) more)
+to_data s p row n q h e more = goes_on s p row n q h e ∙ ap (λ (x : Phase). Some x) (data_next (policy_at s n) (task_here s (run_state s p) q) more)
 
-pub to_end : (s : ScenarioValue) (p : List Row) (row : Row) (n : Connection) (q : Process) → Left s p row n q → HasSaid s p nexts.GoOn → has_run_left (policy_here s n) (task_here s (run_state s p) q) ≡ false
+pub to_end : (s : ScenarioValue) (p : List Row) (row : Row) (n : Connection) (q : Process) → Left s p row n q → HasSaid s p nexts.GoOn → has_run_left (policy_at s n) (task_here s (run_state s p) q) ≡ false
     → present_phase (row ∷ p) ≡ Some phases.Status
-to_end s p row n q h e none = goes_on s p row n q h e ∙ ap (λ (x : Phase). Some x) (status_next (policy_here s n) (task_here s (run_state s p) q) none)
+to_end s p row n q h e none = goes_on s p row n q h e ∙ ap (λ (x : Phase). Some x) (status_next (policy_at s n) (task_here s (run_state s p) q) none)
