@@ -6,3 +6,5 @@ pub mod PhaseEnds
 pub mod RecoveryRows
 pub mod RunRows
 pub mod RunBytes
+mod Turns
+mod TurnCases

@@ -48,8 +48,8 @@ pub fn data_runs_follow_the_policy()
 {}
 
 /// As COMMAND is left, and no byte of it was struck, a command that is queued is disconnected by DISCONNECT (`queued`),
-/// one for which its queue is full is refused, and STATUS follows (`refused`). Any other goes on in this connection: with
-/// its data (`data`), or with STATUS where it has none to move (`status`).
+/// one for which its queue is full is refused, and STATUS follows (`refused`). Any other goes on in this connection:
+/// with its data (`data`), or with STATUS where it has none to move (`status`).
 pub fn commands_arrive_by_the_policy()
     ensures queued { (s : ScenarioValue) (rows : List Row) (row : Row) (n : Connection) (p : Process) → Obeys s
         → IsPrompt s (row ∷ rows) → LeavesPhase s rows row n p → Arrives s rows n arrivals.Queued
