@@ -291,13 +291,13 @@ next_state s p row n a o prompt at was st = go nx.row_is
         by_change
         (subst (λ (x : Story). AbortState s x.sent n a) (sym (λ i. if off i then record k.story { link = None } else story_on_bus s k.story (con i) (gone i) d row))
         (free_row s k.story d row n a at
-            (λ j x ej ex re i ei.
-                let next = aims.calls j (sym pl.call ∙ ej) ((was.stood.called here e j x (sym pl.call ∙ ej) ex).host_is ∙ ap not re) i ei in
-                record {
-                  unsent = next_unsent s k.story.sent j.caller i next;
-                  unended = next_unended s k.story.sent j.caller i next;
-                  host_is = owner s j.caller i (aims_are s p j.caller i ei);
-                }) st))
+        (λ j x ej ex re i ei.
+        let next = aims.calls j (sym pl.call ∙ ej) ((was.stood.called here e j x (sym pl.call ∙ ej) ex).host_is ∙ ap not re) i ei in
+        record {
+          unsent = next_unsent s k.story.sent j.caller i next;
+          unended = next_unended s k.story.sent j.caller i next;
+          host_is = owner s j.caller i (aims_are s p j.caller i ei);
+        }) st))
 
     go : RowOf s k row → AbortState s (run_state s q).story.sent n a
     go (row_apart con gone) = by d.change.after.rst refl

@@ -4,3 +4,7 @@ mod Cases
 pub mod StruckPlans
 pub mod PhaseEnds
 pub mod RecoveryRows
+pub mod RunRows
+pub mod RunBytes
+mod Turns
+mod TurnCases

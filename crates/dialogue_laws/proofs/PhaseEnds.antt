@@ -61,6 +61,7 @@ pub record PhaseEnd (s : ScenarioValue) (p : List Row) (row : Row) (n : Connecti
   pub plan : (next : Phase) → present_phase (row ∷ p) ≡ Some next → is_out_phase next ≡ false
       → (run_state s (row ∷ p)).exchange.plan ≡ record (plan_anew (run_state s p).exchange.plan) { messages = (leaving s (run_state s p) n.target).messages; next = (leaving s (run_state s p) n.target).next }
   pub progress : (next : Phase) → present_phase (row ∷ p) ≡ Some next → (run_state s (row ∷ p)).progress ≡ progress_by_leaving (run_state s p) (process_served s (run_state s p)) (leaving s (run_state s p) n.target)
+  pub stands : (next : Phase) → present_phase (row ∷ p) ≡ Some next → (connection (row ∷ p) ≡ Some n) × (changes_phase (change_of p row) ≡ true)
 
 by_turn : (row : Row) (n : Connection) (c : Change) → RowKind row n c → changes_phase c ≡ true → (is_fault row.kind ≡ false) × (receiver_in n c ≡ None)
 by_turn row n c (still g e r) f = wrong (sym f ∙ e)
@@ -146,6 +147,7 @@ phase_end s p row n o prompt w = by r.facts
           told = ap (λ (x : Option Phase). same_events (target_events s k n (is_some x)) (events_of_row s p row)) free ∙ told_by None (reads ∙ g.stopped) (either (changes_phase d.change));
           plan = λ next e. none_next next (sym free ∙ e);
           progress = λ next e. none_next next (sym free ∙ e);
+          stands = λ next e. none_next next (sym free ∙ e);
         }
     by (stays g) = record {
       was = was;
@@ -157,6 +159,7 @@ phase_end s p row n o prompt w = by r.facts
       told = ap (λ (x : Option Phase). same_events (target_events s k n (is_some x)) (events_of_row s p row)) here ∙ told_by (Some n) next_is (ap (λ (x : Bool). x || false) (ap changes_phase g.row_is.change_is ∙ turned));
       plan = plan;
       progress = progress;
+      stands = λ next e. (sym reads ∙ next_is, ap changes_phase (sym c ∙ g.row_is.change_is) ∙ turned);
     }
       where
         next_is : d.next ≡ Some n

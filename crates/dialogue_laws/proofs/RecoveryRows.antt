@@ -52,12 +52,13 @@ use Rattle.progress_laws.specs.bus_books.specs.WrongParity.{is_struck_phase}
 use Rattle.progress_laws.specs.bus_books.proofs.CarriedRows.{process_id}
 use Rattle.progress_laws.specs.trace_laws.specs.Places.{PlacedAsked, PlacedIf, PlacedIn}
 use Rattle.progress_laws.specs.trace_laws.specs.Tells.{IsLeaving}
+use Rattle.progress_laws.specs.trace_laws.proofs.CommandNext.{out_unstruck}
 use Rattle.progress_laws.specs.trace_laws.proofs.Impossible.{none_some}
 use Rattle.progress_laws.specs.trace_laws.proofs.ItemRows.{served_item}
 use Rattle.progress_laws.specs.trace_laws.proofs.RunFacts.{task_here}
 use Rattle.progress_laws.specs.trace_laws.proofs.TellEnds.{none_heard}
 use Rattle.progress_laws.specs.trace_laws.proofs.TellRows.{IsHeard, is_heard}
-use Rattle.dialogue_laws.specs.Recoveries.{FailsWith, IsLost, Recovers, RecoversUnless, Repeats, is_spent, is_uncounted, present_phase, recoveries_of}
+use Rattle.dialogue_laws.specs.Recoveries.{FailsWith, HasTakenAll, IsAsked, IsLost, LeavesPhase, Recovers, RecoversUnless, Repeats, is_spent, is_uncounted, present_phase, recoveries_of}
 use Rattle.dialogue_laws.proofs.PhaseEnds.{PhaseEnd, phase_end}
 use Rattle.dialogue_laws.proofs.StruckPlans.{struck_known}
 
@@ -94,6 +95,63 @@ same_one x [] h e = wrong' e
 same_one x (f ∷ []) h e = ap (λ (y : Event). y ∷ []) (h f (and_parts (same_event x f) true e).0)
 same_one x (f ∷ (g ∷ shown)) h e = wrong' (and_parts (same_event x f) false e).1
 
+abbrev names_process : Event → Bool
+names_process (events.Accept id) = true
+names_process (events.Refuse id) = true
+names_process (events.Run id) = true
+names_process (events.Fail id code) = true
+names_process (events.Lost id) = true
+names_process (events.End id status) = false
+names_process (events.Aborted h t u x) = false
+names_process (events.Reset b) = false
+
+-- Of any list of events that name processes alone.
+same_process_event : (x f : Event) → names_process x ≡ true → same_event x f ≡ true → f ≡ x
+same_process_event (events.Fail id code) f n e = same_fail id code f e
+same_process_event (events.Lost id) f n e = same_lost id f e
+same_process_event (events.Accept id) (events.Accept b) n e = λ i. events.Accept (sym (same_id_is id b e) i)
+same_process_event (events.Refuse id) (events.Refuse b) n e = λ i. events.Refuse (sym (same_id_is id b e) i)
+same_process_event (events.Run id) (events.Run b) n e = λ i. events.Run (sym (same_id_is id b e) i)
+same_process_event (events.Accept id) (events.Refuse b) n e = wrong' e
+same_process_event (events.Accept id) (events.Run b) n e = wrong' e
+same_process_event (events.Accept id) (events.Fail b y) n e = wrong' e
+same_process_event (events.Accept id) (events.End b y) n e = wrong' e
+same_process_event (events.Accept id) (events.Lost b) n e = wrong' e
+same_process_event (events.Accept id) (events.Aborted h t u x) n e = wrong' e
+same_process_event (events.Accept id) (events.Reset b) n e = wrong' e
+same_process_event (events.Refuse id) (events.Accept b) n e = wrong' e
+same_process_event (events.Refuse id) (events.Run b) n e = wrong' e
+same_process_event (events.Refuse id) (events.Fail b y) n e = wrong' e
+same_process_event (events.Refuse id) (events.End b y) n e = wrong' e
+same_process_event (events.Refuse id) (events.Lost b) n e = wrong' e
+same_process_event (events.Refuse id) (events.Aborted h t u x) n e = wrong' e
+same_process_event (events.Refuse id) (events.Reset b) n e = wrong' e
+same_process_event (events.Run id) (events.Accept b) n e = wrong' e
+same_process_event (events.Run id) (events.Refuse b) n e = wrong' e
+same_process_event (events.Run id) (events.Fail b y) n e = wrong' e
+same_process_event (events.Run id) (events.End b y) n e = wrong' e
+same_process_event (events.Run id) (events.Lost b) n e = wrong' e
+same_process_event (events.Run id) (events.Aborted h t u x) n e = wrong' e
+same_process_event (events.Run id) (events.Reset b) n e = wrong' e
+same_process_event (events.End id status) f n e = wrong' n
+same_process_event (events.Aborted h t u x) f n e = wrong' n
+same_process_event (events.Reset b) f n e = wrong' n
+
+abbrev pub all_name : List Event → Bool
+all_name [] = true
+all_name (x ∷ shown) = names_process x && all_name shown
+
+same_all : (x shown : List Event) → all_name x ≡ true → same_events x shown ≡ true → shown ≡ x
+same_all [] shown n e = same_none shown e
+same_all (x ∷ xs) [] n e = wrong' e
+same_all (x ∷ xs) (f ∷ shown) n e =
+    let name = and_parts (names_process x) (all_name xs) n in
+    let same = and_parts (same_event x f) (same_events xs shown) e in
+    λ i. same_process_event x f name.0 same.0 i ∷ same_all xs shown name.1 same.1 i
+
+pub same_events_are : (x shown : List Event) → all_name x ≡ true → same_events x shown ≡ true → shown ≡ x
+same_events_are x shown n e = same_all x shown n e
+
 -- ---- what the target decides
 
 recovers_so : (def : Option TargetDef) (t : Task) (m : Messages) (next : Next) (over : Leaving) → (not t.in_hold && not (nat_lt t.recoveries (recovery_limit def))) ≡ false
@@ -127,14 +185,14 @@ pub record Left (s : ScenarioValue) (p : List Row) (row : Row) (n : Connection) 
   pub leaving_row : IsLeaving s p row n
   pub served : process_served s (run_state s p) ≡ Some q
 
-pub left_of : (s : ScenarioValue) (p : List Row) (row : Row) (n : Connection) (q : Process) → Obeys s → IsPrompt s (row ∷ p) → IsLeaving s p row n → process_served s (run_state s p) ≡ Some q → Left s p row n q
-left_of s p row n q o prompt w e = record { end = phase_end s p row n o prompt w; leaving_row = w; served = e }
+pub left_of : (s : ScenarioValue) (p : List Row) (row : Row) (n : Connection) (q : Process) → Obeys s → IsPrompt s (row ∷ p) → LeavesPhase s p row n q → Left s p row n q
+left_of s p row n q o prompt w = record { end = phase_end s p row n o prompt w.leaving_row; leaving_row = w.leaving_row; served = w.served }
 
 id_served : (s : ScenarioValue) (p : List Row) (row : Row) (n : Connection) (q : Process) → Left s p row n q → (run_state s p).served ≡ Some (process q.id)
 id_served s p row n q h = served_item s (run_state s p).served q h.served
 
 -- The target shows what it does as the row turns to another phase, or ends the connection.
-shows_turn : (s : ScenarioValue) (p : List Row) (row : Row) (n : Connection) (q : Process) → Left s p row n q → (next : Phase) → present_phase (row ∷ p) ≡ Some next → (shown : List Event)
+pub shows_turn : (s : ScenarioValue) (p : List Row) (row : Row) (n : Connection) (q : Process) → Left s p row n q → (next : Phase) → present_phase (row ∷ p) ≡ Some next → (shown : List Event)
     → turn_events (serving_of s (run_state s p) n.target) (bus_of (run_state s p)).atn (phase_of (bus_of (run_state s p))) q.id ≡ shown → same_events shown (events_of_row s p row) ≡ true
 shows_turn s p row n q h next e shown is =
     let k : RunState = run_state s p in
@@ -152,7 +210,7 @@ shows_end s p row n q h e shown is =
     (sym ((λ i. if not (h.leaving_row.begun i) then [] else if is_some (e i) then turn_events_if v (bus_of k).atn (phase_of (bus_of k)) (id_of (id_served s p row n q h i)) else connection_end_events n v.plan (phase_of (bus_of k)) (id_of (id_served s p row n q h i))) ∙ is))
     ∙ h.end.told
 
-turn_is : (v : Serving) (atn : Bool) (phase : Phase) (id : ProcId) (l : Leaving) (replied : Bool) (arrived : List Event) → phase_leaving v atn phase ≡ l → has_replied v.task ≡ replied → arrival_events id v.plan v.arrival phase ≡ arrived
+pub turn_is : (v : Serving) (atn : Bool) (phase : Phase) (id : ProcId) (l : Leaving) (replied : Bool) (arrived : List Event) → phase_leaving v atn phase ≡ l → has_replied v.task ≡ replied → arrival_events id v.plan v.arrival phase ≡ arrived
     → turn_events v atn phase id ≡ newest_with (if is_status_next l.to && not replied then reply_events id v.plan v.arrival phase else []) arrived
 turn_is v atn phase id l replied arrived e f g = λ i. newest_with (if is_status_next (e i).to && not (f i) then reply_events id v.plan v.arrival phase else []) (g i)
 
@@ -203,14 +261,14 @@ lost_row s p row n q h e lost =
 
 -- ---- what the target knows
 
-task_is : (s : ScenarioValue) (p : List Row) (row : Row) (n : Connection) (q : Process) → Left s p row n q → task_of s (run_state s p) ≡ Some (task_here s (run_state s p) q)
+pub task_is : (s : ScenarioValue) (p : List Row) (row : Row) (n : Connection) (q : Process) → Left s p row n q → task_of s (run_state s p) ≡ Some (task_here s (run_state s p) q)
 task_is s p row n q h = ap (task_if s (run_state s p)) h.served
 
 -- The phase of the lines.
-phase_is : (s : ScenarioValue) (p : List Row) (row : Row) (n : Connection) (q : Process) → Left s p row n q → (phase : Phase) → phase_of (bus p) ≡ phase → phase_of (bus_of (run_state s p)) ≡ phase
+pub phase_is : (s : ScenarioValue) (p : List Row) (row : Row) (n : Connection) (q : Process) → Left s p row n q → (phase : Phase) → phase_of (bus p) ≡ phase → phase_of (bus_of (run_state s p)) ≡ phase
 phase_is s p row n q h phase e = ap phase_of (run_state_plain s p h.end.was.stood.standing.devices).bus ∙ e
 
-placed_is : (s : ScenarioValue) (p : List Row) (row : Row) (n : Connection) (q : Process) → (h : Left s p row n q) → (phase : Phase) → phase_of (bus p) ≡ phase
+pub placed_is : (s : ScenarioValue) (p : List Row) (row : Row) (n : Connection) (q : Process) → (h : Left s p row n q) → (phase : Phase) → phase_of (bus p) ≡ phase
     → PlacedIn h.end.was.places.array q (run_state s p).exchange.plan (run_state s p).handshakes (bus_of (run_state s p)).atn phase
 placed_is s p row n q h phase e =
     let k : RunState = run_state s p in
@@ -219,7 +277,7 @@ placed_is s p row n q h phase e =
     (subst (λ (b : Bool). PlacedIf b h.end.was.places.array q k.exchange.plan k.handshakes (bus_of k).atn (phase_of (bus_of k))) h.leaving_row.begun
     (h.end.was.places.placed n (pl.connection ∙ h.leaving_row.stands) (ap (λ (x : LineSet). x.rst) pl.bus ∙ h.leaving_row.calm) q h.served))
 
-open_if : (s : ScenarioValue) (p : List Row) (row : Row) (n : Connection) (q : Process) → (h : Left s p row n q) → reply_in h.end.was.places.array.replies q.id ≡ None → has_replied (serving_of s (run_state s p) n.target).task ≡ false
+pub open_if : (s : ScenarioValue) (p : List Row) (row : Row) (n : Connection) (q : Process) → (h : Left s p row n q) → reply_in h.end.was.places.array.replies q.id ≡ None → has_replied (serving_of s (run_state s p) n.target).task ≡ false
 open_if s p row n q h e =
     ap has_replied (task_is s p row n q h)
     ∙ (λ i. is_some (reply_in (or_start s (h.end.was.places.array_is i)).replies q.id))
@@ -255,9 +313,10 @@ struck_plan_is s p row n q h phase here e = struck_known s p h.end.was.rows_are 
 
 pub command_recovers : (s : ScenarioValue) (p : List Row) (row : Row) (n : Connection) (q : Process) → Left s p row n q → Struck s p phases.Command
     → RecoversUnless (is_spent s (run_state s p) n q) (Recovers s p row q (one_message to_initiator.RestorePointers) nexts.Command) (FailsWith s p row q PARITY_ERROR)
-command_recovers s p row n q h e =
-    (λ z. repeats_row s p row n q (one_message to_initiator.RestorePointers) nexts.Command (not t.in_hold) h (leaves ∙ recovers_so v.def t (one_message to_initiator.RestorePointers) nexts.Command (phase_entry phases.Status) z) none,
-     λ z. fails_row s p row n q PARITY_ERROR h (leaves ∙ gives_up_so v.def t (pointer_restoration nexts.Command) (phase_entry phases.Status) z) (open_if s p row n q h (placed_is s p row n q h phases.Command e.0).reply) none fails)
+command_recovers s p row n q h e = (
+  λ z. repeats_row s p row n q (one_message to_initiator.RestorePointers) nexts.Command (not t.in_hold) h (leaves ∙ recovers_so v.def t (one_message to_initiator.RestorePointers) nexts.Command (phase_entry phases.Status) z) none,
+  λ z. fails_row s p row n q PARITY_ERROR h (leaves ∙ gives_up_so v.def t (pointer_restoration nexts.Command) (phase_entry phases.Status) z) (open_if s p row n q h (placed_is s p row n q h phases.Command e.0).reply) none fails,
+)
   where
     k : RunState
     k = run_state s p
@@ -287,9 +346,10 @@ command_recovers s p row n q h e =
 
 pub data_out_recovers : (s : ScenarioValue) (p : List Row) (row : Row) (n : Connection) (q : Process) → Left s p row n q → Struck s p phases.DataOut
     → RecoversUnless (is_spent s (run_state s p) n q) (Recovers s p row q (one_message to_initiator.RestorePointers) nexts.GoOn) (FailsWith s p row q PARITY_ERROR)
-data_out_recovers s p row n q h e =
-    (λ z. repeats_row s p row n q (one_message to_initiator.RestorePointers) nexts.GoOn (not t.in_hold) h (leaves ∙ recovers_so v.def t (one_message to_initiator.RestorePointers) nexts.GoOn (phase_entry phases.Status) z) none,
-     λ z. fails_row s p row n q PARITY_ERROR h (leaves ∙ gives_up_so v.def t (pointer_restoration nexts.GoOn) (phase_entry phases.Status) z) (open_if s p row n q h (placed_is s p row n q h phases.DataOut e.0).runs.reply) none fails)
+data_out_recovers s p row n q h e = (
+  λ z. repeats_row s p row n q (one_message to_initiator.RestorePointers) nexts.GoOn (not t.in_hold) h (leaves ∙ recovers_so v.def t (one_message to_initiator.RestorePointers) nexts.GoOn (phase_entry phases.Status) z) none,
+  λ z. fails_row s p row n q PARITY_ERROR h (leaves ∙ gives_up_so v.def t (pointer_restoration nexts.GoOn) (phase_entry phases.Status) z) (open_if s p row n q h (placed_is s p row n q h phases.DataOut e.0).runs.reply) none fails,
+)
   where
     k : RunState
     k = run_state s p
@@ -319,9 +379,6 @@ data_out_recovers s p row n q h e =
 
 -- ---- MESSAGE OUT after a phase to the initiator
 
-abbrev pub IsAsked : ScenarioValue → List Row → Cause → Type 0
-IsAsked s p cause = (phase_of (bus p) ≡ phases.MessageOut) × ((run_state s p).exchange.plan.cause ≡ cause)
-
 -- As it is left, what the target means to do by the cause.
 asked_leaves : (s : ScenarioValue) (p : List Row) (row : Row) (n : Connection) (q : Process) → Left s p row n q → (cause : Cause) → IsAsked s p cause → leaving s (run_state s p) n.target ≡ message_out_leaving (serving_of s (run_state s p) n.target) cause
 asked_leaves s p row n q h cause e =
@@ -348,9 +405,10 @@ asked_lost s p row n q o h cause e =
 
 pub data_in_recovers : (s : ScenarioValue) (p : List Row) (row : Row) (n : Connection) (q : Process) → Left s p row n q → IsAsked s p causes.InData
     → RecoversUnless (is_spent s (run_state s p) n q) (Recovers s p row q (one_message to_initiator.RestorePointers) nexts.GoOn) (FailsWith s p row q INITIATOR_DETECTED_ERROR)
-data_in_recovers s p row n q h e =
-    (λ z. repeats_row s p row n q (one_message to_initiator.RestorePointers) nexts.GoOn (not t.in_hold) h (leaves ∙ recovers_so v.def t (one_message to_initiator.RestorePointers) nexts.GoOn (phase_entry phases.Status) z) (asked_none s p row n q h causes.InData e),
-     λ z. fails_row s p row n q INITIATOR_DETECTED_ERROR h (leaves ∙ gives_up_so v.def t (pointer_restoration nexts.GoOn) (phase_entry phases.Status) z) (open_if s p row n q h placed.runs.reply) (asked_none s p row n q h causes.InData e) fails)
+data_in_recovers s p row n q h e = (
+  λ z. repeats_row s p row n q (one_message to_initiator.RestorePointers) nexts.GoOn (not t.in_hold) h (leaves ∙ recovers_so v.def t (one_message to_initiator.RestorePointers) nexts.GoOn (phase_entry phases.Status) z) (asked_none s p row n q h causes.InData e),
+  λ z. fails_row s p row n q INITIATOR_DETECTED_ERROR h (leaves ∙ gives_up_so v.def t (pointer_restoration nexts.GoOn) (phase_entry phases.Status) z) (open_if s p row n q h placed.runs.reply) (asked_none s p row n q h causes.InData e) fails,
+)
   where
     k : RunState
     k = run_state s p
@@ -375,9 +433,10 @@ data_in_recovers s p row n q h e =
 
 pub status_recovers : (s : ScenarioValue) (p : List Row) (row : Row) (n : Connection) (q : Process) → Obeys s → Left s p row n q → IsAsked s p causes.InStatus
     → RecoversUnless (is_spent s (run_state s p) n q) (Recovers s p row q (one_message to_initiator.RestorePointers) nexts.Status) (IsLost s p row q)
-status_recovers s p row n q o h e =
-    (λ z. repeats_row s p row n q (one_message to_initiator.RestorePointers) nexts.Status (not t.in_hold) h (leaves ∙ recovers_so v.def t (one_message to_initiator.RestorePointers) nexts.Status bus_free z) (asked_none s p row n q h causes.InStatus e),
-     λ z. lost_row s p row n q h (leaves ∙ gives_up_so v.def t (pointer_restoration nexts.Status) bus_free z) (asked_lost s p row n q o h causes.InStatus e))
+status_recovers s p row n q o h e = (
+  λ z. repeats_row s p row n q (one_message to_initiator.RestorePointers) nexts.Status (not t.in_hold) h (leaves ∙ recovers_so v.def t (one_message to_initiator.RestorePointers) nexts.Status bus_free z) (asked_none s p row n q h causes.InStatus e),
+  λ z. lost_row s p row n q h (leaves ∙ gives_up_so v.def t (pointer_restoration nexts.Status) bus_free z) (asked_lost s p row n q o h causes.InStatus e),
+)
   where
     k : RunState
     k = run_state s p
@@ -395,7 +454,7 @@ status_recovers s p row n q o h e =
 refused_leaves : (s : ScenarioValue) (p : List Row) (row : Row) (n : Connection) (q : Process) → Left s p row n q → IsAsked s p causes.InMessage → (run_state s p).exchange.plan.said.offer ≡ None
     → (b : Bool) → is_naming (run_state s p).exchange.plan.messages.first ≡ b
     → leaving s (run_state s p) n.target
-        ≡ (if b then message_repetition (run_state s p).exchange.plan else recovery (serving_of s (run_state s p) n.target).def (task_here s (run_state s p) q) (message_repetition (run_state s p).exchange.plan) bus_free)
+    ≡ (if b then message_repetition (run_state s p).exchange.plan else recovery (serving_of s (run_state s p) n.target).def (task_here s (run_state s p) q) (message_repetition (run_state s p).exchange.plan) bus_free)
 refused_leaves s p row n q h e none b name =
     let k : RunState = run_state s p in
     let v : Serving = serving_of s k n.target in
@@ -409,9 +468,10 @@ message_recovers s p row n q o h e none name =
     let k : RunState = run_state s p in
     let v : Serving = serving_of s k n.target in
     let t : Task = task_here s k q in
-    let leaves = refused_leaves s p row n q h e none false name in
-    (λ z. repeats_row s p row n q k.exchange.plan.messages k.exchange.plan.next (not t.in_hold) h (leaves ∙ recovers_so v.def t k.exchange.plan.messages k.exchange.plan.next bus_free z) (asked_none s p row n q h causes.InMessage e),
-     λ z. lost_row s p row n q h (leaves ∙ gives_up_so v.def t (message_repetition k.exchange.plan) bus_free z) (asked_lost s p row n q o h causes.InMessage e))
+    let leaves = refused_leaves s p row n q h e none false name in (
+      λ z. repeats_row s p row n q k.exchange.plan.messages k.exchange.plan.next (not t.in_hold) h (leaves ∙ recovers_so v.def t k.exchange.plan.messages k.exchange.plan.next bus_free z) (asked_none s p row n q h causes.InMessage e),
+      λ z. lost_row s p row n q h (leaves ∙ gives_up_so v.def t (message_repetition k.exchange.plan) bus_free z) (asked_lost s p row n q o h causes.InMessage e),
+    )
 
 -- The names of a reselected process without limit.
 pub names_repeat : (s : ScenarioValue) (p : List Row) (row : Row) (n : Connection) (q : Process) → Left s p row n q → IsAsked s p causes.InMessage → (run_state s p).exchange.plan.said.offer ≡ None
@@ -420,3 +480,14 @@ pub names_repeat : (s : ScenarioValue) (p : List Row) (row : Row) (n : Connectio
 names_repeat s p row n q h e none name =
     let k : RunState = run_state s p in
     repeats_row s p row n q k.exchange.plan.messages k.exchange.plan.next false h (refused_leaves s p row n q h e none true name) (asked_none s p row n q h causes.InMessage e)
+
+-- ---- MESSAGE OUT is left
+
+pub taken_all : (s : ScenarioValue) (p : List Row) (row : Row) (n : Connection) (q : Process) → Obeys s → Left s p row n q → phase_of (bus p) ≡ phases.MessageOut → HasTakenAll (run_state s p)
+taken_all s p row n q o h e =
+    let k : RunState = run_state s p in
+    let pl : IsPlain s p k = run_state_plain s p h.end.was.stood.standing.devices in
+    let here = phase_is s p row n q h phases.MessageOut e in
+    let speaks = h.end.was.stood.books.speaks n (pl.connection ∙ h.leaving_row.stands) (ap (λ (x : LineSet). x.rst) pl.bus ∙ h.leaving_row.calm) in
+    let heard : IsHeard s k = is_heard s k n (units_are s (obeys_fits s o)) speaks h.leaving_row.begun h.end.known h.end.over here in
+    record { last = heard.last; unstruck = out_unstruck s k n here h.end.over }

@@ -1,2 +1,3 @@
 pub mod AbortLines
 pub mod Recoveries
+pub mod Runs

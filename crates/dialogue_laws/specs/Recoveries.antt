@@ -10,6 +10,7 @@ use Rattle.bus_due.specs.scenario.specs.Value.{ScenarioValue}
 use Rattle.bus_due.specs.disk_array.specs.Processes.{Process}
 use Rattle.bus_due.specs.disk_array.specs.Seats.{in_hold}
 use Rattle.bus_due.specs.disk_array.specs.Units.{nexus_of}
+use Rattle.bus_due.specs.bus_dialogue.specs.declared.exchange.Cause.{Cause}
 use Rattle.bus_due.specs.bus_dialogue.specs.declared.exchange.Messages.{Messages}
 use Rattle.bus_due.specs.bus_dialogue.specs.declared.exchange.Next.{Next}
 use Rattle.bus_due.specs.bus_dialogue.specs.declared.exchange.Phase.{Phase}
@@ -18,8 +19,9 @@ use Rattle.bus_due.specs.bus_dialogue.specs.NextPhase.{phase_of, recovery_limit}
 use Rattle.bus_due.specs.bus_dialogue.specs.PhaseBytes.{one_if}
 use Rattle.bus_due.specs.Defs.{target_def_of}
 use Rattle.bus_due.specs.LastingState.{progress_in}
-use Rattle.bus_due.specs.RunState.{RunState, array_of}
+use Rattle.bus_due.specs.RunState.{RunState, array_of, process_served}
 use Rattle.bus_due.specs.RunSteps.{events_of_row, run_state}
+use Rattle.progress_laws.specs.trace_laws.specs.Tells.{IsLeaving}
 
 -- The phase of the connection after these rows; without a connection BUS FREE.
 abbrev pub phase_if : Option Connection → LineSet → Option Phase
@@ -28,6 +30,12 @@ phase_if (Some n) lines = Some (phase_of lines)
 
 abbrev pub present_phase : List Row → Option Phase
 present_phase rows = phase_if (connection rows) (bus rows)
+
+-- With this row the target of this connection leaves a phase that has begun, for another or for BUS FREE, while it serves this
+-- process; RST is false.
+pub record LeavesPhase (s : ScenarioValue) (rows : List Row) (row : Row) (n : Connection) (p : Process) : Type 0 where
+  pub leaving_row : IsLeaving s rows row n
+  pub served : process_served s (run_state s rows) ≡ Some p
 
 -- ---- how many recoveries a process has
 
@@ -70,3 +78,14 @@ pub record IsLost (s : ScenarioValue) (rows : List Row) (row : Row) (p : Process
 -- The target recovers, or gives up exactly where the limit is spent.
 abbrev pub RecoversUnless : Bool → Type 0 → Type 0 → Type 0
 RecoversUnless spent recovers gives_up = (spent ≡ false → recovers) × (spent ≡ true → gives_up)
+
+-- ---- MESSAGE OUT
+
+-- It was asked for so: because of a selection, or of ATN in MESSAGE IN, DATA IN or STATUS.
+abbrev pub IsAsked : ScenarioValue → List Row → Cause → Type 0
+IsAsked s rows cause = (phase_of (bus rows) ≡ phases.MessageOut) × ((run_state s rows).exchange.plan.cause ≡ cause)
+
+-- The last byte came with ATN false, and no byte was struck since they last began.
+pub record HasTakenAll (k : RunState) : Type 0 where
+  pub last : k.story.bus_state.dialogue.is_last ≡ true
+  pub unstruck : k.exchange.plan.struck ≡ false

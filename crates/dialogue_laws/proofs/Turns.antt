@@ -1,0 +1,107 @@
+-- How many rows of a run leave a phase as a test says, computed; the rows are given the oldest first.
+use Rattle.std.specs.Prelude.{ℕ, ◌+◌, ◌==◌, Bool, true, false, not, ◌&&◌, ◌||◌, List, [], ◌∷◌, Option, Some, None, is_none, is_some, nat_lt}
+use Rattle.bus_due.specs.bus_trace.specs.declared.Row.{Row}
+use Rattle.bus_due.specs.bus_trace.specs.declared.connection.Connection.{Connection}
+use Rattle.bus_due.specs.bus_trace.specs.Phases.{changes_phase}
+use Rattle.bus_due.specs.scenario.specs.Value.{ScenarioValue}
+use Rattle.bus_due.specs.disk_array.specs.Processes.{Process}
+use Rattle.bus_due.specs.bus_story.specs.BusState.{RowReading, row_reading}
+use Rattle.bus_due.specs.bus_dialogue.specs.NextPhase.{phase_of}
+use Rattle.bus_due.specs.bus_dialogue.specs.PhaseBytes.{one_if}
+use Rattle.bus_due.specs.bus_dialogue.specs.Words.{is_naming}
+use Rattle.bus_due.specs.bus_dialogue.specs.declared.exchange.Arrival.{Arrival}
+use Rattle.bus_due.specs.bus_dialogue.specs.declared.exchange.Arrival.TheVariants as arrivals
+use Rattle.bus_due.specs.bus_dialogue.specs.declared.exchange.Cause.{Cause}
+use Rattle.bus_due.specs.bus_dialogue.specs.declared.exchange.Cause.TheVariants as causes
+use Rattle.bus_due.specs.bus_dialogue.specs.declared.exchange.Next.{Next}
+use Rattle.bus_due.specs.bus_dialogue.specs.declared.exchange.Next.TheVariants as nexts
+use Rattle.bus_due.specs.bus_dialogue.specs.declared.exchange.Phase.{Phase}
+use Rattle.bus_due.specs.bus_dialogue.specs.declared.exchange.Phase.TheVariants as phases
+use Rattle.bus_due.specs.RunState.{RunState, bus_of, process_served}
+use Rattle.bus_due.specs.RunSteps.{run_state_after}
+use Rattle.bus_due.specs.Tasks.{arrival_of}
+use Rattle.dialogue_laws.specs.Recoveries.{is_spent}
+use Rattle.dialogue_laws.specs.Runs.{all_runs, has_data_left, policy_at, runs_of}
+
+abbrev pub Test : Type 0
+Test = ScenarioValue → RunState → Connection → Process → Bool
+
+-- ---- rows
+
+abbrev leaves : RunState → RowReading → Bool
+leaves k d = k.exchange.begun && not (bus_of k).rst && not d.change.after.rst && (changes_phase d.change || not (is_some d.next))
+
+abbrev holds_of : Test → ScenarioValue → RunState → Option Connection → Option Process → Bool
+holds_of test s k None p = false
+holds_of test s k (Some n) None = false
+holds_of test s k (Some n) (Some p) = test s k n p
+
+abbrev pub turns_from : Test → ScenarioValue → RunState → List Row → ℕ
+turns_from test s k [] = 0
+turns_from test s k (row ∷ rows) =
+    one_if (leaves k (row_reading k.story.bus_state row) && holds_of test s k k.story.bus_state.connection (process_served s k))
+    + turns_from test s (run_state_after s k row) rows
+
+-- ---- tests
+
+abbrev number : Phase → ℕ
+number phases.DataOut = 0
+number phases.DataIn = 1
+number phases.Command = 2
+number phases.Status = 3
+number phases.MessageOut = 4
+number phases.MessageIn = 5
+
+abbrev is_in : Phase → RunState → Bool
+is_in phase k = number (phase_of (bus_of k)) == number phase
+
+abbrev same : Bool → Bool → Bool
+same true b = b
+same false b = not b
+
+-- A byte to the target was struck, and its limit is spent or not.
+abbrev pub struck_in : Phase → Bool → Test
+struck_in phase spent s k n p = is_in phase k && k.exchange.plan.struck && same spent (is_spent s k n p)
+
+abbrev is_cause : Cause → Cause → Bool
+is_cause causes.Selected causes.Selected = true
+is_cause causes.InMessage causes.InMessage = true
+is_cause causes.InData causes.InData = true
+is_cause causes.InStatus causes.InStatus = true
+is_cause _ _ = false
+
+-- The initiator complains.
+abbrev pub complains_of : Cause → Bool → Test
+complains_of cause spent s k n p =
+    is_in phases.MessageOut k && is_cause cause k.exchange.plan.cause && is_none k.exchange.plan.said.offer && not (is_naming k.exchange.plan.messages.first)
+    && same spent (is_spent s k n p)
+
+abbrev pub complains_of_names : Test
+complains_of_names s k n p = is_in phases.MessageOut k && is_cause causes.InMessage k.exchange.plan.cause && is_none k.exchange.plan.said.offer && is_naming k.exchange.plan.messages.first
+
+abbrev pub run_done : Bool → Test
+run_done more s k n p =
+    ((is_in phases.DataIn k && not (bus_of k).atn) || (is_in phases.DataOut k && not k.exchange.plan.struck)) && same more (nat_lt (runs_of k p + 1) (all_runs s k n p))
+
+abbrev is_arrival : Arrival → Arrival → Bool
+is_arrival arrivals.Refused arrivals.Refused = true
+is_arrival arrivals.Queued arrivals.Queued = true
+is_arrival arrivals.Guest arrivals.Guest = true
+is_arrival arrivals.AtOnce arrivals.AtOnce = true
+is_arrival _ _ = false
+
+abbrev pub arrives_as : Arrival → Bool → Test
+arrives_as a more s k n p = is_in phases.Command k && not k.exchange.plan.struck && is_arrival a (arrival_of s k (policy_at s n)) && same more (has_data_left s k n p)
+
+abbrev is_next : Next → Next → Bool
+is_next nexts.Command nexts.Command = true
+is_next nexts.Status nexts.Status = true
+is_next nexts.GoOn nexts.GoOn = true
+is_next nexts.FreeBus nexts.FreeBus = true
+is_next _ _ = false
+
+abbrev pub said : Next → Bool → Test
+said next more s k n p = is_in phases.MessageIn k && not (bus_of k).atn && is_next next k.exchange.plan.next && same more (has_data_left s k n p)
+
+abbrev pub said_out : Test
+said_out s k n p = is_in phases.MessageOut k

@@ -1,0 +1,65 @@
+// The law of recoveries, named by the contract of a function that does nothing.
+
+ghost use Rattle.std.specs.Prelude.{◌≡◌, true, false, List, ◌∷◌, None};
+ghost use Rattle.bus_due.specs.bus_trace.specs.Trace.{bus};
+ghost use Rattle.bus_due.specs.bus_trace.specs.declared.Row.{Row};
+ghost use Rattle.bus_due.specs.bus_trace.specs.declared.connection.Connection.{Connection};
+ghost use Rattle.bus_due.specs.cdb_codec.specs.declared.sense.TheConstants.{INITIATOR_DETECTED_ERROR, PARITY_ERROR};
+ghost use Rattle.bus_due.specs.msg_grammar.specs.declared.message.MsgIn.TheVariants as to_initiator;
+ghost use Rattle.bus_due.specs.scenario.specs.Value.{ScenarioValue};
+ghost use Rattle.bus_due.specs.scenario.specs.Writing.{Obeys};
+ghost use Rattle.bus_due.specs.disk_array.specs.Processes.{Process};
+ghost use Rattle.bus_due.specs.bus_dialogue.specs.Exchange.{one_message};
+ghost use Rattle.bus_due.specs.bus_dialogue.specs.NextPhase.{phase_of};
+ghost use Rattle.bus_due.specs.bus_dialogue.specs.Words.{is_naming};
+ghost use Rattle.bus_due.specs.bus_dialogue.specs.declared.exchange.Cause.TheVariants as causes;
+ghost use Rattle.bus_due.specs.bus_dialogue.specs.declared.exchange.Next.TheVariants as nexts;
+ghost use Rattle.bus_due.specs.bus_dialogue.specs.declared.exchange.Phase.TheVariants as phases;
+ghost use Rattle.bus_due.specs.Next.{IsPrompt};
+ghost use Rattle.bus_due.specs.RunSteps.{run_state};
+ghost use Rattle.progress_laws.specs.bus_books.specs.WrongParity.{is_struck_phase};
+ghost use Rattle.dialogue_laws.specs.Recoveries.{FailsWith, HasTakenAll, IsAsked, IsLost, LeavesPhase, Recovers, RecoversUnless, Repeats, is_spent};
+
+/// As the target leaves a phase in which parity was wrong it recovers, or gives up the process, and that exactly where
+/// the recovery would count and as many were counted as its limit; in a connection of an initiator that stands in the
+/// hold of the unit none counts. Where a byte of COMMAND (`command`) or of DATA OUT (`data_out`) was struck, and where
+/// the initiator complains of DATA IN (`data_in`) or of STATUS (`status`), it says RESTORE POINTERS and means to go
+/// through the phase again; a message of which the initiator complains is said again, with those after it (`message`).
+/// It gives up with STATUS, as the process fails, or with BUS FREE, as it is lost. The messages that name a reselected
+/// process come again without limit (`names`), and MESSAGE OUT is left with all its bytes taken in good order (`out`).
+pub fn wrong_parity_is_recovered()
+    ensures command { (s : ScenarioValue) (rows : List Row) (row : Row) (n : Connection) (p : Process) → Obeys s
+        → IsPrompt s (row ∷ rows) → LeavesPhase s rows row n p → phase_of (bus rows) ≡ phases.Command
+        → is_struck_phase s rows ≡ true → RecoversUnless (is_spent s (run_state s rows) n p)
+        (Recovers s rows row p (one_message to_initiator.RestorePointers) nexts.Command)
+        (FailsWith s rows row p PARITY_ERROR) }
+    ensures data_out { (s : ScenarioValue) (rows : List Row) (row : Row) (n : Connection) (p : Process) → Obeys s
+        → IsPrompt s (row ∷ rows) → LeavesPhase s rows row n p → phase_of (bus rows) ≡ phases.DataOut
+        → is_struck_phase s rows ≡ true → RecoversUnless (is_spent s (run_state s rows) n p)
+        (Recovers s rows row p (one_message to_initiator.RestorePointers) nexts.GoOn)
+        (FailsWith s rows row p PARITY_ERROR) }
+    ensures data_in { (s : ScenarioValue) (rows : List Row) (row : Row) (n : Connection) (p : Process) → Obeys s
+        → IsPrompt s (row ∷ rows) → LeavesPhase s rows row n p → IsAsked s rows causes.InData
+        → RecoversUnless (is_spent s (run_state s rows) n p)
+        (Recovers s rows row p (one_message to_initiator.RestorePointers) nexts.GoOn)
+        (FailsWith s rows row p INITIATOR_DETECTED_ERROR) }
+    ensures status { (s : ScenarioValue) (rows : List Row) (row : Row) (n : Connection) (p : Process) → Obeys s
+        → IsPrompt s (row ∷ rows) → LeavesPhase s rows row n p → IsAsked s rows causes.InStatus
+        → RecoversUnless (is_spent s (run_state s rows) n p)
+        (Recovers s rows row p (one_message to_initiator.RestorePointers) nexts.Status) (IsLost s rows row p) }
+    ensures message { (s : ScenarioValue) (rows : List Row) (row : Row) (n : Connection) (p : Process) → Obeys s
+        → IsPrompt s (row ∷ rows) → LeavesPhase s rows row n p → IsAsked s rows causes.InMessage
+        → (run_state s rows).exchange.plan.said.offer ≡ None
+        → is_naming (run_state s rows).exchange.plan.messages.first ≡ false
+        → RecoversUnless (is_spent s (run_state s rows) n p)
+        (Recovers s rows row p (run_state s rows).exchange.plan.messages (run_state s rows).exchange.plan.next)
+        (IsLost s rows row p) }
+    ensures names { (s : ScenarioValue) (rows : List Row) (row : Row) (n : Connection) (p : Process) → Obeys s
+        → IsPrompt s (row ∷ rows) → LeavesPhase s rows row n p → IsAsked s rows causes.InMessage
+        → (run_state s rows).exchange.plan.said.offer ≡ None
+        → is_naming (run_state s rows).exchange.plan.messages.first ≡ true
+        → Repeats s rows row p (run_state s rows).exchange.plan.messages (run_state s rows).exchange.plan.next false }
+    ensures out { (s : ScenarioValue) (rows : List Row) (row : Row) (n : Connection) (p : Process) → Obeys s
+        → IsPrompt s (row ∷ rows) → LeavesPhase s rows row n p → phase_of (bus rows) ≡ phases.MessageOut
+        → HasTakenAll (run_state s rows) }
+{}
