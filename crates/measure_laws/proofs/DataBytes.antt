@@ -9,7 +9,7 @@ use Rattle.bus_due.specs.bus_story.specs.Budget.{runs_by}
 use Rattle.bus_due.specs.bus_dialogue.specs.DataRuns.{DataRun, run_by, run_in, runs_in}
 use Rattle.measure_laws.specs.Future.{bytes_over, cut_bytes}
 
-abbrev length_of : DataRun → ℕ
+abbrev pub length_of : DataRun → ℕ
 length_of r = r.end - r.start
 
 first_only : (made need moved : ℕ) → made < 1 → moved ≤ need → moved - 0 + (if made + 1 == 0 then need else 0) ≤ (if made == 0 then need else 0)
@@ -56,7 +56,7 @@ cut_run (policies.NoSave most) blocks size need moved made h lt =
     two_goes made need (if made == 0 && nat_lt (most * size) moved then most * size else moved) (few_goes (nat_le blocks most) made lt)
     (part_end (made == 0 && nat_lt (most * size) moved) (most * size) need moved (λ e. ltb-true (most * size) moved (second (made == 0) (nat_lt (most * size) moved) e)) h)
 
-abbrev blocks_of : Option (ℕ × ℕ) → Option ℕ
+abbrev pub blocks_of : Option (ℕ × ℕ) → Option ℕ
 blocks_of None = None
 blocks_of (Some range) = Some range.1
 

@@ -1,6 +1,6 @@
 -- What follows where the measure falls with each row: a prompt trace stays within the budget, and a run ends.
 use Rattle.std.proofs.Common.{ℕ, zero, suc, ◌≡◌, ◌≤◌, ◌<◌, ◌∙◌, Bool, true, false, List, [], ◌∷◌, length, refl, sym, arith, Option, Some, None}
-use Rattle.std.specs.Prelude.{◌+◌, ◌/◌, min, if◌then◌else◌}
+use Rattle.std.specs.Prelude.{◌+◌, ◌-◌, ◌/◌, ◌^◌, if◌then◌else◌}
 use Rattle.bus_due.specs.bus_base.proofs.Tests.{wrong}
 use Rattle.bus_due.specs.bus_trace.specs.declared.Row.{Row}
 use Rattle.bus_due.specs.scenario.specs.Value.{ScenarioValue}
@@ -69,10 +69,7 @@ runs_end falls s o = go (run_by_due s (budget s)).ended refl
     go true e = (run_is s (budget s)).ended e
     go false e = absurd (too_long (length r.rows) (budget s) (unended s (budget s) _ e) (within falls s r.rows o (run_is s (budget s)).prompt))
 
--- ---- the limit of a run, which is cut at 2^32 - 1 rows
+-- ---- and it has few rows for a number of 32 bits
 
-below_both : (n m at x y : ℕ) → n + m ≤ at → suc n ≤ x → suc at ≤ y → suc n ≤ min x y
-below_both n m at x y h f g = grind arith
-
-pub within_limit : Falls → (s : ScenarioValue) (rows : List Row) → Obeys s → IsPrompt s rows → measure s [] < 4294967295 → length rows < min (budget s / 8) 4294967295
-within_limit falls s rows o p small = below_both (length rows) (measure s rows) (measure s []) (budget s / 8) 4294967295 (counted falls s rows o p) (within falls s rows o p) small
+pub few_rows : Falls → (s : ScenarioValue) (rows : List Row) → Obeys s → IsPrompt s rows → measure s [] < 2 ^ 32 - 1 → length rows < 2 ^ 32 - 1
+few_rows falls s rows o p small = below (length rows) (measure s rows) (measure s []) (2 ^ 32 - 1) (counted falls s rows o p) small

@@ -1,4 +1,4 @@
-use Rattle.measure_laws.proofs.Finish.{runs_end, stays_within, within, within_limit}
+use Rattle.measure_laws.proofs.Finish.{few_rows, runs_end, stays_within, within}
 use Rattle.measure_laws.proofs.FallsWhole.{falls}
 use Rattle.measure_laws.proofs.SmallStart.{small_start}
 use Rattle.measure_laws.proofs.Start.{starts}
@@ -14,7 +14,7 @@ pub returns-clause-few : goal.returns-clause-few
 returns-clause-few c = λ s rows o p. within falls s rows o p
 
 pub returns-clause-small : goal.returns-clause-small
-returns-clause-small c = λ s rows o p. within_limit falls s rows o p (small_start s o)
+returns-clause-small c = λ s rows o p. few_rows falls s rows o p (small_start s o)
 
 pub returns-clause-within : goal.returns-clause-within
 returns-clause-within c = λ s rows o p. stays_within falls s rows o p
