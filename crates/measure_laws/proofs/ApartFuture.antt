@@ -1,6 +1,6 @@
 -- What a row without a connection leaves of what is still to come of the scenario's lines.
 use Rattle.std.proofs.Common.{ℕ, ◌≡◌, ◌<◌, ◌∙◌, Bool, false, ◌&&◌, List, [], ◌∷◌, length, Option, None, refl, sym, ap}
-use Rattle.std.specs.Prelude.{◌+◌, ◌*◌, if◌then◌else◌}
+use Rattle.std.specs.Prelude.{◌+◌, ◌*◌}
 use Rattle.bus_due.specs.bus_base.specs.declared.Event.{Event}
 use Rattle.bus_due.specs.bus_trace.specs.declared.Row.{Row}
 use Rattle.bus_due.specs.bus_trace.specs.declared.changes.Change.{Change}
@@ -13,7 +13,7 @@ use Rattle.bus_due.specs.scenario.specs.declared.value.FaultDef.{FaultDef}
 use Rattle.bus_due.specs.scenario.specs.Value.{ScenarioValue}
 use Rattle.bus_due.specs.bus_story.specs.BusState.{row_reading}
 use Rattle.bus_due.specs.bus_story.specs.HistoryEvents.{row_events_by}
-use Rattle.bus_due.specs.bus_story.specs.Items.{Item, Sent, command_id, command_item, has_item}
+use Rattle.bus_due.specs.bus_story.specs.Items.{Item, Sent, command_id, command_item}
 use Rattle.bus_due.specs.bus_story.specs.Story.{Story}
 use Rattle.bus_due.specs.bus_story.specs.TraceHistory.{story_by_change, story_on_free_bus}
 use Rattle.bus_due.specs.bus_dialogue.specs.Hearing.{begun, begun_after}
@@ -24,16 +24,15 @@ use Rattle.bus_due.specs.RunSteps.{leaving_of, progress_after, run_state, run_st
 use Rattle.bus_due.proofs.Plains.{run_state_plain}
 use Rattle.progress_laws.specs.bus_laws.proofs.Apart.{change_plain, nothing_shown, on_free}
 use Rattle.progress_laws.specs.trace_laws.proofs.ItemSteps.{free_still}
-use Rattle.measure_laws.specs.Future.{aborts_left, command_left, commands_left, future_left, is_in_data, open_left, resets_left, sense_left, serves_item, unsent_left}
+use Rattle.measure_laws.specs.Future.{aborts_left, command_left, commands_left, future_left, is_in_data, open_left, resets_left, serves_item}
 use Rattle.measure_laws.specs.Weights.{for_fault, for_reset}
+use Rattle.measure_laws.proofs.Lowers.{left_by}
 
 -- ---- commands, by what is sent, served and made
 
 abbrev pub command_by : ScenarioValue → Sent → Option Item → Bool → List ProcessProgress → ℕ → CmdDef → ℕ
 command_by s b served moves made n c =
-    if has_item b.over (command_item n) then sense_left b n
-    else if has_item b.sent (command_item n) then open_left s (serves_item served (command_item n)) moves (progress_in made (command_id n)).runs c
-    else unsent_left s b n c
+    left_by s b (open_left s (serves_item served (command_item n)) moves (progress_in made (command_id n)).runs c) n c
 
 abbrev pub commands_by : ScenarioValue → Sent → Option Item → Bool → List ProcessProgress → ℕ → List CmdDef → ℕ
 commands_by s b served moves made n [] = 0

@@ -1,39 +1,34 @@
 -- The measure falls as REQ rises, first in the phase or again byte by byte, where fewer requests are left after it.
-use Rattle.std.proofs.Common.{ℕ, suc, zero, ◌≡◌, ◌≤◌, ◌<◌, ◌∙◌, Bool, true, false, List, ◌∷◌, length, refl, sym, ap, subst, arith, Option, Some, None}
-use Rattle.std.specs.Prelude.{◌+◌, ◌-◌, ◌*◌, ◌==◌, if◌then◌else◌, not, ◌&&◌, ◌^◌, nat_lt}
+use Rattle.std.proofs.Common.{ℕ, suc, ◌≡◌, ◌≤◌, ◌<◌, ◌∙◌, Bool, true, false, List, ◌∷◌, length, refl, sym, ap, subst, arith}
+use Rattle.std.specs.Prelude.{◌+◌, ◌-◌, ◌^◌}
 use Rattle.bus_due.specs.bus_base.specs.Faults.{counted_on}
-use Rattle.bus_due.specs.bus_trace.specs.LineSet.{LineSet}
 use Rattle.bus_due.specs.bus_trace.specs.declared.Row.{Row}
 use Rattle.bus_due.specs.bus_trace.specs.declared.connection.Connection.{Connection}
-use Rattle.bus_due.specs.bus_lines.specs.Handshakes.{Handshakes, answered_if, asked, asked_if, handshakes, no_handshakes}
+use Rattle.bus_due.specs.bus_lines.specs.Handshakes.{asked, handshakes, no_handshakes}
 use Rattle.bus_due.specs.scenario.specs.Value.{ScenarioValue}
 use Rattle.bus_due.specs.bus_reactions.specs.declared.ends.Answering.{Answering}
 use Rattle.bus_due.specs.bus_reactions.specs.declared.ends.Offering.{Offering}
 use Rattle.bus_due.specs.bus_dialogue.specs.Exchange.{bytes_of_messages}
 use Rattle.bus_due.specs.bus_dialogue.specs.Hearing.{begun}
 use Rattle.bus_due.specs.Plain.{AreOfDevices}
-use Rattle.bus_due.specs.RunState.{RunState}
 use Rattle.bus_due.specs.RunSteps.{run_state}
 use Rattle.bus_due.specs.Sights.{answering_of, offering_of}
-use Rattle.progress_laws.specs.bus_laws.specs.Ends.{EndLines, Linked, connected_bus, initiator_side, target_side}
-use Rattle.progress_laws.specs.bus_laws.specs.Rows.{row_of_lines}
+use Rattle.progress_laws.specs.bus_laws.specs.Ends.{EndLines, Linked, connected_bus, target_side}
 use Rattle.progress_laws.specs.link_laws.specs.Phases.{Offering as Offered, Settling, Shaking, ends}
 use Rattle.progress_laws.specs.link_laws.specs.Pulses.{run_count}
-use Rattle.progress_laws.specs.link_laws.proofs.Moves.{no_rise, target_in_phase}
+use Rattle.progress_laws.specs.link_laws.proofs.Moves.{target_in_phase}
 use Rattle.progress_laws.specs.link_laws.proofs.Shakes.{target_row}
 use Rattle.progress_laws.specs.bus_books.specs.WrongParity.{is_refusing}
 use Rattle.progress_laws.specs.trace_laws.proofs.LinkRows.{is_pulsed}
-use Rattle.measure_laws.specs.Future.{one_where}
 use Rattle.measure_laws.specs.Measure.{measure}
-use Rattle.measure_laws.specs.Turns.{has_next_byte, is_driven, requests_left}
-use Rattle.measure_laws.specs.Weights.{for_byte}
+use Rattle.measure_laws.specs.Turns.{has_next_byte, requests_left}
 use Rattle.measure_laws.proofs.ByteRows.{shift_target}
 use Rattle.measure_laws.proofs.Calm.{way_by}
 use Rattle.measure_laws.proofs.PhaseStays.{phases_stay}
 use Rattle.measure_laws.proofs.PulseRows.{count_falls, one_at_most}
 use Rattle.measure_laws.proofs.Shakes.{asks}
-use Rattle.measure_laws.proofs.ShakeRows.{in_left, in_next, out_left, out_next, requests_in, requests_out}
-use Rattle.measure_laws.proofs.Shifts.{Shifts, shift_falls}
+use Rattle.measure_laws.proofs.ShakeRows.{eight_sum, in_left, in_next, out_left, out_next, requests_in, requests_out}
+use Rattle.measure_laws.proofs.Shifts.{shift_falls}
 
 -- The first request of a phase, by pulses or not.
 first_way : (u bsy atn msg cd io : Bool) (y t : ℕ) (g f : Offering) (a b : Answering)
@@ -44,12 +39,9 @@ first_way true bsy atn msg cd io y t g f a b =
     let next = one_at_most (has_next_byte true (connected_bus e) (asked t no_handshakes) (target_side e) f) in
     omega (arith, next)
 
-eight_sum : (r s w v : ℕ) → suc r ≤ s → suc w ≤ 8 + v → suc (8 * r + w) ≤ 8 * s + v
-eight_sum r s w v a b = omega (arith, a, b)
-
 asks_by : (s : ScenarioValue) (p : List Row) (t : ℕ) (n : Connection) (bsy atn msg cd io : Bool) (y : ℕ) (u : Bool) → AreOfDevices p → Linked p n (ends bsy false atn 0 msg cd io false y) → begun p ≡ true → is_pulsed p (ends bsy false atn 0 msg cd io false y) ≡ u
     → suc (way_by u (ends bsy false atn 0 msg cd io true y) (handshakes (target_row t n (ends bsy false atn 0 msg cd io true y) ∷ p)) (offering_of s (run_state s (target_row t n (ends bsy false atn 0 msg cd io true y) ∷ p)) n.target) (answering_of s (run_state s (target_row t n (ends bsy false atn 0 msg cd io true y) ∷ p)) n.initiator))
-        ≤ 8 + way_by u (ends bsy false atn 0 msg cd io false y) (handshakes p) (offering_of s (run_state s p) n.target) (answering_of s (run_state s p) n.initiator)
+    ≤ 8 + way_by u (ends bsy false atn 0 msg cd io false y) (handshakes p) (offering_of s (run_state s p) n.target) (answering_of s (run_state s p) n.initiator)
     → suc (requests_left s (run_state s (target_row t n (ends bsy false atn 0 msg cd io true y) ∷ p)) n.target) ≤ requests_left s (run_state s p) n.target
     → suc (measure s (target_row t n (ends bsy false atn 0 msg cd io true y) ∷ p)) ≤ measure s p
 asks_by s p t n bsy atn msg cd io y u dv h b z way left =

@@ -1,16 +1,14 @@
 -- Byte by byte no more requests are answered than rose, and at most one waits: while REQ is true and ACK false.
-use Rattle.std.proofs.Common.{ℕ, suc, zero, ◌≡◌, ◌≤◌, ◌<◌, ◌∙◌, Bool, true, false, List, [], ◌∷◌, length, refl, sym, ap, subst, arith, Option, Some, None}
-use Rattle.std.specs.Prelude.{◌+◌, ◌-◌, ◌*◌, ◌==◌, ◌^◌, if◌then◌else◌, not, ◌&&◌, ◌||◌, is_some, nat_lt}
-use Rattle.bus_due.specs.bus_base.proofs.Tests.{wrong, wrong'}
+use Rattle.std.proofs.Common.{ℕ, ◌≡◌, ◌≤◌, ◌<◌, Bool, true, false, List, ◌∷◌, refl, sym, subst, arith}
+use Rattle.std.specs.Prelude.{◌+◌, ◌^◌, not, ◌&&◌}
 use Rattle.bus_due.specs.bus_trace.specs.Changes.{rises}
 use Rattle.bus_due.specs.bus_trace.specs.LineSet.{LineSet}
-use Rattle.bus_due.specs.bus_trace.specs.Trace.{bus, drives, last_time}
+use Rattle.bus_due.specs.bus_trace.specs.Trace.{bus, drives}
 use Rattle.bus_due.specs.bus_trace.specs.declared.Row.{Row}
 use Rattle.bus_due.specs.bus_trace.specs.declared.connection.Connection.{Connection}
 use Rattle.bus_due.specs.bus_lines.specs.Handshakes.{Handshakes, answered_if, asked_if, handshakes, no_handshakes, strikes_if}
-use Rattle.bus_due.specs.scenario.specs.Value.{ScenarioValue}
-use Rattle.progress_laws.specs.bus_laws.specs.Ends.{EndLines, Linked, connected_bus, initiator_side, target_side}
-use Rattle.progress_laws.specs.bus_laws.specs.Rows.{change_to, row_of_fault, row_of_lines}
+use Rattle.progress_laws.specs.bus_laws.specs.Ends.{EndLines, Linked, connected_bus}
+use Rattle.progress_laws.specs.bus_laws.specs.Rows.{change_to, row_of_fault}
 use Rattle.progress_laws.specs.bus_laws.proofs.Rows.{fault_change}
 use Rattle.progress_laws.specs.link_laws.specs.Phases.{ends}
 use Rattle.progress_laws.specs.link_laws.proofs.Faults.{linked_fault}

@@ -4,13 +4,13 @@ use Rattle.std.specs.Prelude.{if◌then◌else◌, is_some, length, not, ◌&&�
 use Rattle.bus_due.specs.bus_base.proofs.Tests.{wrong, wrong'}
 use Rattle.bus_due.specs.bus_trace.specs.Phases.{changes_phase}
 use Rattle.bus_due.specs.bus_trace.specs.Terms.{connection, receiver_in}
-use Rattle.bus_due.specs.bus_trace.specs.Trace.{bus, drives, last_time}
+use Rattle.bus_due.specs.bus_trace.specs.Trace.{drives, last_time}
 use Rattle.bus_due.specs.bus_trace.specs.declared.changes.Change.{Change}
 use Rattle.bus_due.specs.bus_trace.proofs.Sets.{same_self}
 use Rattle.bus_due.specs.bus_phases.specs.Dialogue.{byte_crosses, dialogue, phase_begins}
 use Rattle.bus_due.specs.bus_trace.specs.declared.Row.{Row}
 use Rattle.bus_due.specs.bus_trace.specs.declared.connection.Connection.{Connection}
-use Rattle.bus_due.specs.bus_lines.specs.Handshakes.{Handshakes, handshakes, no_handshakes}
+use Rattle.bus_due.specs.bus_lines.specs.Handshakes.{handshakes, no_handshakes}
 use Rattle.bus_due.specs.scenario.specs.Value.{ScenarioValue}
 use Rattle.bus_due.specs.bus_dialogue.specs.declared.exchange.Leaving.{Leaving}
 use Rattle.bus_due.specs.bus_dialogue.specs.declared.exchange.Phase.{Phase}
@@ -20,12 +20,11 @@ use Rattle.bus_due.specs.bus_dialogue.specs.NextPhase.{Serving, phase_of, phase_
 use Rattle.bus_due.specs.bus_dialogue.specs.PhaseBytes.{lines_by}
 use Rattle.bus_due.specs.RunSteps.{run_state}
 use Rattle.bus_due.specs.Sights.{serving_at}
-use Rattle.progress_laws.specs.bus_laws.specs.Ends.{EndLines, Linked, connected_bus, ends_selected, initiator_side, target_side}
+use Rattle.progress_laws.specs.bus_laws.specs.Ends.{EndLines, Linked, connected_bus, ends_selected, target_side}
 use Rattle.progress_laws.specs.bus_laws.specs.Rows.{change_to, row_of_fault, row_of_lines}
 use Rattle.progress_laws.specs.bus_laws.proofs.Rows.{fault_change}
 use Rattle.progress_laws.specs.link_laws.specs.LinkStages.{LinkStage, when_offering, when_pulsing, when_selected, when_settling, when_shaking, when_turning}
 use Rattle.progress_laws.specs.link_laws.specs.Phases.{ends}
-use Rattle.progress_laws.specs.link_laws.proofs.EndDues.{offering_with}
 use Rattle.progress_laws.specs.link_laws.proofs.Faults.{linked_fault}
 use Rattle.progress_laws.specs.link_laws.proofs.Moves.{initiator_in_phase, initiator_moves, no_rise, target_in_phase, target_moves, terms_after, terms_of}
 use Rattle.progress_laws.specs.link_laws.proofs.Shakes.{initiator_row, target_row}
@@ -38,8 +37,8 @@ use Rattle.progress_laws.specs.trace_laws.proofs.Tests.{none_both}
 use Rattle.progress_laws.specs.trace_laws.proofs.Turns.{freed_connection}
 use Rattle.measure_laws.proofs.Balance.{BalancedAt, IsBalanced, balanced_anew, balanced_initiator, balanced_struck, balanced_target, ends_ack, ends_req, none_balanced, rises_ack, rises_req, stays}
 use Rattle.measure_laws.proofs.ByteRows.{pulsed_stays}
-use Rattle.measure_laws.proofs.PhaseRows as kinds
-use Rattle.measure_laws.proofs.PhaseRows.{PhaseRow}
+use Rattle.progress_laws.specs.trace_laws.proofs.PhaseRows as kinds
+use Rattle.progress_laws.specs.trace_laws.proofs.PhaseRows.{PhaseRow}
 
 -- ---- the phase is left
 

@@ -1,6 +1,6 @@
 -- Of each prompt trace: the kind of a row of a connection; and byte by byte no more requests are answered than rose, and at most one waits.
-use Rattle.std.proofs.Common.{ℕ, ◌≡◌, ◌≤◌, ◌∙◌, Bool, true, false, List, [], ◌∷◌, refl, sym, ap, subst, arith, Option, Some, None}
-use Rattle.std.specs.Prelude.{not, ◌&&◌, ◌==◌}
+use Rattle.std.proofs.Common.{◌≡◌, ◌≤◌, ◌∙◌, true, false, List, [], ◌∷◌, refl, sym, ap, arith, Some}
+use Rattle.std.specs.Prelude.{not, ◌&&◌}
 use Rattle.bus_due.specs.bus_base.proofs.Tests.{wrong}
 use Rattle.bus_due.specs.bus_trace.specs.LineSet.{LineSet}
 use Rattle.bus_due.specs.bus_trace.specs.Terms.{connection}
@@ -15,22 +15,19 @@ use Rattle.bus_due.specs.scenario.specs.Writing.{Obeys}
 use Rattle.bus_due.specs.bus_dialogue.specs.Hearing.{begun}
 use Rattle.bus_due.specs.Least.{IsLeast}
 use Rattle.bus_due.specs.Next.{IsPrompt, due}
-use Rattle.bus_due.specs.Plain.{AreOfDevices}
 use Rattle.progress_laws.specs.bus_laws.specs.Ends.{BeginsConnection, by_reselection, by_selection}
 use Rattle.progress_laws.specs.bus_laws.specs.Rows.{row_of_lines}
 use Rattle.progress_laws.specs.bus_laws.proofs.Prompt.{least_is}
 use Rattle.progress_laws.specs.bus_laws.proofs.Rows.{drives_own}
 use Rattle.progress_laws.specs.bus_laws.proofs.Together.{by_calm, by_reset, reset_or_calm}
-use Rattle.progress_laws.specs.link_laws.specs.LinkStages.{LinkStage}
 use Rattle.progress_laws.specs.trace_laws.specs.RunCounts.{pulses_here}
 use Rattle.progress_laws.specs.trace_laws.proofs.ConnectionRows.{RowKindOf, begins_now, goes_now, row_kind, stage_of_connection}
-use Rattle.progress_laws.specs.trace_laws.proofs.FirstRows.{IsFirst}
-use Rattle.progress_laws.specs.trace_laws.proofs.Impossible.{none_some}
 use Rattle.progress_laws.specs.trace_laws.proofs.Joint.{Stood}
 use Rattle.progress_laws.specs.trace_laws.proofs.Whole.{whole}
 use Rattle.measure_laws.proofs.Balance.{BalancedAt, balanced_anew}
 use Rattle.measure_laws.proofs.BalanceRows.{balance_step}
-use Rattle.measure_laws.proofs.PhaseRows.{PhaseRow, phase_row}
+use Rattle.progress_laws.specs.trace_laws.proofs.PhaseRows.{PhaseRow, phase_row}
+use Rattle.measure_laws.specs.Future.{one_where}
 
 -- The kind of a row of a connection.
 pub kind_of_row : (s : ScenarioValue) (p : List Row) (row : Row) (n : Connection) → Obeys s → IsPrompt s (row ∷ p) → Stood s p → connection p ≡ Some n → (bus p).rst ≡ false → (bus (row ∷ p)).rst ≡ false → PhaseRow s p n row
@@ -64,5 +61,5 @@ balanced s (row ∷ p) o prompt n con calm b u =
 pub all_answered : (s : ScenarioValue) (p : List Row) → Obeys s → IsPrompt s p → (n : Connection) → connection p ≡ Some n → (bus p).rst ≡ false → begun p ≡ true → pulses_here p ≡ false → ((bus p).req && not (bus p).ack) ≡ false → (handshakes p).requests ≤ (handshakes p).answers
 all_answered s p o prompt n con calm b u low =
     let few = (balanced s p o prompt n con calm b u).few in
-    let none = ap Rattle.measure_laws.specs.Future.one_where low in
+    let none = ap one_where low in
     omega (arith, few, none)

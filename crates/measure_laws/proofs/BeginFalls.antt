@@ -426,7 +426,7 @@ begin_falls s p row n o prompt was alone e = go n.reselected refl
         let same = whole ∙ ap (λ (x : ℕ). future_left s j + 40 + (phases_left (is_refusing s q) j + x + sense_bytes_left (is_in_data j) j.progress j.served + 0)) here in
         subst (λ (x : ℕ). suc x ≤ measure s p) (sym same)
         (selected_less (future_left s j) (future_left s k) (phases_left (is_refusing s q) j) around (sense_bytes_left (is_in_data j) j.progress j.served) (measure s p) pay ahead
-            (few_under_way (pace_of s j n.target).pulsed (bus_of j) j.handshakes (drives_of j n.target) (drives_of j n.initiator) (offering_of s j n.target) (answering_of s j n.initiator) pulsed) (few_sense (is_in_data j) j.progress j.served) most)
+        (few_under_way (pace_of s j n.target).pulsed (bus_of j) j.handshakes (drives_of j n.target) (drives_of j n.initiator) (offering_of s j n.target) (answering_of s j n.initiator) pulsed) (few_sense (is_in_data j) j.progress j.served) most)
 
     reselects : n.reselected ≡ true → suc (measure s q) ≤ measure s p
     reselects re =
@@ -461,7 +461,7 @@ begin_falls s p row n o prompt was alone e = go n.reselected refl
         let same = whole ∙ ap (λ (x : ℕ). future_left s j + 40 + (phases_left (is_refusing s q) j + x + sense_bytes_left (is_in_data j) j.progress j.served + 0)) here in
         subst (λ (x : ℕ). suc x ≤ measure s p) (sym same)
         (reselected_less (future_left s j) (future_left s k) (phases_left (is_refusing s q) j) (requests_left s j n.target) around (sense_bytes_left (is_in_data j) j.progress j.served) (measure s p) pay ahead requests
-            (few_under_way (pace_of s j n.target).pulsed (bus_of j) j.handshakes (drives_of j n.target) (drives_of j n.initiator) (offering_of s j n.target) (answering_of s j n.initiator) pulsed) (few_sense (is_in_data j) j.progress j.served) most)
+        (few_under_way (pace_of s j n.target).pulsed (bus_of j) j.handshakes (drives_of j n.target) (drives_of j n.initiator) (offering_of s j n.target) (answering_of s j n.initiator) pulsed) (few_sense (is_in_data j) j.progress j.served) most)
       where
         first_exchange_plan : Bool → Plan
         first_exchange_plan b = first_plan b (not b && may_negotiate k n (aim_of k.story.aims n.initiator)) (if b then messages_if (ready_of s k n.target) else no_messages)

@@ -1,7 +1,7 @@
 -- Rows of one end in a phase with which neither REQ nor ACK rises, byte by byte or by pulses: what the two ends know stays, and the measure
 -- falls where what is under way does.
-use Rattle.std.proofs.Common.{ℕ, suc, ◌≡◌, ◌≤◌, ◌<◌, ◌∙◌, Bool, true, false, List, ◌∷◌, length, refl, sym, ap, subst, arith, Option, Some, None}
-use Rattle.std.specs.Prelude.{◌+◌, ◌*◌, ◌==◌, if◌then◌else◌, not, ◌&&◌, ◌||◌, nat_lt}
+use Rattle.std.proofs.Common.{ℕ, suc, ◌≡◌, ◌≤◌, ◌∙◌, Bool, true, false, List, ◌∷◌, refl, sym, ap, subst}
+use Rattle.std.specs.Prelude.{◌+◌, ◌*◌, not, ◌&&◌, nat_lt}
 use Rattle.bus_due.specs.bus_trace.specs.LineSet.{LineSet}
 use Rattle.bus_due.specs.bus_trace.specs.Changes.{rises}
 use Rattle.bus_due.specs.bus_trace.specs.Phases.{changes_phase, is_data}
@@ -12,13 +12,11 @@ use Rattle.bus_due.specs.bus_phases.specs.Dialogue.{dialogue}
 use Rattle.bus_due.specs.scenario.specs.Value.{ScenarioValue}
 use Rattle.bus_due.specs.bus_reactions.specs.declared.ends.Answering.{Answering}
 use Rattle.bus_due.specs.bus_reactions.specs.declared.ends.Offering.{Offering}
-use Rattle.bus_due.specs.bus_dialogue.specs.Arrivals.{policy_of}
 use Rattle.bus_due.specs.bus_dialogue.specs.Ends.{is_pulsed_phase}
 use Rattle.bus_due.specs.bus_dialogue.specs.Hearing.{begun}
 use Rattle.bus_due.specs.bus_dialogue.specs.NextPhase.{phase_of}
-use Rattle.bus_due.specs.Defs.{target_def_of}
 use Rattle.bus_due.specs.Plain.{AreOfDevices}
-use Rattle.bus_due.specs.RunState.{RunState, bus_of}
+use Rattle.bus_due.specs.RunState.{bus_of}
 use Rattle.bus_due.specs.RunSteps.{run_state}
 use Rattle.bus_due.specs.Sights.{answering_of, offering_of}
 use Rattle.bus_due.specs.Wishes.{IsStill}

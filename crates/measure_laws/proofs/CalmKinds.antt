@@ -6,10 +6,9 @@ use Rattle.bus_due.specs.bus_base.proofs.Tests.{eq_self}
 use Rattle.bus_due.specs.bus_trace.specs.LineSet.{LineSet}
 use Rattle.bus_due.specs.bus_trace.specs.declared.Row.{Row}
 use Rattle.bus_due.specs.bus_trace.specs.declared.connection.Connection.{Connection}
-use Rattle.bus_due.specs.bus_lines.specs.Handshakes.{Handshakes, handshakes, no_handshakes}
+use Rattle.bus_due.specs.bus_lines.specs.Handshakes.{Handshakes, handshakes}
 use Rattle.bus_due.specs.scenario.specs.Value.{ScenarioValue}
 use Rattle.bus_due.specs.bus_reactions.specs.declared.ends.Offering.{Offering}
-use Rattle.bus_due.specs.bus_reactions.specs.Initiator.{attends_by}
 use Rattle.bus_due.specs.bus_reactions.specs.Target.{bits_if, byte_bits}
 use Rattle.bus_due.specs.bus_dialogue.specs.declared.exchange.Phase.TheVariants as phases
 use Rattle.bus_due.specs.bus_dialogue.specs.Arrivals.{policy_of}
@@ -20,17 +19,16 @@ use Rattle.bus_due.specs.bus_dialogue.specs.PhaseBytes.{follows_in, run_length_i
 use Rattle.bus_due.specs.bus_dialogue.specs.Sending.{Sending}
 use Rattle.bus_due.specs.Defs.{target_def_of}
 use Rattle.bus_due.specs.Plain.{AreOfDevices}
-use Rattle.bus_due.specs.RunState.{RunState, bus_of}
+use Rattle.bus_due.specs.RunState.{bus_of}
 use Rattle.bus_due.specs.RunSteps.{run_state}
 use Rattle.bus_due.specs.Sights.{answering_of, offering_of, sending_of, serving_at}
 use Rattle.bus_due.specs.Tasks.{task_of}
 use Rattle.bus_due.proofs.Plains.{run_state_plain}
-use Rattle.progress_laws.specs.bus_laws.specs.Ends.{EndLines, Linked, connected_bus, initiator_side, target_side}
+use Rattle.progress_laws.specs.bus_laws.specs.Ends.{EndLines, Linked, initiator_side, target_side}
 use Rattle.progress_laws.specs.bus_laws.specs.Rows.{row_of_lines}
 use Rattle.progress_laws.specs.link_laws.specs.Phases.{Settling, Shaking, Turning, ends}
 use Rattle.progress_laws.specs.link_laws.specs.Pulses.{Pulsing, byte_in_run, next_bits, offset_here, run_count}
 use Rattle.progress_laws.specs.link_laws.proofs.DataRows.{DataRow, bytes_stay, count_stays, sending_stays}
-use Rattle.progress_laws.specs.link_laws.proofs.EndDues.{answering_with, offering_with}
 use Rattle.progress_laws.specs.link_laws.proofs.FromLink.{some_byte}
 use Rattle.progress_laws.specs.link_laws.proofs.PulseDues.{given_bits}
 use Rattle.progress_laws.specs.link_laws.proofs.Shakes.{initiator_row, target_row}
@@ -157,7 +155,7 @@ calm_pulse_in s p t d l o n ack atn req ack' atn' req' y y' h c less =
     let kept = data_row s p t d l n e f o c.row c.phase refl in
     let count = count_stays s p row n (turn e f o l) kept in
     let requests : requests_left s j n.target ≡ requests_left s k n.target =
-        data_requests s q n false ack' atn' true req' 0 y' dw c.row.moves.linked ∙ (λ i. count i - (hand i).requests) ∙ sym (data_requests s p n false ack atn true req 0 y dv h.linked) in
+    data_requests s q n false ack' atn' true req' 0 y' dw c.row.moves.linked ∙ (λ i. count i - (hand i).requests) ∙ sym (data_requests s p n false ack atn true req 0 y dv h.linked) in
     let still = calm_still s p t d l n e f o true c in
     let off : nat_lt 0 (offset_here q) ≡ true = offset_stays s p t d l n e f o true c ∙ h.offset in
     let was = bits_at s p n ack atn req 0 y dv h.linked h.phase.begun_is h.offset in
@@ -173,7 +171,7 @@ calm_pulse_in s p t d l o n ack atn req ack' atn' req' y y' h c less =
 calm_pulse_out : (s : ScenarioValue) (p : List Row) (t d : ℕ) (l o : LineSet) (n : Connection) (ack atn req ack' atn' req' : Bool) (x x' : ℕ) → Pulsing s p n false req ack atn x 0
     → Calm s p t d l n (ends false ack atn x false false false req 0) (ends false ack' atn' x' false false false req' 0) o true
     → suc (waiting_out (not ack' && x' == byte_bits (data_given (sending_of s (run_state s p)))) (length (handshakes p).waiting) + one_where req' + one_where ack' + one_where (not (x' == 0)))
-        ≤ waiting_out (not ack && x == byte_bits (data_given (sending_of s (run_state s p)))) (length (handshakes p).waiting) + one_where req + one_where ack + one_where (not (x == 0))
+    ≤ waiting_out (not ack && x == byte_bits (data_given (sending_of s (run_state s p)))) (length (handshakes p).waiting) + one_where req + one_where ack + one_where (not (x == 0))
     → suc (measure s (row_of_lines t d l ∷ p)) ≤ measure s p
 calm_pulse_out s p t d l o n ack atn req ack' atn' req' x x' h c less =
     let e : EndLines = ends false ack atn x false false false req 0 in
@@ -190,7 +188,7 @@ calm_pulse_out s p t d l o n ack atn req ack' atn' req' x x' h c less =
     let kept = data_row s p t d l n e f o c.row c.phase refl in
     let count = count_stays s p row n (turn e f o l) kept in
     let requests : requests_left s j n.target ≡ requests_left s k n.target =
-        data_requests s q n false ack' atn' false req' x' 0 dw c.row.moves.linked ∙ (λ i. count i - (hand i).requests) ∙ sym (data_requests s p n false ack atn false req x 0 dv h.linked) in
+    data_requests s q n false ack' atn' false req' x' 0 dw c.row.moves.linked ∙ (λ i. count i - (hand i).requests) ∙ sym (data_requests s p n false ack atn false req x 0 dv h.linked) in
     let still = calm_still s p t d l n e f o true c in
     let was = given_at s p n ack atn req x 0 dv h.linked in
     let is = given_at s q n ack' atn' req' x' 0 dw c.row.moves.linked ∙ ap data_given (sending_stays s p row still) in

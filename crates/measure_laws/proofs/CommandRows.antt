@@ -1,29 +1,25 @@
 -- In COMMAND no more bytes are answered than the rules count, and so fewer than 12 are asked for.
-use Rattle.std.proofs.Common.{ℕ, suc, ◌≡◌, ◌≤◌, ◌<◌, ◌∙◌, Bool, true, false, List, [], ◌∷◌, length, refl, sym, ap, subst, arith, Option, Some, None}
-use Rattle.std.specs.Prelude.{◌+◌, ◌-◌, ◌++◌, ◌==◌, ◌^◌, if◌then◌else◌, is_some, min, not, ◌&&◌, ◌||◌, nat_lt, slice_index}
-use Rattle.std.proofs.lemmas.Bool.{eqb-true}
+use Rattle.std.proofs.Common.{ℕ, ◌≡◌, ◌≤◌, ◌<◌, ◌∙◌, Bool, true, false, List, [], ◌∷◌, refl, sym, ap, arith, Some, None}
+use Rattle.std.specs.Prelude.{◌%◌, ◌^◌, if◌then◌else◌, is_some, not, ◌&&◌, ◌||◌}
 use Rattle.bus_due.specs.bus_base.specs.Faults.{counted_on}
-use Rattle.bus_due.specs.bus_base.specs.declared.ProcId.{ProcId}
 use Rattle.bus_due.specs.bus_trace.specs.declared.Kind.{Kind}
 use Rattle.bus_due.specs.bus_trace.specs.declared.Kind.TheVariants.{Drives, Fault}
-use Rattle.progress_laws.specs.trace_laws.proofs.ConnectionRows.{RowKindOf, begins_now, goes_now, row_kind, GoingRow, going_row, connection_row, stage_of_connection}
-use Rattle.bus_due.specs.bus_base.proofs.Tests.{wrong, wrong'}
+use Rattle.progress_laws.specs.trace_laws.proofs.ConnectionRows.{RowKindOf, begins_now, goes_now, row_kind}
+use Rattle.bus_due.specs.bus_base.proofs.Tests.{wrong}
 use Rattle.bus_due.specs.bus_trace.specs.Changes.{change_of, rises}
 use Rattle.bus_due.specs.bus_trace.specs.LineSet.{LineSet}
 use Rattle.bus_due.specs.bus_trace.specs.Phases.{changes_phase}
 use Rattle.bus_due.specs.bus_trace.specs.Terms.{connection, is_fault}
 use Rattle.bus_due.specs.bus_trace.specs.Trace.{bus}
 use Rattle.bus_due.specs.bus_trace.specs.declared.Row.{Row}
-use Rattle.bus_due.specs.bus_trace.specs.declared.changes.Change.{Change}
 use Rattle.bus_due.specs.bus_trace.specs.declared.connection.Connection.{Connection}
-use Rattle.bus_due.specs.cdb_codec.specs.Cdb.{group_len, has_group_len, is_len}
-use Rattle.bus_due.specs.bus_lines.specs.Handshakes.{Handshakes, answered_if, asked_if, handshakes, handshakes_after, no_handshakes}
+use Rattle.bus_due.specs.bus_lines.specs.Handshakes.{Handshakes, answered_if, asked_if, handshakes, handshakes_after, no_handshakes, strikes_if}
 use Rattle.bus_due.specs.bus_phases.specs.declared.dialogue.Dialogue.{Dialogue}
 use Rattle.bus_due.specs.bus_phases.specs.Dialogue.{byte_crosses, byte_in, byte_out, dialogue, heard_with_command, phase_begins}
 use Rattle.bus_due.specs.scenario.specs.Value.{ScenarioValue}
 use Rattle.bus_due.specs.scenario.specs.Writing.{Obeys}
-use Rattle.bus_due.specs.bus_dialogue.specs.Hearing.{begun}
-use Rattle.progress_laws.specs.bus_books.proofs.InConnection.{SamePhase, same_phase_is}
+use Rattle.bus_due.specs.bus_dialogue.specs.Hearing.{begun, begun_after}
+use Rattle.progress_laws.specs.bus_books.proofs.InConnection.{same_phase_is}
 use Rattle.bus_due.specs.Next.{IsPrompt}
 use Rattle.progress_laws.specs.bus_laws.specs.Ends.{BeginsConnection, by_reselection, by_selection}
 use Rattle.progress_laws.specs.link_laws.proofs.Moves.{terms_after}
@@ -52,14 +48,14 @@ count_with : (p : List Row) (row : Row) (n : Connection) → connection p ≡ So
 count_with p row n con after ep h true up =
     let c = change_of p row in
     let d = dialogue p in
-    let byte = Rattle.std.specs.Prelude.◌%◌ c.after.data_bits 256 in
+    let byte = c.after.data_bits % 256 in
     let z = terms_after p row n c refl con after in
     ap (λ (v : Dialogue). v.heard.now.command.count) z.dialogue_is
     ∙ (λ i. (if is_some (if h.io i then (if rises c.before.req c.after.req then Some n.initiator else None) else (if up i then Some n.target else None))
-        then (if h.msg i && h.cd i && not (h.io i) then byte_out d byte (not c.after.atn)
-            else if h.msg i && h.cd i && h.io i then byte_in d byte
-            else if not (h.msg i) && h.cd i && not (h.io i) then record d { heard = heard_with_command d.heard byte; begun = true } else record d { begun = true })
-        else if ep i then phase_begins d else d).heard.now.command.count)
+    then (if h.msg i && h.cd i && not (h.io i) then byte_out d byte (not c.after.atn)
+    else if h.msg i && h.cd i && h.io i then byte_in d byte
+    else if not (h.msg i) && h.cd i && not (h.io i) then record d { heard = heard_with_command d.heard byte; begun = true } else record d { begun = true })
+    else if ep i then phase_begins d else d).heard.now.command.count)
 count_with p row n con after ep h false up =
     let c = change_of p row in
     let d = dialogue p in
@@ -71,7 +67,7 @@ answers_asked : (b : Bool) (t : ℕ) (h : Handshakes) → (asked_if b t h).answe
 answers_asked true t h = refl
 answers_asked false t h = refl
 
-answers_struck : (b : Bool) (h : Handshakes) → (Rattle.bus_due.specs.bus_lines.specs.Handshakes.strikes_if b h).answers ≡ h.answers
+answers_struck : (b : Bool) (h : Handshakes) → (strikes_if b h).answers ≡ h.answers
 answers_struck true h = refl
 answers_struck false h = refl
 
@@ -103,7 +99,7 @@ stays_taken p row n con after ep h was = go row.kind refl
     go (Drives l) e =
         let c = change_of p row in
         let hand : handshakes (row ∷ p) ≡ answered_if r row.time (asked_if (rises c.before.req c.after.req) row.time (handshakes p)) =
-            (λ i. handshakes_after (is_fault (e i)) (after i) c row.time (handshakes p)) ∙ ap (λ (b : Bool). if b then no_handshakes else answered_if r row.time (asked_if (rises c.before.req c.after.req) row.time (handshakes p))) ep in
+        (λ i. handshakes_after (is_fault (e i)) (after i) c row.time (handshakes p)) ∙ ap (λ (b : Bool). if b then no_handshakes else answered_if r row.time (asked_if (rises c.before.req c.after.req) row.time (handshakes p))) ep in
         made (taken_by r (handshakes p).answers (dialogue p).heard.now.command.count _ _ count (ap (λ (x : Handshakes). x.answers) hand ∙ answers_with r (rises c.before.req c.after.req) row.time (handshakes p)) was.few was.bounded)
     go (Fault bit) e =
         let c = change_of p row in
@@ -133,4 +129,4 @@ taken s (row ∷ p) o prompt n con calm b here = go (taken s p o prompt.0) (row_
     go before (goes_now was off) = next_taken p row n was con here (λ ep h. before n was off (stood_begun was ep) h)
       where
         stood_begun : connection p ≡ Some n → changes_phase (change_of p row) ≡ false → begun p ≡ true
-        stood_begun e ep = or_left (begun p) ((λ i. sym ep i || begun p) ∙ (λ i. Rattle.bus_due.specs.bus_dialogue.specs.Hearing.begun_after (begun p) (sym e i) (sym con i) (change_of p row)) ∙ b)
+        stood_begun e ep = or_left (begun p) ((λ i. sym ep i || begun p) ∙ (λ i. begun_after (begun p) (sym e i) (sym con i) (change_of p row)) ∙ b)

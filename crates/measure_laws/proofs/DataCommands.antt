@@ -1,5 +1,5 @@
 -- The measure falls with the row that turns to DATA for a command, where the bytes of the run are not left after it any more.
-use Rattle.std.proofs.Common.{inl, ℕ, suc, ◌≡◌, ◌≤◌, ◌+◌, ◌*◌, ◌∙◌, Bool, true, false, ◌&&◌, List, ◌∷◌, Option, Some, refl, sym, ap, arith}
+use Rattle.std.proofs.Common.{inl, ℕ, suc, ◌≡◌, ◌≤◌, ◌+◌, ◌*◌, ◌∙◌, Bool, true, false, ◌&&◌, List, ◌∷◌, Option, Some, sym, ap, arith}
 use Rattle.std.specs.Prelude.{drop, if◌then◌else◌, is_some}
 use Rattle.bus_due.specs.bus_trace.specs.LineSet.{LineSet}
 use Rattle.bus_due.specs.bus_trace.specs.Phases.{is_data}

@@ -1,7 +1,7 @@
 -- The measure falls with the row that leaves DATA where its run is done: a run less is to be made, and that pays for the reselection after a
 -- disconnection.
-use Rattle.std.proofs.Common.{ℕ, suc, ◌≡◌, ◌≢◌, ◌≤◌, ◌<◌, ◌+◌, ◌-◌, ◌*◌, ◌⊎◌, ◌∙◌, Bool, true, false, not, ◌&&◌, ◌||◌, List, [], ◌∷◌, length, Option, Some, refl, sym, ap, subst, arith}
-use Rattle.std.specs.Prelude.{nat_lt, ◌==◌, if◌then◌else◌}
+use Rattle.std.proofs.Common.{ℕ, suc, ◌≡◌, ◌≢◌, ◌≤◌, ◌<◌, ◌+◌, ◌-◌, ◌*◌, ◌∙◌, Bool, true, false, not, ◌&&◌, List, ◌∷◌, length, Some, refl, sym, ap, subst, arith}
+use Rattle.std.specs.Prelude.{if◌then◌else◌}
 use Rattle.bus_due.specs.bus_base.proofs.Tests.{wrong'}
 use Rattle.bus_due.specs.bus_trace.specs.LineSet.{LineSet}
 use Rattle.bus_due.specs.bus_trace.specs.Phases.{is_data, is_message_out}
@@ -14,11 +14,7 @@ use Rattle.bus_due.specs.disk_array.specs.Processes.{command_at}
 use Rattle.bus_due.specs.bus_story.specs.Budget.{data_runs}
 use Rattle.bus_due.specs.bus_story.specs.Items.{Sent, command_id, command_item, has_item}
 use Rattle.bus_due.specs.bus_dialogue.specs.declared.exchange.Phase.TheVariants as phases
-use Rattle.bus_due.specs.bus_dialogue.specs.declared.exchange.Next.TheVariants as nexts
-use Rattle.bus_due.specs.bus_dialogue.specs.Arrivals.{policy_of}
-use Rattle.bus_due.specs.bus_dialogue.specs.DataRuns.{runs_in_all}
-use Rattle.bus_due.specs.bus_dialogue.specs.declared.exchange.Task.{Task}
-use Rattle.bus_due.specs.bus_dialogue.specs.NextPhase.{Serving, after_run, recovery, pointer_restoration, with_task, phase_entry, phase_leaving, phase_of}
+use Rattle.bus_due.specs.bus_dialogue.specs.NextPhase.{phase_entry, phase_leaving, phase_of}
 use Rattle.bus_due.specs.LastingState.{progress_in}
 use Rattle.bus_due.specs.RunState.{RunState, bus_of}
 use Rattle.bus_due.specs.RunSteps.{run_state}
@@ -33,25 +29,10 @@ use Rattle.measure_laws.proofs.BeginFalls.{command_apart}
 use Rattle.measure_laws.proofs.Futures.{but_one_command}
 use Rattle.measure_laws.proofs.Lowers.{left_by}
 use Rattle.measure_laws.proofs.StillRows.{shape}
-use Rattle.measure_laws.proofs.Table.{left_of, run_pays}
-use Rattle.measure_laws.proofs.DoneRuns.{out_done}
+use Rattle.measure_laws.proofs.Table.{left_of}
 use Rattle.measure_laws.proofs.TurnFalls.{TurnRow, turn_phase, turn_in, turn_phases, turn_struck}
 
 -- ---- how DATA is left
-
-pub in_pays : (v : Serving) (atn : Bool) (t : Task) → v.task ≡ Some t → left_of (phase_leaving v atn phases.DataIn) + 128 ≤ 3 * 128 + reselection_if (nat_lt (t.runs + 1) (runs_in_all (policy_of v.def) t))
-in_pays v true t e = omega arith
-in_pays v false t e = subst (λ (o : Option Task). left_of (with_task o (λ x. after_run (policy_of v.def) x)) + 128 ≤ 3 * 128 + reselection_if (nat_lt (t.runs + 1) (runs_in_all (policy_of v.def) t))) (sym e) (run_pays (policy_of v.def) t)
-
--- Of DATA OUT where its run is done.
-pub done_out_pays : (v : Serving) (atn : Bool) (t : Task) → v.task ≡ Some t → (phase_leaving v atn phases.DataOut).done ≡ true → left_of (phase_leaving v atn phases.DataOut) + 128 ≤ 3 * 128 + reselection_if (nat_lt (t.runs + 1) (runs_in_all (policy_of v.def) t))
-done_out_pays v atn t e d =
-    let w = out_done v d in
-    let same : phase_leaving v atn phases.DataOut ≡ after_run (policy_of v.def) t = (λ i. with_task (e i) (λ x. if w.struck i then recovery v.def x (pointer_restoration nexts.GoOn) (phase_entry phases.Status) else after_run (policy_of v.def) x)) in
-    replaced _ _ _ (ap left_of same) (run_pays (policy_of v.def) t)
-  where
-    replaced : (a x b : ℕ) → a ≡ x → x + 128 ≤ b → a + 128 ≤ b
-    replaced a x b f h = omega arith
 
 -- ---- the row
 
@@ -62,7 +43,7 @@ pub done_turn_falls : (s : ScenarioValue) (p : List Row) (row : Row) (n : Connec
     → is_data (bus_of (run_state s p)) ≡ true → is_data c.after ≡ false → is_message_out c.after ≡ false → (c.after.msg ≡ true → c.after.cd ≡ true)
     → left_of (phase_leaving (serving_of s (run_state s p) n.target) (bus_of (run_state s p)).atn (phase_of (bus_of (run_state s p)))) + 128 ≤ 3 * 128 + reselection_if again
     → future_left s (run_state s (row ∷ p)) + reselection_if again + sense_bytes_left (is_in_data (run_state s (row ∷ p))) (run_state s (row ∷ p)).progress (run_state s (row ∷ p)).served
-        ≤ future_left s (run_state s p) + sense_bytes_left (is_in_data (run_state s p)) (run_state s p).progress (run_state s p).served
+    ≤ future_left s (run_state s p) + sense_bytes_left (is_in_data (run_state s p)) (run_state s p).progress (run_state s p).served
     → suc (measure s (row ∷ p)) ≤ measure s p
 done_turn_falls s p row n c again h begun from to other known table pays =
     let k = run_state s p in
@@ -73,10 +54,10 @@ done_turn_falls s p row n c again h begun from to other known table pays =
     let left : leaving s k n.target ≡ phase_leaving (serving_of s k n.target) (bus_of k).atn (phase_of (bus_of k)) = λ i. if begun i then phase_leaving (serving_of s k n.target) (bus_of k).atn (phase_of (bus_of k)) else phase_entry phases.MessageOut in
     let ahead = turn_phases s p row n c h begun other known (is_refusing s q) ∙ ap left_of left in
     let behind : phases_left (is_refusing s p) k ≡ 3 * 128 =
-        (λ i. if begun i then phases_in (is_refusing s p) k.exchange.plan (phase_of (bus_of k)) else for_reselection + 8 * for_phase) ∙ three (bus_of k) from in
+    (λ i. if begun i then phases_in (is_refusing s p) k.exchange.plan (phase_of (bus_of k)) else for_reselection + 8 * for_phase) ∙ three (bus_of k) from in
     let before = shape s k (is_struck_phase s p) (is_refusing s p) n g.calm g.row_is.connection_is in
     let after = shape s j (is_struck_phase s q) (is_refusing s q) n (ap (λ (l : LineSet). l.rst) t.bus_is ∙ g.row_is.calm) t.connection_is
-        ∙ ap (λ (x : Bool). future_left s j + 40 + (phases_left (is_refusing s q) j + phase_left s j n + sense_bytes_left (is_in_data j) j.progress j.served + struck_left s x)) (turn_struck s p row n c h) in
+    ∙ ap (λ (x : Bool). future_left s j + 40 + (phases_left (is_refusing s q) j + phase_left s j n + sense_bytes_left (is_in_data j) j.progress j.served + struck_left s x)) (turn_struck s p row n c h) in
     end_sum (future_left s j) (future_left s k) (phases_left (is_refusing s q) j) (phases_left (is_refusing s p) k) (phase_left s j n) (phase_left s k n) (sense_bytes_left (is_in_data j) j.progress j.served) (sense_bytes_left (is_in_data k) k.progress k.served) (struck_left s (is_struck_phase s p)) (measure s p) (measure s q) (reselection_if again)
     after before pays (replaced _ _ _ _ _ ahead behind table) (turn_phase s p row n c h to)
   where
@@ -130,20 +111,20 @@ run_done_pays s j k m again c at sent over h most =
     other : (n : ℕ) (d : CmdDef) → command_at s.commands n ≡ Some d → n ≢ m → command_left s j n d ≤ command_left s k n d
     other n d f ne =
         let e : command_left s j n d ≡ left_by s k.story.sent (open_left s false false (made n) d) n d =
-            (λ i. left_by s (h.sent i) (open_left s (serves_item (h.served i) (command_item n)) (h.still i) (h.others n ne i) d) n d) ∙ ap (λ (q : Bool). left_by s k.story.sent (open_left s q false (made n) d) n d) (command_apart m n ne) in
+        (λ i. left_by s (h.sent i) (open_left s (serves_item (h.served i) (command_item n)) (h.still i) (h.others n ne i) d) n d) ∙ ap (λ (q : Bool). left_by s k.story.sent (open_left s q false (made n) d) n d) (command_apart m n ne) in
         let g : command_left s k n d ≡ left_by s k.story.sent (open_left s false true (made n) d) n d =
-            (λ i. left_by s k.story.sent (open_left s (serves_item (h.before i) (command_item n)) (h.moves i) (made n) d) n d) ∙ ap (λ (q : Bool). left_by s k.story.sent (open_left s q true (made n) d) n d) (command_apart m n ne) in
+        (λ i. left_by s k.story.sent (open_left s (serves_item (h.before i) (command_item n)) (h.moves i) (made n) d) n d) ∙ ap (λ (q : Bool). left_by s k.story.sent (open_left s q true (made n) d) n d) (command_apart m n ne) in
         let z = e ∙ sym g in
         omega arith
 
     own : command_left s j m c + reselection_if again ≤ command_left s k m c
     own =
         let e : command_left s j m c ≡ open_left s true false (made m + 1) c =
-            (λ i. left_by s (h.sent i) (open_left s (serves_item (h.served i) (command_item m)) (h.still i) (h.made i) c) m c)
-            ∙ (λ i. if over i then sense_left k.story.sent m else if sent i then open_left s (self_item (command_item m) i) false (made m + 1) c else unsent_left s k.story.sent m c) in
+        (λ i. left_by s (h.sent i) (open_left s (serves_item (h.served i) (command_item m)) (h.still i) (h.made i) c) m c)
+        ∙ (λ i. if over i then sense_left k.story.sent m else if sent i then open_left s (self_item (command_item m) i) false (made m + 1) c else unsent_left s k.story.sent m c) in
         let f : command_left s k m c ≡ open_left s true true (made m) c =
-            (λ i. left_by s k.story.sent (open_left s (serves_item (h.before i) (command_item m)) (h.moves i) (made m) c) m c)
-            ∙ (λ i. if over i then sense_left k.story.sent m else if sent i then open_left s (self_item (command_item m) i) true (made m) c else unsent_left s k.story.sent m c) in
+        (λ i. left_by s k.story.sent (open_left s (serves_item (h.before i) (command_item m)) (h.moves i) (made m) c) m c)
+        ∙ (λ i. if over i then sense_left k.story.sent m else if sent i then open_left s (self_item (command_item m) i) true (made m) c else unsent_left s k.story.sent m c) in
         chain (command_left s j m c) (open_left s true false (made m + 1) c) (open_left s true true (made m) c) (command_left s k m c) (reselection_if again) e f
         (by again most (ap (bytes_after s c) (none_more (made m + 1))))
       where

@@ -1,15 +1,13 @@
 -- The measure falls with the row with which a DATA phase begins: what is left of the bytes of its command, or of its automatic REQUEST SENSE,
 -- pays for those of the run.
-use Rattle.std.proofs.Common.{inl, inr, ℕ, suc, ◌≡◌, ◌≤◌, ◌<◌, ◌+◌, ◌*◌, ◌-◌, ◌⊎◌, ◌∙◌, Bool, true, false, not, ◌&&◌, ◌||◌, List, [], ◌∷◌, length, Option, Some, None, Result, Ok, Err, refl, sym, ap, subst, arith}
-use Rattle.std.specs.Prelude.{◌==◌, cond, drop, if◌then◌else◌, is_some, min, nat_lt}
-use Rattle.std.specs.List.{find, list_any}
+use Rattle.std.proofs.Common.{inl, inr, ℕ, ◌≡◌, ◌≤◌, ◌<◌, ◌+◌, ◌*◌, ◌-◌, ◌⊎◌, ◌∙◌, Bool, true, false, not, ◌&&◌, List, ◌∷◌, length, Option, Some, None, Result, Ok, Err, refl, sym, ap, subst, arith}
+use Rattle.std.specs.Prelude.{◌==◌, drop, if◌then◌else◌, is_some, nat_lt}
 use Rattle.std.proofs.lemmas.Bool.{ltb-true}
 use Rattle.std.proofs.lemmas.Option.{same_Some}
-use Rattle.bus_due.specs.bus_base.specs.declared.Event.{Event}
 use Rattle.bus_due.specs.bus_base.specs.declared.ProcId.{ProcId}
-use Rattle.bus_due.specs.bus_base.proofs.Tests.{and_false, wrong, wrong', zero_of}
+use Rattle.bus_due.specs.bus_base.proofs.Tests.{and_false, wrong, wrong'}
 use Rattle.bus_due.specs.bus_trace.specs.LineSet.{LineSet}
-use Rattle.bus_due.specs.bus_trace.specs.Phases.{changes_phase, is_data, is_message_in}
+use Rattle.bus_due.specs.bus_trace.specs.Phases.{changes_phase, is_data}
 use Rattle.bus_due.specs.bus_trace.specs.Trace.{bus}
 use Rattle.bus_due.specs.bus_trace.specs.Terms.{connection}
 use Rattle.bus_due.specs.bus_trace.specs.declared.Row.{Row}
@@ -25,17 +23,16 @@ use Rattle.bus_due.specs.scenario.specs.Value.{ScenarioValue}
 use Rattle.bus_due.specs.scenario.specs.Writing.{Obeys}
 use Rattle.bus_due.specs.scenario.specs.declared.value.CmdDef.{CmdDef}
 use Rattle.bus_due.specs.scenario.specs.declared.value.Policy.{Policy}
-use Rattle.bus_due.specs.scenario.specs.declared.value.TargetDef.{TargetDef}
 use Rattle.bus_due.specs.scenario.specs.declared.value.UnitDef.{UnitDef}
 use Rattle.bus_due.specs.disk_array.specs.ArrayHistory.{array_after}
-use Rattle.bus_due.specs.disk_array.specs.Execution.{Reply, range_of}
+use Rattle.bus_due.specs.disk_array.specs.Execution.{range_of}
 use Rattle.bus_due.specs.disk_array.specs.Order.{range_in}
 use Rattle.bus_due.specs.disk_array.specs.Processes.{Process, command_at, command_process, process_by, process_if, process_of, same_bool, sense_block, sense_process}
 use Rattle.bus_due.specs.disk_array.specs.Units.{Array, UnitState, unit_state_at}
-use Rattle.bus_due.specs.bus_story.specs.Items.{Item, command_id, command_item, has_item, process, same_item}
+use Rattle.bus_due.specs.bus_story.specs.Items.{Item, command_id, command_item, has_item, process}
 use Rattle.bus_due.specs.bus_story.specs.Story.{Story}
 use Rattle.bus_due.specs.bus_dialogue.specs.Arrivals.{policy_of}
-use Rattle.bus_due.specs.bus_dialogue.specs.DataRuns.{run_in, run_length, runs_in, runs_in_all}
+use Rattle.bus_due.specs.bus_dialogue.specs.DataRuns.{run_in, runs_in, runs_in_all}
 use Rattle.bus_due.specs.bus_dialogue.specs.NextPhase.{Serving, bus_free, phase_entry, phase_leaving, phase_of, unless_attention, after_messages}
 use Rattle.bus_due.specs.bus_dialogue.specs.PhaseBytes.{run_length_if}
 use Rattle.bus_due.specs.bus_dialogue.specs.declared.exchange.Leaving.{Leaving}
@@ -45,10 +42,10 @@ use Rattle.bus_due.specs.bus_dialogue.specs.declared.exchange.Phase.{Phase}
 use Rattle.bus_due.specs.bus_dialogue.specs.declared.exchange.Phase.TheVariants as phases
 use Rattle.bus_due.specs.bus_dialogue.specs.declared.exchange.Task.{Task}
 use Rattle.bus_due.specs.Defs.{target_def_of}
-use Rattle.bus_due.specs.LastingState.{ProcessProgress, progress_in}
+use Rattle.bus_due.specs.LastingState.{progress_in}
 use Rattle.bus_due.specs.Next.{IsPrompt}
 use Rattle.bus_due.specs.Plain.{IsPlain}
-use Rattle.bus_due.specs.RunState.{RunState, array_of, bus_of, or_start, process_item, process_served}
+use Rattle.bus_due.specs.RunState.{RunState, array_of, bus_of, process_item, process_served}
 use Rattle.bus_due.specs.RunSteps.{run_state}
 use Rattle.bus_due.specs.Sights.{leaving, serving_of}
 use Rattle.bus_due.specs.Tasks.{blocks_in, is_writing, moved_count, reply_now, size_of, task_if, task_of}
@@ -60,7 +57,7 @@ use Rattle.progress_laws.specs.target_units.proofs.Rooms.{IsByLine, by_line}
 use Rattle.progress_laws.specs.bus_books.specs.Knowing.{Knows}
 use Rattle.progress_laws.specs.trace_laws.specs.ItemTalks.{TalksBy, frees_bus, talk_of}
 use Rattle.progress_laws.specs.trace_laws.proofs.Impossible.{none_some}
-use Rattle.trace_laws.proofs.Whole.{Whole}
+use Rattle.progress_laws.specs.trace_laws.proofs.Whole.{Whole}
 use Rattle.progress_laws.specs.trace_laws.proofs.PhaseLines.{in_phase}
 use Rattle.progress_laws.specs.trace_laws.proofs.RunEntries.{enters_run}
 use Rattle.progress_laws.specs.trace_laws.proofs.RunFacts.{task_here}
@@ -69,7 +66,7 @@ use Rattle.progress_laws.specs.trace_laws.proofs.RunRows.{served_id}
 use Rattle.progress_laws.specs.trace_laws.proofs.RowItems.{over_after}
 use Rattle.right_laws.proofs.ReadBooks.{read_books}
 use Rattle.right_laws.proofs.ReadEntries.{enters_read}
-use Rattle.right_laws.proofs.WholeBlocks.{HasWhole, whole_always, whole_start}
+use Rattle.right_laws.proofs.WholeBlocks.{HasWhole}
 use Rattle.measure_laws.specs.Future.{bytes_after, future_left, is_in_data, open_left, range_if, resets_left, serves_item, size_if}
 use Rattle.measure_laws.specs.Turns.{sense_bytes_left}
 use Rattle.measure_laws.proofs.BeginFalls.{calm_resets}
@@ -80,9 +77,11 @@ use Rattle.measure_laws.proofs.DataTurns.{data_turn_falls, run_of}
 use Rattle.measure_laws.proofs.Futures.{future_falls, open_of}
 use Rattle.measure_laws.proofs.Leavings.{FallsDataEntered, LeavingRow}
 use Rattle.measure_laws.proofs.Lowers.{lowers_same}
-use Rattle.measure_laws.proofs.ReplyLengths.{given_few, most_given}
+use Rattle.right_laws.proofs.ReplyLengths.{given_few, most_given, need_is}
+use Rattle.right_laws.proofs.ReadRuns.{whole_now}
+use Rattle.measure_laws.proofs.RunNeeds.{target_there}
 use Rattle.measure_laws.proofs.TurnFalls.{TurnRow, turn_in, turn_kind, turn_runs}
-use Rattle.measure_laws.proofs.TurningEdge.{leaving_turn}
+use Rattle.measure_laws.proofs.EdgeFalls.{leaving_turn}
 
 -- ---- how DATA is entered
 
@@ -126,20 +125,6 @@ freed_before {A = A} v atn y d f to = by v.plan.next f to
 
 -- ---- the bytes that a process moves
 
-found_target : (targets : List TargetDef) (dev : ℕ) → is_some (find (λ (t : TargetDef). t.dev == dev) targets) ≡ true → list_any (λ (t : TargetDef). t.dev == dev) targets ≡ true
-found_target [] dev e = wrong' e
-found_target (t ∷ targets) dev e = go (t.dev == dev) e (λ z. found_target targets dev z)
-  where
-    found : Option TargetDef
-    found = find (λ (x : TargetDef). x.dev == dev) targets
-
-    rest : Bool
-    rest = list_any (λ (x : TargetDef). x.dev == dev) targets
-
-    go : (q : Bool) → is_some (cond q (Some t) found) ≡ true → (is_some found ≡ true → rest ≡ true) → (q || rest) ≡ true
-    go true z f = refl
-    go false z f = f z
-
 blocks_same : (r : Result Command CdbFault) → blocks_in (range_in r) ≡ blocks_of (range_if r)
 blocks_same (Err fault) = refl
 blocks_same (Ok c) = go (range_of c)
@@ -155,10 +140,6 @@ size_same (Some u) None h = absurd h
 size_same (Some u) (Some v) h = h.1
 
 -- No more than its command needs.
-need_is : (s : ScenarioValue) (c : CmdDef) → has_target s c.target ≡ true → need_of s c ≡ moved_by (command_of c.cdb) (unit_of s c.target c.unit)
-unfolding need_of
-need_is s c t = λ i. if t i then moved_by (command_of c.cdb) (unit_of s c.target c.unit) else 0
-
 sent_few : (s : ScenarioValue) (c : CmdDef) → sent_of s c ≤ need_of s c
 unfolding sent_of
 sent_few s c = go (is_write (command_of c.cdb))
@@ -190,11 +171,6 @@ moved_few s a q line o lines whole there =
         ∙ (λ i. moved_by (command_of (line.cdb i)) (unit_of s (line.target i) (line.unit i)))
         ∙ sym (need_is s line.line (ap (has_target s) (sym line.target) ∙ there))
 
--- After any history.
-whole_now : (s : ScenarioValue) (history : List Event) (o : Option Array) → Obeys s → array_after s history ≡ o → HasWhole (or_start s o)
-whole_now s history None o e = whole_start s o
-whole_now s history (Some a) o e = whole_always s history a o e
-
 -- ---- a run of an automatic REQUEST SENSE
 
 sense_cdb : (s : ScenarioValue) (q : Process) → process_of s q.id ≡ Some q → q.id.sense ≡ true → q.cdb ≡ sense_block
@@ -204,7 +180,7 @@ sense_cdb s q own sense = go (command_at s.commands q.id.command) own
     go None e = none_some q e
     go (Some c) e =
         let made : process_by s q.id c ≡ q = same_Some (process_by s q.id c) q e in
-        let by : (if q.id.sense then sense_process q.id c else Rattle.bus_due.specs.disk_array.specs.Processes.command_process s q.id c) ≡ sense_process q.id c = λ i. if sense i then sense_process q.id c else Rattle.bus_due.specs.disk_array.specs.Processes.command_process s q.id c in
+        let by : (if q.id.sense then sense_process q.id c else command_process s q.id c) ≡ sense_process q.id c = λ i. if sense i then sense_process q.id c else command_process s q.id c in
         ap (λ (x : Process). x.cdb) (sym made ∙ by)
 
 sense_few : (s : ScenarioValue) (a : Array) (q : Process) → q.cdb ≡ sense_block → AreOfLines s a → HasWhole a → moved_count q (reply_now a q) ≤ 18
@@ -368,7 +344,7 @@ falls s p row n r from into = go (process_served s k) refl
         target = serves_there s p n q o r.linked.calm.prompt.0 h.was r.linked.stands r.linked.calm.off e
 
         there : has_target s q.target ≡ true
-        there = ap (has_target s) target ∙ found_target s.targets n.target (h.was.ends n r.linked.stands).target
+        there = ap (has_target s) target ∙ target_there s n.target (h.was.ends n r.linked.stands).target
 
         t : Task
         t = task_here s k q

@@ -1,12 +1,12 @@
 -- The measure falls with the row that leaves DATA for STATUS or MESSAGE IN: where the run is done its command has a run less to make; where a
 -- byte of DATA OUT was struck, the strike pays for the run, which may be made once more.
-use Rattle.std.proofs.Common.{inl, inr, ℕ, suc, ◌≡◌, ◌≢◌, ◌≤◌, ◌<◌, ◌+◌, ◌*◌, ◌⊎◌, ◌∙◌, Bool, true, false, not, ◌&&◌, ◌||◌, List, [], ◌∷◌, length, Option, Some, None, refl, sym, ap, subst, arith}
-use Rattle.std.specs.Prelude.{◌==◌, drop, if◌then◌else◌, is_some, nat_lt}
+use Rattle.std.proofs.Common.{inl, inr, ℕ, suc, ◌≡◌, ◌≤◌, ◌<◌, ◌+◌, ◌*◌, ◌⊎◌, ◌∙◌, Bool, true, false, not, ◌&&◌, List, ◌∷◌, length, Option, Some, None, refl, sym, ap, subst, arith}
+use Rattle.std.specs.Prelude.{◌==◌, drop, if◌then◌else◌, is_some}
 use Rattle.std.proofs.lemmas.Option.{same_Some}
 use Rattle.bus_due.specs.bus_base.specs.declared.ProcId.{ProcId}
 use Rattle.bus_due.specs.bus_base.proofs.Tests.{and_false, next_some, wrong, wrong'}
 use Rattle.bus_due.specs.bus_trace.specs.LineSet.{LineSet}
-use Rattle.bus_due.specs.bus_trace.specs.Phases.{is_data, is_message_out}
+use Rattle.bus_due.specs.bus_trace.specs.Phases.{is_data, is_message_out, changes_phase}
 use Rattle.bus_due.specs.bus_trace.specs.Trace.{bus}
 use Rattle.bus_due.specs.bus_trace.specs.declared.Row.{Row}
 use Rattle.bus_due.specs.bus_trace.specs.declared.changes.Change.{Change}
@@ -18,23 +18,21 @@ use Rattle.bus_due.specs.disk_array.proofs.SeatReplies.{id_self}
 use Rattle.bus_due.specs.disk_array.specs.ArrayHistory.{array_after}
 use Rattle.bus_due.specs.disk_array.specs.Processes.{Process, process_of, same_bool, same_id}
 use Rattle.bus_due.specs.bus_story.specs.Budget.{data_runs, longest_need}
-use Rattle.bus_due.specs.bus_story.specs.Items.{Item, Sent, command_id, command_item, has_item, process}
+use Rattle.bus_due.specs.bus_story.specs.Items.{Item, Sent, command_id, command_item, has_item, process, abort}
 use Rattle.bus_due.specs.bus_story.specs.Story.{Story}
 use Rattle.bus_due.specs.bus_dialogue.specs.Arrivals.{policy_of}
-use Rattle.bus_due.specs.bus_dialogue.specs.DataRuns.{runs_in, runs_in_all}
-use Rattle.bus_due.specs.bus_dialogue.specs.NextPhase.{Serving, phase_entry, phase_leaving, phase_of}
+use Rattle.bus_due.specs.bus_dialogue.specs.NextPhase.{phase_entry, phase_leaving, phase_of}
 use Rattle.bus_due.specs.bus_dialogue.specs.declared.exchange.Leaving.{Leaving}
 use Rattle.bus_due.specs.bus_dialogue.specs.declared.exchange.Phase.{Phase}
 use Rattle.bus_due.specs.bus_dialogue.specs.declared.exchange.Phase.TheVariants as phases
 use Rattle.bus_due.specs.bus_dialogue.specs.declared.exchange.Task.{Task}
 use Rattle.bus_due.specs.Defs.{target_def_of}
 use Rattle.bus_due.specs.LastingState.{ProcessProgress, progress_in, progress_with}
-use Rattle.bus_due.specs.Next.{IsPrompt}
 use Rattle.bus_due.specs.Plain.{IsPlain}
-use Rattle.bus_due.specs.RunState.{RunState, array_of, bus_of, process_served}
+use Rattle.bus_due.specs.RunState.{RunState, bus_of, process_served}
 use Rattle.bus_due.specs.RunSteps.{progress_by_leaving, run_state}
 use Rattle.bus_due.specs.Sights.{leaving, serving_of}
-use Rattle.bus_due.specs.Tasks.{is_writing, task_if, task_of}
+use Rattle.bus_due.specs.Tasks.{is_writing, task_if}
 use Rattle.bus_due.proofs.Plains.{run_state_plain}
 use Rattle.progress_laws.specs.bus_books.specs.Hearing.{is_in_phase}
 use Rattle.progress_laws.specs.bus_books.specs.Knowing.{Knows}
@@ -47,13 +45,13 @@ use Rattle.progress_laws.specs.trace_laws.proofs.PhaseLines.{is_data_phase, out_
 use Rattle.progress_laws.specs.trace_laws.proofs.RowItems.{over_after}
 use Rattle.progress_laws.specs.trace_laws.proofs.RunFacts.{task_here}
 use Rattle.progress_laws.specs.trace_laws.proofs.RunRows.{served_id}
-use Rattle.right_laws.proofs.ReadBooks.{read_books}
+use Rattle.right_laws.proofs.ReadBooks.{ReadBooks, read_books}
 use Rattle.measure_laws.specs.Future.{aborts_left, commands_left, future_left, is_in_data, open_left, resets_left, serves_item}
 use Rattle.measure_laws.specs.Measure.{measure}
 use Rattle.measure_laws.specs.Turns.{phase_left, phases_in, phases_left, reselection_if, sense_bytes_left, struck_left}
 use Rattle.measure_laws.specs.Weights.{for_byte, for_fault, for_phase, for_reselection}
 use Rattle.measure_laws.proofs.BeginFalls.{calm_resets}
-use Rattle.measure_laws.proofs.CountedRuns.{counted_runs, same_runs}
+use Rattle.progress_laws.specs.trace_laws.proofs.CountedRuns.{counted_runs, same_runs}
 use Rattle.measure_laws.proofs.DataEnds.{done_turn_falls, run_done_pays}
 use Rattle.measure_laws.proofs.DataLeavings.{DataLeaving, HasMore, data_leaving, data_out_of, has_more, more_left, no_data, run_done, run_struck}
 use Rattle.measure_laws.proofs.DataOutFalls.{commands_more}
@@ -65,7 +63,9 @@ use Rattle.measure_laws.proofs.StillRows.{shape}
 use Rattle.measure_laws.proofs.StruckPlans.{struck_known}
 use Rattle.measure_laws.proofs.Table.{left_of}
 use Rattle.measure_laws.proofs.TurnFalls.{TurnRow, turn_in, turn_kind, turn_phase, turn_phases, turn_progress, turn_struck}
-use Rattle.measure_laws.proofs.TurningEdge.{leaving_turn}
+use Rattle.measure_laws.proofs.EdgeFalls.{leaving_turn}
+use Rattle.bus_due.specs.bus_dialogue.specs.declared.exchange.Plan.{Plan}
+use Rattle.bus_due.specs.bus_dialogue.specs.PhaseBytes.{one_if}
 
 -- ---- such a row
 
@@ -118,7 +118,7 @@ left_states s p row n c h =
 
 few_sense : (a : Bool) (m : List ProcessProgress) (o : Option Item) → sense_bytes_left a m o ≤ 144
 few_sense a m None = omega arith
-few_sense a m (Some (Rattle.bus_due.specs.bus_story.specs.Items.abort l)) = omega arith
+few_sense a m (Some (abort l)) = omega arith
 few_sense a m (Some (process id)) = go (id.sense && not a && (progress_in m id).runs == 0)
   where
     go : (q : Bool) → (if q then for_byte * 18 else 0) ≤ 144
@@ -135,7 +135,7 @@ undone : (s : ScenarioValue) (k : RunState) (o : Option Process) (l : Leaving) (
 undone s k None l id e = refl
 undone s k (Some q) l id e = (λ i. (progress_in (progress_with k.progress q.id (e i) l.counts) id).runs) ∙ same_runs k.progress q.id l.counts id
 
-three : (l : LineSet) → is_data l ≡ true → (r : Bool) (p : Rattle.bus_due.specs.bus_dialogue.specs.declared.exchange.Plan.Plan) → phases_in r p (phase_of l) ≡ 3 * 128
+three : (l : LineSet) → is_data l ≡ true → (r : Bool) (p : Plan) → phases_in r p (phase_of l) ≡ 3 * 128
 three l e r p = go l.msg l.cd l.io e
   where
     go : (m d i : Bool) → (not m && not d) ≡ true → phases_in r p (if m then (if i then phases.MessageIn else phases.MessageOut) else if d then (if i then phases.Status else phases.Command) else if i then phases.DataIn else phases.DataOut) ≡ 3 * 128
@@ -163,14 +163,14 @@ struck_turn_falls s p row n c h plan done table =
       runs = λ id. ap (λ (m : List ProcessProgress). (progress_in m id).runs) w.progress ∙ undone s k (process_served s k) (way s p n) id done;
     }) in
     let future : future_left s j ≤ future_left s k + 8 * l =
-        future_sum (commands_left s j 1 s.commands) (commands_left s k 1 s.commands) (aborts_left s j.story.sent 1 s.aborts) (aborts_left s k.story.sent 1 s.aborts) (resets_left j s.resets) (resets_left k s.resets) (for_fault s * length j.faults) (for_fault s * length k.faults) l
-        commands (ap (λ (x : Sent). aborts_left s x 1 s.aborts) w.sent) w.resets (λ i. for_fault s * length (w.faults i)) in
+    future_sum (commands_left s j 1 s.commands) (commands_left s k 1 s.commands) (aborts_left s j.story.sent 1 s.aborts) (aborts_left s k.story.sent 1 s.aborts) (resets_left j s.resets) (resets_left k s.resets) (for_fault s * length j.faults) (for_fault s * length k.faults) l
+    commands (ap (λ (x : Sent). aborts_left s x 1 s.aborts) w.sent) w.resets (λ i. for_fault s * length (w.faults i)) in
     let next = turn_phases s p row n c h.turn h.begun h.other h.known (is_refusing s q) ∙ ap left_of (way_is s p n h.begun) in
     let now : phases_left (is_refusing s p) k ≡ 3 * 128 =
-        (λ i. if h.begun i then phases_in (is_refusing s p) k.exchange.plan (phase_of (bus_of k)) else for_reselection + 8 * for_phase) ∙ three (bus_of k) h.from (is_refusing s p) k.exchange.plan in
+    (λ i. if h.begun i then phases_in (is_refusing s p) k.exchange.plan (phase_of (bus_of k)) else for_reselection + 8 * for_phase) ∙ three (bus_of k) h.from (is_refusing s p) k.exchange.plan in
     let before = shape s k (is_struck_phase s p) (is_refusing s p) n g.calm g.row_is.connection_is in
     let after = shape s j (is_struck_phase s q) (is_refusing s q) n (ap (λ (x : LineSet). x.rst) t.bus_is ∙ g.row_is.calm) t.connection_is
-        ∙ ap (λ (x : Bool). future_left s j + 40 + (phases_left (is_refusing s q) j + phase_left s j n + sense_bytes_left (is_in_data j) j.progress j.served + struck_left s x)) (turn_struck s p row n c h.turn) in
+    ∙ ap (λ (x : Bool). future_left s j + 40 + (phases_left (is_refusing s q) j + phase_left s j n + sense_bytes_left (is_in_data j) j.progress j.served + struck_left s x)) (turn_struck s p row n c h.turn) in
     struck_sum (future_left s j) (future_left s k) l (phases_left (is_refusing s q) j) (phases_left (is_refusing s p) k) (phase_left s j n) (phase_left s k n) (sense_bytes_left (is_in_data j) j.progress j.served) (sense_bytes_left (is_in_data k) k.progress k.served) (struck_left s (is_struck_phase s p)) (measure s p) (measure s q)
     after before future (replaced _ _ next table) now (ap (struck_left s) struck) (turn_phase s p row n c h.turn h.to) (few_sense (is_in_data j) j.progress j.served)
   where
@@ -188,7 +188,7 @@ record DoneRun (s : ScenarioValue) (p : List Row) (row : Row) (n : Connection) (
 
 counted : (all : List ProcessProgress) (id : ProcId) (counts : Bool) → (progress_in (progress_with all id true counts) id).runs ≡ (progress_in all id).runs + 1
 counted all id counts =
-    ap (λ (x : Bool). (if x then record { id = id; runs = (progress_in all id).runs + 1; recoveries = (progress_in all id).recoveries + Rattle.bus_due.specs.bus_dialogue.specs.PhaseBytes.one_if counts } else progress_in all id).runs) (id_self id)
+    ap (λ (x : Bool). (if x then record { id = id; runs = (progress_in all id).runs + 1; recoveries = (progress_in all id).recoveries + one_if counts } else progress_in all id).runs) (id_self id)
 
 done_run : (s : ScenarioValue) (p : List Row) (row : Row) (n : Connection) (q : Process) → LeftStates s p row n → process_served s (run_state s p) ≡ Some q → (way s p n).done ≡ true → DoneRun s p row n q
 done_run s p row n q w e done =
@@ -196,7 +196,7 @@ done_run s p row n q w e done =
     let l = way s p n in
     let id = served_id s k.served q e in
     let progress : (run_state s (row ∷ p)).progress ≡ progress_with k.progress q.id true l.counts =
-        w.progress ∙ ap (λ (o : Option Process). progress_by_leaving k o l) e ∙ ap (λ (x : Bool). progress_with k.progress q.id x l.counts) done in
+    w.progress ∙ ap (λ (o : Option Process). progress_by_leaving k o l) e ∙ ap (λ (x : Bool). progress_with k.progress q.id x l.counts) done in
     record {
       served = id.0;
       own = id.1;
@@ -287,15 +287,15 @@ moves_here s p row n r q from e =
       opens = opened.open_is (process q.id) id.0 (out_of_messages (bus_of k) from);
     }
   where
-    by : Rattle.right_laws.proofs.ReadBooks.ReadBooks s p → (run_state s p).story.bus_state.connection ≡ Some n → (bus_of (run_state s p)).rst ≡ false → (x : Bool) → is_writing q ≡ x → q.target ≡ n.target
+    by : ReadBooks s p → (run_state s p).story.bus_state.connection ≡ Some n → (bus_of (run_state s p)).rst ≡ false → (x : Bool) → is_writing q ≡ x → q.target ≡ n.target
     by books con quiet true w = (r.linked.calm.was.sends.runs.served n q con quiet e w).target_is
     by books con quiet false w = (books.pointers.served n q con quiet e w).target_is
 
 -- Where more runs follow, they are those of a command, and set aside for it.
 done_pays : (s : ScenarioValue) (p : List Row) (row : Row) (n : Connection) (q : Process) → Obeys s → LeftStates s p row n → DoneRun s p row n q → MovesHere s p n q
     → future_left s (run_state s (row ∷ p)) + reselection_if (has_more (serving_of s (run_state s p) n.target) (task_here s (run_state s p) q))
-        + sense_bytes_left (is_in_data (run_state s (row ∷ p))) (run_state s (row ∷ p)).progress (run_state s (row ∷ p)).served
-      ≤ future_left s (run_state s p) + sense_bytes_left (is_in_data (run_state s p)) (run_state s p).progress (run_state s p).served
+    + sense_bytes_left (is_in_data (run_state s (row ∷ p))) (run_state s (row ∷ p)).progress (run_state s (row ∷ p)).served
+    ≤ future_left s (run_state s p) + sense_bytes_left (is_in_data (run_state s p)) (run_state s p).progress (run_state s p).served
 done_pays s p row n q o w d h = go q.id.sense refl
   where
     k : RunState
@@ -399,7 +399,7 @@ falls_data_left s p row n r other from = by (data_leaving (serving_of s k n.targ
     to : (way s p n).to ≡ Some (phase_of c.after)
     to =
         ap (λ (l : Leaving). l.to) (sym (way_is s p n begun))
-        ∙ turn.lines.whereto (ap Rattle.bus_due.specs.bus_trace.specs.Phases.changes_phase turn.lines_are ∙ turn.turned) r.begun_is
+        ∙ turn.lines.whereto (ap changes_phase turn.lines_are ∙ turn.turned) r.begun_is
         ∙ ap (λ (x : Change). Some (phase_of x.after)) turn.lines_are
 
     no_out : phase_of c.after ≡ phases.MessageOut → ⊥
@@ -431,5 +431,5 @@ falls_data_left s p row n r other from = by (data_leaving (serving_of s k n.targ
         at (Some q) f z =
             done_turn_falls s p row n c (has_more (serving_of s k n.target) t) turn begun on quiet other r.known table
             (subst (λ (x : Task). future_left s (run_state s (row ∷ p)) + reselection_if (has_more (serving_of s k n.target) x) + sense_bytes_left (is_in_data (run_state s (row ∷ p))) (run_state s (row ∷ p)).progress (run_state s (row ∷ p)).served
-                ≤ future_left s k + sense_bytes_left (is_in_data k) k.progress k.served) (same_Some (task_here s k q) t z)
+            ≤ future_left s k + sense_bytes_left (is_in_data k) k.progress k.served) (same_Some (task_here s k q) t z)
             (done_pays s p row n q r.linked.calm.obeys states (done_run s p row n q states f done) (moves_here s p row n r q on f)))

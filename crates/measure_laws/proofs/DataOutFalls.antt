@@ -1,6 +1,6 @@
 -- The measure falls with each row that turns from DATA IN to MESSAGE OUT, as ATN is true: a byte was struck there, and its strike pays for the
 -- bytes of the run, which is made once more.
-use Rattle.std.proofs.Common.{ℕ, zero, suc, ◌≡◌, ◌≢◌, ◌≤◌, ◌∙◌, Bool, true, false, List, [], ◌∷◌, length, max, refl, sym, ap, subst, arith, Option, Some, None}
+use Rattle.std.proofs.Common.{ℕ, suc, ◌≡◌, ◌≢◌, ◌≤◌, ◌∙◌, Bool, true, false, List, [], ◌∷◌, length, max, refl, sym, ap, subst, arith, Option, Some, None}
 use Rattle.std.specs.Prelude.{◌+◌, ◌-◌, ◌*◌, ◌==◌, drop, if◌then◌else◌, not, ◌&&◌, ◌||◌, is_some}
 use Rattle.std.proofs.Common.{inl}
 use Rattle.std.proofs.lemmas.Bool.{and_parts, eqb-true, ne_eqb}
@@ -8,7 +8,7 @@ use Rattle.bus_due.specs.bus_base.specs.declared.ProcId.{ProcId}
 use Rattle.bus_due.specs.bus_base.proofs.Tests.{and_false, wrong'}
 use Rattle.bus_due.specs.bus_trace.specs.LineSet.{LineSet}
 use Rattle.bus_due.specs.bus_trace.specs.Phases.{changes_phase, is_data, is_message_out}
-use Rattle.bus_due.specs.bus_trace.specs.Terms.{connection, is_fault, receiver_in}
+use Rattle.bus_due.specs.bus_trace.specs.Terms.{is_fault}
 use Rattle.bus_due.specs.bus_trace.specs.Trace.{bus}
 use Rattle.bus_due.specs.bus_trace.specs.declared.Row.{Row}
 use Rattle.bus_due.specs.bus_trace.specs.declared.changes.Change.{Change}
@@ -20,14 +20,14 @@ use Rattle.bus_due.specs.scenario.specs.Needs.{need_of}
 use Rattle.bus_due.specs.scenario.specs.Value.{ScenarioValue}
 use Rattle.bus_due.specs.bus_story.specs.Budget.{data_runs, longest_need}
 use Rattle.bus_due.specs.bus_story.specs.Items.{Item, Sent, abort, command_id, command_item, process}
-use Rattle.bus_due.specs.disk_array.specs.Processes.{Process}
+use Rattle.bus_due.specs.disk_array.specs.Processes.{Process, same_bool}
 use Rattle.bus_due.specs.bus_dialogue.specs.declared.exchange.Cause.TheVariants as causes
 use Rattle.bus_due.specs.bus_dialogue.specs.declared.exchange.Leaving.{Leaving}
 use Rattle.bus_due.specs.bus_dialogue.specs.declared.exchange.Phase.{Phase}
 use Rattle.bus_due.specs.bus_dialogue.specs.declared.exchange.Phase.TheVariants as phases
 use Rattle.bus_due.specs.bus_dialogue.specs.declared.exchange.Plan.{Plan}
 use Rattle.bus_due.specs.bus_dialogue.specs.Planning.{cause_after, plan_in_message_out}
-use Rattle.bus_due.specs.bus_dialogue.specs.NextPhase.{Serving, after_messages, data_in_leaving, phase_entry, phase_leaving, phase_of, unless_attention}
+use Rattle.bus_due.specs.bus_dialogue.specs.NextPhase.{Serving, phase_entry, phase_leaving, phase_of}
 use Rattle.bus_due.specs.LastingState.{ProcessProgress, progress_in, progress_with}
 use Rattle.bus_due.specs.RunState.{RunState, bus_of, process_served}
 use Rattle.bus_due.specs.RunSteps.{progress_by_leaving, run_state}
@@ -39,12 +39,12 @@ use Rattle.progress_laws.specs.bus_books.specs.WrongParity.{is_refusing, is_stru
 use Rattle.progress_laws.specs.trace_laws.proofs.PointerLeavings.{is_attended}
 use Rattle.progress_laws.specs.trace_laws.proofs.RowItems.{over_after}
 use Rattle.bus_due.proofs.Plains.{run_state_plain}
-use Rattle.measure_laws.specs.Future.{aborts_left, bytes_after, bytes_over, command_left, commands_left, future_left, is_in_data, one_where, open_left, resets_left, serves_item}
+use Rattle.measure_laws.specs.Future.{aborts_left, bytes_after, bytes_over, command_left, commands_left, future_left, is_in_data, open_left, resets_left, serves_item}
 use Rattle.measure_laws.specs.Measure.{measure}
 use Rattle.measure_laws.specs.Turns.{after_words, phase_left, phases_in, phases_left, sense_bytes_left, struck_left}
-use Rattle.measure_laws.specs.Weights.{for_byte, for_fault}
+use Rattle.measure_laws.specs.Weights.{for_byte, for_fault, for_reselection}
 use Rattle.measure_laws.proofs.BeginFalls.{calm_resets}
-use Rattle.measure_laws.proofs.CountedRuns.{same_runs}
+use Rattle.progress_laws.specs.trace_laws.proofs.CountedRuns.{same_runs}
 use Rattle.measure_laws.proofs.Futures.{command_lowers, command_waits, none_more, open_of}
 use Rattle.measure_laws.proofs.Lowers.{Lowers, lowers_same}
 use Rattle.measure_laws.proofs.OutFalls.{no_data, out_turn_falls, turns_to}
@@ -91,8 +91,8 @@ unique : (o : Option Item) (n m : ℕ) → serves_item o (command_item n) ≡ tr
 unique None n m e ne = wrong' e
 unique (Some (abort l)) n m e ne = wrong' e
 unique (Some (process id)) n m e ne =
-    let same : id.command ≡ n = eqb-true id.command n (and_parts (id.command == n) (Rattle.bus_due.specs.disk_array.specs.Processes.same_bool id.sense false) e).0 in
-    λ i. ne_eqb id.command m (λ z. ne (sym same ∙ z)) i && Rattle.bus_due.specs.disk_array.specs.Processes.same_bool id.sense false
+    let same : id.command ≡ n = eqb-true id.command n (and_parts (id.command == n) (same_bool id.sense false) e).0 in
+    λ i. ne_eqb id.command m (λ z. ne (sym same ∙ z)) i && same_bool id.sense false
 
 open_then : (s : ScenarioValue) (j k : RunState) (n : ℕ) (c : CmdDef) (q : Bool) → Leaves s j k → serves_item k.served (command_item n) ≡ q → open_of s j n c ≡ open_left s q false (progress_in k.progress (command_id n)).runs c
 open_then s j k n c q h e = (λ i. open_left s (serves_item (h.served i) (command_item n)) (h.still i) (h.runs (command_id n) i) c) ∙ (λ i. open_left s (e i) false (progress_in k.progress (command_id n)).runs c)
@@ -108,7 +108,7 @@ unserved s j k n c h e = command_lowers s j k n c h.sent (λ o. same _ _ _ (open
 
 served_once : (s : ScenarioValue) (j k : RunState) (n : ℕ) (c : CmdDef) → Leaves s j k → serves_item k.served (command_item n) ≡ true → command_left s j n c ≤ command_left s k n c + 8 * need_of s c
 served_once s j k n c h e = command_waits s j k (8 * need_of s c) n c h.sent (λ o. chain _ _ _ _ (need_of s c) (open_then s j k n c true h e) (open_now s j k n c true h e)
-    (sums (Rattle.measure_laws.specs.Weights.for_reselection * (data_runs s c - made + 0)) (bytes_after s c (made + 0)) (bytes_after s c (made + 1)) (need_of s c) (subst (λ x. bytes_after s c x ≤ bytes_after s c (made + 1) + need_of s c) (plain made) (bytes_more _ _ _ (need_of s c) made))))
+    (sums (for_reselection * (data_runs s c - made + 0)) (bytes_after s c (made + 0)) (bytes_after s c (made + 1)) (need_of s c) (subst (λ x. bytes_after s c x ≤ bytes_after s c (made + 1) + need_of s c) (plain made) (bytes_more _ _ _ (need_of s c) made))))
   where
     made : ℕ
     made = (progress_in k.progress (command_id n)).runs
@@ -203,8 +203,8 @@ data_out_falls s p row n c h begun out from =
     let plan : Plan = plan_in_message_out (hearing_of k row (reading_in k.story.bus_state n c false)) k.exchange.plan in
     let next : phases_left (is_refusing s q) j ≡ 5 * 128 = out_after s p row n c g.row_is h.turned begun out a.1 ∙ (λ i. after_words (struck i) plan (cause i)) in
     let now : phases_left (is_refusing s p) k ≡ 3 * 128 =
-        (λ i. if begun i then phases_in (is_refusing s p) k.exchange.plan (phase_of (g.row_is.bus_is i)) else 1024 + 8 * 128)
-        ∙ (λ i. phases_in (is_refusing s p) k.exchange.plan (if was.0 i then (if a.1 i then phases.MessageIn else phases.MessageOut) else if was.1 i then (if a.1 i then phases.Status else phases.Command) else if a.1 i then phases.DataIn else phases.DataOut)) in
+    (λ i. if begun i then phases_in (is_refusing s p) k.exchange.plan (phase_of (g.row_is.bus_is i)) else 1024 + 8 * 128)
+    ∙ (λ i. phases_in (is_refusing s p) k.exchange.plan (if was.0 i then (if a.1 i then phases.MessageIn else phases.MessageOut) else if was.1 i then (if a.1 i then phases.Status else phases.Command) else if a.1 i then phases.DataIn else phases.DataOut)) in
     let knows : Knows s k n = h.was.stood.books.knows n g.row_is.connection_is g.calm in
     let sent = (over_after s k row n c false knows.link g.row_is (ap (λ (x : Option ℕ). is_some x) kind.1) knows.link_is).same (inl h.turned) in
     let still : is_in_data j ≡ false = ap (λ (x : Bool). j.exchange.begun && x) (ap is_data t.bus_is ∙ no_data c.after out) ∙ and_false j.exchange.begun in
@@ -220,13 +220,13 @@ data_out_falls s p row n c h begun out from =
       runs = λ id. ap (λ (m : List ProcessProgress). (progress_in m id).runs) (turn_progress s p row n c h ∙ (λ i. if begun i then progress_by_leaving k (process_served s k) (leaving s k n.target) else k.progress)) ∙ same id (process_served s k) (leaving s k n.target) done;
     }) in
     let future : future_left s j ≤ future_left s k + 8 * longest_need s s.commands =
-        future_sum (commands_left s j 1 s.commands) (commands_left s k 1 s.commands) (aborts_left s j.story.sent 1 s.aborts) (aborts_left s k.story.sent 1 s.aborts) (resets_left j s.resets) (resets_left k s.resets) (for_fault s * length j.faults) (for_fault s * length k.faults) (longest_need s s.commands)
-        commands (ap (λ (x : Sent). aborts_left s x 1 s.aborts) sent) (calm_resets s p row dv h.below lines h.off off_next) (ap (λ (b : Bool). for_fault s * length (if b then drop 1 k.faults else k.faults)) lines) in
+    future_sum (commands_left s j 1 s.commands) (commands_left s k 1 s.commands) (aborts_left s j.story.sent 1 s.aborts) (aborts_left s k.story.sent 1 s.aborts) (resets_left j s.resets) (resets_left k s.resets) (for_fault s * length j.faults) (for_fault s * length k.faults) (longest_need s s.commands)
+    commands (ap (λ (x : Sent). aborts_left s x 1 s.aborts) sent) (calm_resets s p row dv h.below lines h.off off_next) (ap (λ (b : Bool). for_fault s * length (if b then drop 1 k.faults else k.faults)) lines) in
     let r = reading_is k row n c false g.row_is (ap (λ (x : Option ℕ). is_some x) kind.1) in
     let unstruck : is_struck_phase s q ≡ false = (λ i. is_some (g.row_is.connection_is i) && is_some (r i).next && not (changes_phase (r i).change) && (is_fault row.kind || is_struck_phase s p)) ∙ (λ i. true && true && not (h.turned i) && (is_fault row.kind || is_struck_phase s p)) in
     let before = shape s k (is_struck_phase s p) (is_refusing s p) n g.calm g.row_is.connection_is in
     let after = shape s j (is_struck_phase s q) (is_refusing s q) n (ap (λ (l : LineSet). l.rst) t.bus_is ∙ g.row_is.calm) t.connection_is
-        ∙ ap (λ (x : Bool). future_left s j + 40 + (phases_left (is_refusing s q) j + phase_left s j n + sense_bytes_left (is_in_data j) j.progress j.served + struck_left s x)) unstruck in
+    ∙ ap (λ (x : Bool). future_left s j + 40 + (phases_left (is_refusing s q) j + phase_left s j n + sense_bytes_left (is_in_data j) j.progress j.served + struck_left s x)) unstruck in
     measure_sum (future_left s j) (future_left s k) (longest_need s s.commands) (phases_left (is_refusing s q) j) (phases_left (is_refusing s p) k) (phase_left s j n) (phase_left s k n) (sense_bytes_left (is_in_data j) j.progress j.served) (sense_bytes_left (is_in_data k) k.progress k.served) (struck_left s (is_struck_phase s p)) (measure s p) (measure s q)
     after before future next now (ap (struck_left s) struck) (turn_phase s p row n c h (no_data c.after out)) (few_sense (is_in_data j) j.progress j.served)
   where

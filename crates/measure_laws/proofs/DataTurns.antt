@@ -1,6 +1,6 @@
 -- The measure falls with the row that turns to DATA IN or DATA OUT: the bytes of the run are paid by the command, for which they are not left any more.
-use Rattle.std.proofs.Common.{ℕ, suc, ◌≡◌, ◌≢◌, ◌≤◌, ◌<◌, ◌+◌, ◌-◌, ◌*◌, ◌⊎◌, ◌∙◌, Bool, true, false, not, ◌&&◌, ◌||◌, List, [], ◌∷◌, length, Some, refl, sym, ap, subst, arith}
-use Rattle.std.specs.Prelude.{◌==◌, if◌then◌else◌}
+use Rattle.std.proofs.Common.{ℕ, suc, ◌≡◌, ◌≢◌, ◌≤◌, ◌+◌, ◌-◌, ◌*◌, ◌∙◌, Bool, true, false, not, ◌&&◌, List, ◌∷◌, length, Some, refl, sym, ap, subst, arith}
+use Rattle.std.specs.Prelude.{if◌then◌else◌}
 use Rattle.bus_due.specs.bus_base.proofs.Tests.{wrong, wrong'}
 use Rattle.bus_due.specs.bus_base.specs.declared.ProcId.{ProcId}
 use Rattle.bus_due.specs.bus_trace.specs.LineSet.{LineSet}
@@ -78,7 +78,7 @@ data_sum f g a b x w y z u m v e d i h j k = omega arith
 pub data_turn_falls : (s : ScenarioValue) (p : List Row) (row : Row) (n : Connection) (c : Change) → Obeys s → IsPrompt s (row ∷ p) → TurnRow s p row n c → connection p ≡ Some n → (run_state s p).exchange.begun ≡ true
     → is_data (bus_of (run_state s p)) ≡ false → is_data c.after ≡ true
     → future_left s (run_state s (row ∷ p)) + 8 * run_of s (run_state s (row ∷ p)) n + sense_bytes_left (is_in_data (run_state s (row ∷ p))) (run_state s (row ∷ p)).progress (run_state s (row ∷ p)).served
-        ≤ future_left s (run_state s p) + sense_bytes_left (is_in_data (run_state s p)) (run_state s p).progress (run_state s p).served
+    ≤ future_left s (run_state s p) + sense_bytes_left (is_in_data (run_state s p)) (run_state s p).progress (run_state s p).served
     → suc (measure s (row ∷ p)) ≤ measure s p
 data_turn_falls s p row n c o prompt h con begun from to pays =
     let k = run_state s p in
@@ -93,7 +93,7 @@ data_turn_falls s p row n c o prompt h con begun from to pays =
     let less = phase_pays s (serving_of s k n.target) (bus_of k).atn (is_refusing s p) (is_struck_phase s p) (phase_of (bus_of k)) (λ z. (struck_known s p z).0) (out_facts s p row n c o prompt h con begun) (no_data_in (bus_of k) from) (no_data_out (bus_of k) from) in
     let before = shape s k (is_struck_phase s p) (is_refusing s p) n g.calm g.row_is.connection_is in
     let after = shape s j (is_struck_phase s q) (is_refusing s q) n (ap (λ (l : LineSet). l.rst) t.bus_is ∙ g.row_is.calm) t.connection_is
-        ∙ ap (λ (x : Bool). future_left s j + 40 + (phases_left (is_refusing s q) j + phase_left s j n + sense_bytes_left (is_in_data j) j.progress j.served + struck_left s x)) (turn_struck s p row n c h) in
+    ∙ ap (λ (x : Bool). future_left s j + 40 + (phases_left (is_refusing s q) j + phase_left s j n + sense_bytes_left (is_in_data j) j.progress j.served + struck_left s x)) (turn_struck s p row n c h) in
     data_sum (future_left s j) (future_left s k) (phases_left (is_refusing s q) j) (phases_left (is_refusing s p) k) (phase_left s j n) (phase_left s k n) (sense_bytes_left (is_in_data j) j.progress j.served) (sense_bytes_left (is_in_data k) k.progress k.served) (struck_left s (is_struck_phase s p)) (measure s p) (measure s q) (run_of s j n)
     after before pays (replaced _ _ _ _ _ ahead behind less) (data_left s p row n c h to)
   where
@@ -154,7 +154,7 @@ command_pays_run s j k m run c at sent over h fewer =
     other : (n : ℕ) (d : CmdDef) → command_at s.commands n ≡ Some d → n ≢ m → command_left s j n d ≤ command_left s k n d
     other n d f ne =
         let e = after n d ∙ ap (λ (q : Bool). left_by s k.story.sent (open_left s q true (made n) d) n d) (command_apart m n ne)
-            ∙ sym (before n d ∙ ap (λ (q : Bool). left_by s k.story.sent (open_left s q false (made n) d) n d) (command_apart m n ne)) in
+        ∙ sym (before n d ∙ ap (λ (q : Bool). left_by s k.story.sent (open_left s q false (made n) d) n d) (command_apart m n ne)) in
         omega arith
 
     own : command_left s j m c + 8 * run ≤ command_left s k m c

@@ -22,11 +22,11 @@ use Rattle.progress_laws.specs.trace_laws.proofs.Impossible.{none_some}
 use Rattle.progress_laws.specs.trace_laws.proofs.LinkRows.{is_pulsed, is_unasked}
 use Rattle.measure_laws.specs.Measure.{Falls}
 use Rattle.measure_laws.proofs.InsidePhases.{FallsWith, InsideOrEdge, connection_falls, edge, inside, is_edge}
-use Rattle.measure_laws.proofs.LinkOff.{link_off}
-use Rattle.measure_laws.proofs.Parts.{CalmRow, FallsWithin}
-use Rattle.measure_laws.proofs.PhaseRows as kinds
-use Rattle.measure_laws.proofs.PhaseRows.{PhaseRow}
-use Rattle.measure_laws.proofs.WithinFalls.{falls_within}
+use Rattle.measure_laws.proofs.LinkOff.{link_off, frees_calm}
+use Rattle.measure_laws.proofs.Parts.{CalmRow, FallsWithin, FallsApart, falls_by_parts}
+use Rattle.progress_laws.specs.trace_laws.proofs.PhaseRows.{PhaseRow}
+use Rattle.measure_laws.proofs.RowsApart.{calm_row_falls}
+use Rattle.progress_laws.specs.trace_laws.proofs.PhaseRows as kinds
 
 -- What is known of a row before and after which the same connection stands: RST is false before it and after it.
 pub record LinkedRow (s : ScenarioValue) (p : List Row) (row : Row) (n : Connection) : Type 0 where
@@ -57,7 +57,6 @@ abbrev pub FallsLeaving : Type 0
 FallsLeaving =
     (s : ScenarioValue) (p : List Row) (row : Row) (n : Connection) → LinkedRow s p row n
     → (atn msg cd io : Bool) (x y : ℕ) → Linked p n (ends false false atn x msg cd io false y) → begun p ≡ true → (msg && not cd) ≡ false → is_unasked p ≡ false
-   
     → (is_pulsed p (ends false false atn x msg cd io false y) ≡ false → x ≡ 0) × (is_pulsed p (ends false false atn x msg cd io false y) ≡ true → (handshakes p).waiting ≡ [])
     → (offering_with s p n true (ends false false atn x msg cd io false y)).follows ≡ false
     → row ≡ row_of_lines row.time n.target (offering_with s p n true (ends false false atn x msg cd io false y)).to
@@ -94,6 +93,10 @@ within_by_edges opens strikes leaves s p row n m r con next = go (connection_fal
     go (inside z) = z
     go (edge k z) = edge_falls opens strikes leaves s p row n of k z
 
+-- And outside one.
+falls_apart : FallsApart
+falls_apart s p row r was alone = calm_row_falls s p row r.obeys r.prompt was alone r.off r.standing r.least
+
 -- So the measure falls with each row, if it falls with those.
 pub falls_by_edges : FallsOpening → FallsStriking → FallsLeaving → Falls
-falls_by_edges opens strikes leaves = falls_within (within_by_edges opens strikes leaves)
+falls_by_edges opens strikes leaves = falls_by_parts falls_apart (within_by_edges opens strikes leaves) frees_calm

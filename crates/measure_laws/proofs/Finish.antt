@@ -9,7 +9,6 @@ use Rattle.bus_due.specs.bus_story.specs.Budget.{budget}
 use Rattle.bus_due.specs.Goals.{RunsEnd, StaysWithin}
 use Rattle.bus_due.specs.Next.{IsEnded, IsPrompt, next_by}
 use Rattle.bus_due.specs.Run.{Run, one_more, run_by_due, run_from}
-use Rattle.measure_laws.proofs.Runs.{run_is}
 use Rattle.measure_laws.specs.Measure.{Falls, measure}
 use Rattle.measure_laws.proofs.Start.{starts}
 
@@ -59,15 +58,22 @@ unended s (suc fuel) r e = go (λ z w. unended s fuel z w) r.ended refl (next_by
 too_long : (n b : ℕ) → n ≡ 0 + b → suc n ≤ b / 8 → ⊥
 too_long n b e h = grind arith
 
-pub runs_end : Falls → RunsEnd
-runs_end falls s o = go (run_by_due s (budget s)).ended refl
+-- A run by what is due is a prompt trace, and where it says that it is over, nothing is due after it.
+abbrev pub RunsArePrompt : Type 0
+RunsArePrompt = (s : ScenarioValue) (fuel : ℕ) → IsPrompt s (run_by_due s fuel).rows
+
+abbrev pub RunsSayTheirEnd : Type 0
+RunsSayTheirEnd = (s : ScenarioValue) (fuel : ℕ) → (run_by_due s fuel).ended ≡ true → IsEnded s (run_by_due s fuel).rows
+
+pub runs_end : Falls → RunsArePrompt → RunsSayTheirEnd → RunsEnd
+runs_end falls prompt ends s o = go (run_by_due s (budget s)).ended refl
   where
     r : Run
     r = run_by_due s (budget s)
 
     go : (b : Bool) → r.ended ≡ b → IsEnded s r.rows
-    go true e = (run_is s (budget s)).ended e
-    go false e = absurd (too_long (length r.rows) (budget s) (unended s (budget s) _ e) (within falls s r.rows o (run_is s (budget s)).prompt))
+    go true e = ends s (budget s) e
+    go false e = absurd (too_long (length r.rows) (budget s) (unended s (budget s) _ e) (within falls s r.rows o (prompt s (budget s))))
 
 -- ---- and it has few rows for a number of 32 bits
 

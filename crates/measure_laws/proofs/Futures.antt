@@ -1,6 +1,6 @@
 -- What is still to come of commands, compared command by command: it falls where each falls or stays, and where one of them pays.
 use Rattle.std.proofs.Common.{ℕ, zero, suc, ◌≡◌, ◌≢◌, ◌≤◌, ◌<◌, ◌∙◌, Bool, true, false, List, [], ◌∷◌, refl, sym, subst, arith, Some, length}
-use Rattle.std.specs.Prelude.{◌+◌, ◌-◌, ◌*◌, ◌==◌, ◌&&◌, ◌||◌, not, if◌then◌else◌}
+use Rattle.std.specs.Prelude.{◌+◌, ◌*◌, if◌then◌else◌, None}
 use Rattle.std.proofs.lemmas.Option.{same_Some}
 use Rattle.bus_due.specs.scenario.specs.declared.value.CmdDef.{CmdDef}
 use Rattle.bus_due.specs.scenario.specs.Value.{ScenarioValue}
@@ -88,7 +88,7 @@ pub but_one_command : (s : ScenarioValue) (j k : RunState) (g e m : ℕ) (c : Cm
     → commands_left s j 1 s.commands + g ≤ commands_left s k 1 s.commands + e
 but_one_command s j k g e zero c at h own = none_some c (sym (none_at s.commands) ∙ at)
   where
-    none_at : (commands : List CmdDef) → command_at commands 0 ≡ Rattle.std.specs.Prelude.None
+    none_at : (commands : List CmdDef) → command_at commands 0 ≡ None
     none_at [] = refl
     none_at (x ∷ commands) = refl
 but_one_command s j k g e (suc i) c at h own =

@@ -38,8 +38,8 @@ use Rattle.measure_laws.proofs.Balances.{all_answered, kind_of_row}
 use Rattle.measure_laws.proofs.ByteRows.{shift_told}
 use Rattle.measure_laws.proofs.CalmKinds.{pulsing_changes, pulsing_ends_ack, pulsing_ends_req, pulsing_gives, pulsing_releases, settling_hands, shaking_ends_ack_in, shaking_ends_ack_out, shaking_ends_req, shaking_gives, turning_offers, turning_releases}
 use Rattle.measure_laws.proofs.Endings.{TellsFirst, row_first}
-use Rattle.measure_laws.proofs.PhaseRows as kinds
-use Rattle.measure_laws.proofs.PhaseRows.{PhaseRow}
+use Rattle.progress_laws.specs.trace_laws.proofs.PhaseRows as kinds
+use Rattle.progress_laws.specs.trace_laws.proofs.PhaseRows.{PhaseRow}
 use Rattle.measure_laws.proofs.PulseRows.{pulsing_answers, pulsing_asks_in, pulsing_asks_out, pulsing_sends}
 use Rattle.measure_laws.proofs.Rooms.{first_room_in, next_room_in}
 use Rattle.measure_laws.proofs.ShakeRows.{shaking_answers, shaking_answers_data, shaking_sends_by, shaking_sends_data}
@@ -78,7 +78,7 @@ next_out : (s : ScenarioValue) (p : List Row) (n : Connection) (atn : Bool) (y :
 next_out s p n atn y o prompt h follows =
     let e : EndLines = ends false false atn 0 false false false false y in
     let less : nat_lt (handshakes p).answers (run_count s p n) ≡ true =
-        sym (ap (λ (q : Bool). if q then nat_lt (handshakes p).requests (run_count s p n) else follows_in (serving_at s (run_state s p) n.target phases.DataOut) (handshakes p) atn phases.DataOut) h.unpulsed) ∙ follows in
+    sym (ap (λ (q : Bool). if q then nat_lt (handshakes p).requests (run_count s p n) else follows_in (serving_at s (run_state s p) n.target phases.DataOut) (handshakes p) atn phases.DataOut) h.unpulsed) ∙ follows in
     let all = all_answered s p o prompt n h.linked.stands.connection_is (ap (λ (l : LineSet). l.rst) h.linked.stands.bus_is) h.phase.begun_is (sym (pulsed_as p n e h.linked) ∙ h.unpulsed) (ap (λ (l : LineSet). l.req && not l.ack) h.linked.stands.bus_is) in
     (below (handshakes p).requests (handshakes p).answers (run_count s p n) all (ltb-true (handshakes p).answers (run_count s p n) less), runs_are_short s (obeys_fits s o) p n)
 

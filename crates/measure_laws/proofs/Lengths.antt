@@ -186,7 +186,7 @@ refused_few : (v : Serving) → FewIn v.plan.messages → FewIn (after_refusal v
 refused_few v few =
     either_few (is_some v.plan.said.offer) (phase_entry phases.Command) _ (omega arith)
     (either_few (is_naming v.plan.messages.first) (message_repetition v.plan) _ few
-        (tasked_few v.task (λ t. recovery v.def t (message_repetition v.plan) bus_free) (λ t. recovers_few v.def t (message_repetition v.plan) bus_free few (omega arith))))
+    (tasked_few v.task (λ t. recovery v.def t (message_repetition v.plan) bus_free) (λ t. recovers_few v.def t (message_repetition v.plan) bus_free few (omega arith))))
 
 out_few : (v : Serving) (c : Cause) → FewIn v.plan.messages → FewIn (message_out_leaving v c).messages
 out_few v causes.Selected few = either_few (is_some v.plan.said.aborts) bus_free _ (omega arith) (offered_few v.def v.plan.negotiates v.plan.said.offer)

@@ -25,8 +25,7 @@ use Rattle.progress_laws.specs.trace_laws.proofs.ConnectionRows.{stage_of_connec
 use Rattle.progress_laws.specs.trace_laws.proofs.LinkRows.{LinkRow, link_row}
 use Rattle.progress_laws.specs.trace_laws.proofs.LinkRows as rows
 use Rattle.progress_laws.specs.trace_laws.proofs.UnderRst.{drives_next}
-use Rattle.measure_laws.proofs.Parts.{CalmRow, FallsApart, FallsWithin, FreesCalm, falls_by_parts}
-use Rattle.measure_laws.specs.Measure.{Falls}
+use Rattle.measure_laws.proofs.Parts.{CalmRow, FreesCalm}
 
 abbrev kind_rst : Kind → Bool
 kind_rst (Drives l) = l.rst
@@ -81,7 +80,3 @@ link_off s p row n r con =
 
 pub frees_calm : FreesCalm
 frees_calm s p row n r con none = link_off s p row n r con
-
--- The measure falls with each row, if it falls on the way to a connection, and within one.
-pub falls_by_two : FallsApart → FallsWithin → Falls
-falls_by_two ways within = falls_by_parts ways within frees_calm

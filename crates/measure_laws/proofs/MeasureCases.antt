@@ -1,4 +1,4 @@
--- The measure falls with each row of some runs, and is within the budget at their start. Written by a script.
+-- The measure of some runs is within the budget at their start, and falls with each row. Written by tools/makers/books_case.py.
 use Rattle.std.proofs.Common.{◌≡◌, true, refl}
 use lib.Count.{ones}
 use Rattle.bus_due.specs.bus_trace.specs.LineSet.{line_of}

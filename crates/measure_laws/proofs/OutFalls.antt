@@ -1,5 +1,5 @@
 -- The measure falls with each row that turns from MESSAGE IN or STATUS to MESSAGE OUT, as ATN is true.
-use Rattle.std.proofs.Common.{ℕ, suc, ◌≡◌, ◌≤◌, ◌∙◌, Bool, true, false, not, ◌&&◌, List, ◌∷◌, Some, sym, ap}
+use Rattle.std.proofs.Common.{suc, ◌≡◌, ◌≤◌, ◌∙◌, Bool, true, false, not, ◌&&◌, List, ◌∷◌, Some, sym, ap, refl}
 use Rattle.bus_due.specs.bus_trace.specs.LineSet.{LineSet}
 use Rattle.bus_due.specs.bus_trace.specs.Phases.{changes_phase, is_data, is_message_out}
 use Rattle.bus_due.specs.bus_trace.specs.declared.Row.{Row}
@@ -7,7 +7,6 @@ use Rattle.bus_due.specs.bus_trace.specs.declared.changes.Change.{Change}
 use Rattle.bus_due.specs.bus_trace.specs.declared.connection.Connection.{Connection}
 use Rattle.bus_due.specs.scenario.specs.Value.{ScenarioValue}
 use Rattle.bus_due.specs.bus_dialogue.specs.NextPhase.{phase_of}
-use Rattle.bus_due.specs.RunState.{bus_of}
 use Rattle.bus_due.specs.RunSteps.{run_state}
 use Rattle.bus_due.specs.Sights.{leaving}
 use Rattle.bus_due.proofs.Plains.{run_state_plain}
@@ -20,7 +19,7 @@ pub no_data : (l : LineSet) → is_message_out l ≡ true → is_data l ≡ fals
 no_data l e = go l.msg l.cd l.io e
   where
     go : (m d i : Bool) → (m && d && not i) ≡ true → (not m && not d) ≡ false
-    go true d i z = Rattle.std.proofs.Common.refl
+    go true d i z = refl
     go false d i z = absurd cc
 
 -- To which phase it goes.

@@ -4,15 +4,12 @@ use Rattle.std.specs.Prelude.{◌+◌, ◌-◌, ◌*◌, not, ◌&&◌, ◌||◌
 use Rattle.bus_due.specs.bus_base.proofs.Tests.{wrong, wrong'}
 use Rattle.bus_due.specs.bus_trace.specs.LineSet.{LineSet, same}
 use Rattle.bus_due.specs.bus_trace.specs.Changes.{same_phase}
-use Rattle.bus_due.specs.bus_trace.specs.Phases.{changes_phase, is_message_in, is_message_out}
+use Rattle.bus_due.specs.bus_trace.specs.Phases.{changes_phase, is_message_out}
 use Rattle.bus_due.specs.bus_trace.specs.Terms.{is_fault, receiver_in}
 use Rattle.bus_due.specs.bus_trace.specs.declared.Row.{Row}
 use Rattle.bus_due.specs.bus_trace.specs.declared.changes.Change.{Change}
 use Rattle.bus_due.specs.bus_trace.specs.declared.connection.Connection.{Connection}
-use Rattle.bus_due.specs.msg_grammar.specs.declared.message.MsgIn.{MsgIn}
 use Rattle.bus_due.specs.scenario.specs.Value.{ScenarioValue}
-use Rattle.bus_due.specs.bus_story.specs.BusState.{RowReading, row_reading}
-use Rattle.bus_due.specs.bus_dialogue.specs.declared.exchange.Cause.{Cause}
 use Rattle.bus_due.specs.bus_dialogue.specs.declared.exchange.Cause.TheVariants as causes
 use Rattle.bus_due.specs.bus_dialogue.specs.declared.exchange.Hearing.{Hearing}
 use Rattle.bus_due.specs.bus_dialogue.specs.declared.exchange.Messages.{Messages}
@@ -24,19 +21,20 @@ use Rattle.bus_due.specs.bus_dialogue.specs.declared.exchange.Plan.{Plan}
 use Rattle.bus_due.specs.bus_dialogue.specs.Exchange.{from_byte, message_bytes, plan_anew}
 use Rattle.bus_due.specs.bus_dialogue.specs.NextPhase.{phase_of}
 use Rattle.bus_due.specs.bus_dialogue.specs.Planning.{cause_after, plan_in_message_out}
-use Rattle.bus_due.specs.RunState.{RunState, bus_of}
+use Rattle.bus_due.specs.RunState.{RunState}
 use Rattle.bus_due.specs.RunSteps.{run_state}
 use Rattle.bus_due.specs.Sights.{hearing_of, leaving}
 use Rattle.progress_laws.specs.bus_books.specs.Hearing.{HasPhase, is_out_phase}
 use Rattle.progress_laws.specs.bus_books.specs.Rows as rows
 use Rattle.progress_laws.specs.bus_books.specs.Rows.{IsRowIn, RowKind, reading_in}
-use Rattle.progress_laws.specs.bus_books.proofs.InConnection.{InConnection, in_connection, reading_is}
+use Rattle.progress_laws.specs.bus_books.proofs.InConnection.{in_connection, reading_is}
 use Rattle.progress_laws.specs.bus_books.specs.WrongParity.{is_refusing, is_struck_phase}
 use Rattle.progress_laws.specs.trace_laws.proofs.ComplaintTurns.{IsAttended, attended_for}
 use Rattle.progress_laws.specs.trace_laws.proofs.PhaseLines.{is_out_next}
 use Rattle.progress_laws.specs.trace_laws.proofs.PointerLeavings.{is_attended}
-use Rattle.measure_laws.specs.Turns.{after_next, after_words, disconnects, is_disconnect, phases_in, phases_left, reselection_if, struck_left}
-use Rattle.measure_laws.specs.Weights.{for_phase, for_reselection}
+use Rattle.measure_laws.specs.Turns.{after_next, after_words, disconnects, is_disconnect, phases_in, phases_left, reselection_if, struck_left, after_answer}
+use Rattle.measure_laws.specs.Weights.{for_phase, for_reselection, for_byte}
+use Rattle.bus_due.specs.bus_story.specs.Budget.{longest_need}
 
 -- ---- the table
 
@@ -60,7 +58,7 @@ messages_again m place x nexts.Status = omega arith
 messages_again m place x nexts.GoOn = omega arith
 messages_again m place x nexts.Command = omega arith
 
-request_answered : (m : Messages) (next : Next) → Rattle.measure_laws.specs.Turns.after_answer next + 128 ≤ after_next m next + 0
+request_answered : (m : Messages) (next : Next) → after_answer next + 128 ≤ after_next m next + 0
 request_answered m nexts.FreeBus = omega arith
 request_answered m nexts.Status = omega arith
 request_answered m nexts.GoOn = omega arith
@@ -75,9 +73,9 @@ next_some m nexts.Command = omega arith
 -- The phase before it by MSG and C/D, I/O being true.
 pays_by : (s : ScenarioValue) (r struck m d : Bool) (p : Plan) (place : ℕ)
     → after_words struck (record (plan_anew p) { cause = if m && d && true then causes.InMessage else if d then causes.InStatus else causes.InData; messages = if m && d && true then from_byte p.messages place else p.messages })
-            (if m && d && true then causes.InMessage else if d then causes.InStatus else causes.InData) + 128
-        ≤ phases_in r p (if m then phases.MessageIn else if d then phases.Status else phases.DataIn) + struck_left s struck
-pays_by s r true true true p place = messages_again p.messages place (Rattle.measure_laws.specs.Weights.for_byte * Rattle.bus_due.specs.bus_story.specs.Budget.longest_need s s.commands) p.next
+    (if m && d && true then causes.InMessage else if d then causes.InStatus else causes.InData) + 128
+    ≤ phases_in r p (if m then phases.MessageIn else if d then phases.Status else phases.DataIn) + struck_left s struck
+pays_by s r true true true p place = messages_again p.messages place (for_byte * longest_need s s.commands) p.next
 pays_by s r false true true p place = request_answered p.messages p.next
 pays_by s r true true false p place = let some = next_some p.messages p.next in omega (arith, some)
 pays_by s r false true false p place = let some = next_some p.messages p.next in omega (arith, some)
@@ -119,9 +117,9 @@ out_after s p row n c h turned begun out io =
     let read = reading_is k row n c false h (ap (λ (x : Option ℕ). is_some x) kind.1) in
     let w = hearing_of k row (reading_in k.story.bus_state n c false) in
     let refusing : is_refusing s (row ∷ p) ≡ struck =
-        (λ i. is_some (h.connection_is i) && is_some (read i).next && (if changes_phase (read i).change then (read i).change.before.io && struck && is_message_out (read i).change.after else is_refusing s p))
-        ∙ (λ i. if turned i then io i && struck && out i else is_refusing s p)
-        ∙ and_true struck in
+    (λ i. is_some (h.connection_is i) && is_some (read i).next && (if changes_phase (read i).change then (read i).change.before.io && struck && is_message_out (read i).change.after else is_refusing s p))
+    ∙ (λ i. if turned i then io i && struck && out i else is_refusing s p)
+    ∙ and_true struck in
     ap (λ (x : Bool). phases_left x j) refusing
     ∙ (λ i. if (t.exchange_is i).begun then phases_in struck (t.exchange_is i).plan (phase_of (t.bus_is i)) else for_reselection + 8 * for_phase)
     ∙ (λ i. phases_in struck (if not (out i) then record (plan_anew k.exchange.plan) { messages = (leaving s k n.target).messages; next = (leaving s k n.target).next } else if begun i then plan_in_message_out w k.exchange.plan else plan_anew k.exchange.plan) (out_phase c.after out i))
@@ -131,11 +129,13 @@ pub out_pays : (s : ScenarioValue) (p : List Row) (row : Row) (n : Connection) (
 out_pays s p row n c h turned begun out io =
     subst (λ x. x + 128 ≤ phases_left (is_refusing s p) k + struck_left s struck) (sym after)
     (subst (λ x. after_words struck (plan_in_message_out w k.exchange.plan) (cause_after c.before) + 128 ≤ x + struck_left s struck) (sym before)
-    (subst (λ (q : Bool). after_words struck (record (plan_anew k.exchange.plan) { cause = if c.before.msg && c.before.cd && q then causes.InMessage else if c.before.cd then causes.InStatus else causes.InData;
-            messages = if c.before.msg && c.before.cd && q then from_byte k.exchange.plan.messages (k.handshakes.requests - 1) else k.exchange.plan.messages })
-            (if c.before.msg && c.before.cd && q then causes.InMessage else if c.before.cd then causes.InStatus else causes.InData) + 128
-            ≤ phases_in (is_refusing s p) k.exchange.plan (if c.before.msg then (if q then phases.MessageIn else phases.MessageOut) else if c.before.cd then (if q then phases.Status else phases.Command) else if q then phases.DataIn else phases.DataOut) + struck_left s struck)
-        (sym io) (pays_by s (is_refusing s p) struck c.before.msg c.before.cd k.exchange.plan (k.handshakes.requests - 1))))
+    (subst (λ (q : Bool). after_words struck (record (plan_anew k.exchange.plan) {
+      cause = if c.before.msg && c.before.cd && q then causes.InMessage else if c.before.cd then causes.InStatus else causes.InData;
+      messages = if c.before.msg && c.before.cd && q then from_byte k.exchange.plan.messages (k.handshakes.requests - 1) else k.exchange.plan.messages;
+    })
+    (if c.before.msg && c.before.cd && q then causes.InMessage else if c.before.cd then causes.InStatus else causes.InData) + 128
+    ≤ phases_in (is_refusing s p) k.exchange.plan (if c.before.msg then (if q then phases.MessageIn else phases.MessageOut) else if c.before.cd then (if q then phases.Status else phases.Command) else if q then phases.DataIn else phases.DataOut) + struck_left s struck)
+    (sym io) (pays_by s (is_refusing s p) struck c.before.msg c.before.cd k.exchange.plan (k.handshakes.requests - 1))))
   where
     k : RunState
     k = run_state s p

@@ -2,7 +2,7 @@
 use Rattle.std.proofs.Common.{ℕ, ◌≡◌, ◌∙◌, Bool, true, false, List, ◌∷◌, refl, sym, ap, Option, Some, None}
 use Rattle.std.specs.Prelude.{◌+◌, ◌*◌, if◌then◌else◌, is_some}
 use Rattle.bus_due.specs.bus_trace.specs.LineSet.{LineSet}
-use Rattle.bus_due.specs.bus_trace.specs.Phases.{changes_phase, is_message_out}
+use Rattle.bus_due.specs.bus_trace.specs.Phases.{is_message_out}
 use Rattle.bus_due.specs.bus_trace.specs.Terms.{receiver_in}
 use Rattle.bus_due.specs.bus_trace.specs.declared.Row.{Row}
 use Rattle.bus_due.specs.bus_trace.specs.declared.connection.Connection.{Connection}
@@ -19,16 +19,15 @@ use Rattle.bus_due.specs.bus_dialogue.specs.Exchange.{Exchange, nothing_heard, p
 use Rattle.bus_due.specs.bus_dialogue.specs.NextPhase.{phase_of}
 use Rattle.bus_due.specs.bus_dialogue.specs.Planning.{plan_with_byte}
 use Rattle.bus_due.specs.Defs.{host_of}
-use Rattle.bus_due.specs.RunState.{RunState, bus_of}
+use Rattle.bus_due.specs.RunState.{bus_of}
 use Rattle.bus_due.specs.RunSteps.{run_state}
 use Rattle.bus_due.specs.Sights.{hearing_of, leaving}
 use Rattle.bus_due.proofs.Plains.{run_state_plain}
 use Rattle.bus_due.proofs.Stills.{still_talk}
 use Rattle.progress_laws.specs.bus_books.specs.Rows.{crosses, reading_in, still}
 use Rattle.progress_laws.specs.bus_books.proofs.InConnection.{in_connection}
-use Rattle.progress_laws.specs.bus_laws.specs.Ends.{EndLines, connected_bus}
+use Rattle.progress_laws.specs.bus_laws.specs.Ends.{EndLines}
 use Rattle.progress_laws.specs.bus_laws.specs.Rows.{row_of_lines}
-use Rattle.progress_laws.specs.bus_books.specs.WrongParity.{is_refusing}
 use Rattle.progress_laws.specs.trace_laws.proofs.Kept.{row_in, turn}
 use Rattle.measure_laws.specs.Turns.{after_words, phases_in, phases_left}
 use Rattle.measure_laws.specs.Weights.{for_phase, for_reselection}

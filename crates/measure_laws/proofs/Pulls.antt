@@ -1,5 +1,5 @@
 -- What is under way falls with rows before the first REQ of a phase, and with the rows of pulses.
-use Rattle.std.proofs.Common.{ℕ, suc, ◌≡◌, ◌≤◌, ◌∙◌, Bool, true, false, List, length, refl, ap, arith}
+use Rattle.std.proofs.Common.{ℕ, suc, ◌≡◌, ◌≤◌, Bool, true, false, length, refl, ap, arith}
 use Rattle.std.specs.Prelude.{◌+◌, ◌-◌, ◌*◌, ◌==◌, not, ◌&&◌}
 use Rattle.bus_due.specs.bus_base.proofs.Tests.{and_false, and_true}
 use Rattle.bus_due.specs.bus_lines.specs.Handshakes.{Handshakes, no_handshakes}
@@ -71,6 +71,6 @@ pub out_shape : (ack atn req : Bool) (x : ℕ) (h : Handshakes) (g : Offering) (
 out_shape ack atn req x h g a asked =
     let e : EndLines = ends false ack atn x false false false req 0 in
     let driven : one_where (is_driven true (initiator_side e) a.byte && true && not (length h.waiting == 0)) ≡ one_where ((not ack && x == byte_bits a.byte) && not (length h.waiting == 0)) =
-        ap (λ (q : Bool). one_where (q && not (length h.waiting == 0))) (and_true (is_driven true (initiator_side e) a.byte)) in
+    ap (λ (q : Bool). one_where (q && not (length h.waiting == 0))) (and_true (is_driven true (initiator_side e) a.byte)) in
     let first = no_first (h.requests == 0) false true asked in
     omega arith

@@ -1,10 +1,9 @@
 -- By pulses the measure falls with each row with which REQ or ACK rises.
-use Rattle.std.proofs.Common.{ℕ, suc, zero, ◌≡◌, ◌≤◌, ◌<◌, ◌∙◌, Bool, true, false, List, [], ◌∷◌, length, refl, sym, ap, subst, arith, Option, Some, None}
-use Rattle.std.specs.Prelude.{◌+◌, ◌-◌, ◌*◌, ◌++◌, ◌==◌, ◌^◌, min, drop, if◌then◌else◌, not, ◌&&◌, nat_lt}
+use Rattle.std.proofs.Common.{ℕ, suc, ◌≡◌, ◌≤◌, ◌<◌, ◌∙◌, Bool, true, false, List, [], ◌∷◌, length, refl, sym, ap, subst, arith}
+use Rattle.std.specs.Prelude.{◌+◌, ◌-◌, ◌*◌, ◌++◌, ◌==◌, ◌^◌, drop, if◌then◌else◌, not, ◌&&◌, nat_lt}
 use Rattle.std.proofs.lemmas.Bool.{ltb-true}
 use Rattle.std.proofs.lemmas.Bool.Decides.{nat_tests}
 use Rattle.bus_due.specs.bus_base.specs.Faults.{counted_on}
-use Rattle.bus_due.specs.bus_base.proofs.Tests.{eq_self}
 use Rattle.bus_due.specs.bus_trace.specs.LineSet.{LineSet}
 use Rattle.bus_due.specs.bus_trace.specs.declared.Row.{Row}
 use Rattle.bus_due.specs.bus_trace.specs.declared.connection.Connection.{Connection}
@@ -20,10 +19,9 @@ use Rattle.bus_due.specs.Sights.{answering_of, offering_of, sending_of}
 use Rattle.progress_laws.specs.bus_laws.specs.Ends.{EndLines, initiator_side, target_side}
 use Rattle.progress_laws.specs.bus_laws.specs.Rows.{row_of_lines}
 use Rattle.progress_laws.specs.link_laws.specs.Phases.{ends}
-use Rattle.progress_laws.specs.link_laws.specs.Pulses.{Pulsing, byte_in_run, next_bits, offset_here, run_count}
-use Rattle.progress_laws.specs.link_laws.proofs.DataRows.{DataRow, bytes_stay, count_stays}
+use Rattle.progress_laws.specs.link_laws.specs.Pulses.{Pulsing, byte_in_run, next_bits, run_count}
+use Rattle.progress_laws.specs.link_laws.proofs.DataRows.{bytes_stay, count_stays}
 use Rattle.progress_laws.specs.link_laws.proofs.Moves.{initiator_in_phase, no_rise, target_in_phase}
-use Rattle.progress_laws.specs.link_laws.proofs.PulseDues.{given_bits}
 use Rattle.progress_laws.specs.link_laws.proofs.RunLengths.{runs_are_short}
 use Rattle.progress_laws.specs.link_laws.proofs.Shakes.{initiator_row, target_row}
 use Rattle.progress_laws.specs.bus_books.specs.WrongParity.{is_refusing}
@@ -39,17 +37,13 @@ use Rattle.measure_laws.proofs.PhaseStays.{phases_stay}
 use Rattle.measure_laws.proofs.Pulls.{in_shape, next_left, out_shape, waiting_out}
 use Rattle.measure_laws.proofs.Shifts.{Shifts, shift_falls}
 
--- The bits that are due after so many requests.
-bits_after : ScenarioValue → List Row → Connection → ℕ → ℕ
-bits_after s p n requests = bits_if (nat_lt requests (run_count s p n)) (byte_in_run s p n requests)
-
 -- ---- to the initiator
 
 shift_in : (s : ScenarioValue) (p : List Row) (t d : ℕ) (l o : LineSet) (n : Connection) (ack atn req ack' atn' req' : Bool) (y y' : ℕ) (h' : Handshakes) → Pulsing s p n true req ack atn 0 y
     → Shifts s p t d l n (ends false ack atn 0 false false true req y) (ends false ack' atn' 0 false false true req' y') o true
     → handshakes (row_of_lines t d l ∷ p) ≡ h' → (h'.requests == 0) ≡ false
     → suc (8 * (run_count s p n - h'.requests) + (4 * length h'.waiting + one_where req' + one_where ack' + next_left y' (bits_if (nat_lt h'.requests (run_count s p n)) (byte_in_run s p n h'.requests))))
-        ≤ 8 * (run_count s p n - (handshakes p).requests) + (4 * length (handshakes p).waiting + one_where req + one_where ack + next_left y (next_bits s p n))
+    ≤ 8 * (run_count s p n - (handshakes p).requests) + (4 * length (handshakes p).waiting + one_where req + one_where ack + next_left y (next_bits s p n))
     → suc (measure s (row_of_lines t d l ∷ p)) ≤ measure s p
 shift_in s p t d l o n ack atn req ack' atn' req' y y' h' h c hand some less =
     let e : EndLines = ends false ack atn 0 false false true req y in
@@ -65,18 +59,18 @@ shift_in s p t d l o n ack atn req ack' atn' req' y y' h' h c hand some less =
     let asks : (handshakes q).requests == 0 ≡ false = ap (λ (x : Handshakes). x.requests == 0) hand ∙ some in
     let requests = data_requests s q n false ack' atn' true req' 0 y' dw c.row.moves.linked ∙ (λ i. count i - (hand i).requests) in
     let bits = bits_at s q n ack' atn' req' 0 y' dw c.row.moves.linked (c.begins ∙ h.phase.begun_is) c.pulsed_next
-        ∙ (λ i. bits_if (nat_lt (hand i).requests (count i)) (byte_in_run s q n (hand i).requests))
-        ∙ ap (λ (b : ℕ). bits_if (nat_lt h'.requests (run_count s p n)) b) (bytes_stay s p row n (turn e f o l) h'.requests kept) in
+    ∙ (λ i. bits_if (nat_lt (hand i).requests (count i)) (byte_in_run s q n (hand i).requests))
+    ∙ ap (λ (b : ℕ). bits_if (nat_lt h'.requests (run_count s p n)) b) (bytes_stay s p row n (turn e f o l) h'.requests kept) in
     let before : way_by true e (handshakes p) (offering_of s k n.target) (answering_of s k n.initiator) ≡ 4 * length (handshakes p).waiting + one_where req + one_where ack + next_left y (next_bits s p n) =
-        in_shape ack atn req y (handshakes p) (offering_of s k n.target) (answering_of s k n.initiator) h.facts.asked
-        ∙ ap (λ (b : ℕ). 4 * length (handshakes p).waiting + one_where req + one_where ack + next_left y b) (bits_at s p n ack atn req 0 y dv h.linked h.phase.begun_is h.offset) in
+    in_shape ack atn req y (handshakes p) (offering_of s k n.target) (answering_of s k n.initiator) h.facts.asked
+    ∙ ap (λ (b : ℕ). 4 * length (handshakes p).waiting + one_where req + one_where ack + next_left y b) (bits_at s p n ack atn req 0 y dv h.linked h.phase.begun_is h.offset) in
     let after : way_by true f (handshakes q) (offering_of s j n.target) (answering_of s j n.initiator) ≡ 4 * length h'.waiting + one_where req' + one_where ack' + next_left y' (bits_if (nat_lt h'.requests (run_count s p n)) (byte_in_run s p n h'.requests)) =
-        in_shape ack' atn' req' y' (handshakes q) (offering_of s j n.target) (answering_of s j n.initiator) asks
-        ∙ (λ i. 4 * length (hand i).waiting + one_where req' + one_where ack' + next_left y' (bits i)) in
+    in_shape ack' atn' req' y' (handshakes q) (offering_of s j n.target) (answering_of s j n.initiator) asks
+    ∙ (λ i. 4 * length (hand i).waiting + one_where req' + one_where ack' + next_left y' (bits i)) in
     let was : for_byte * requests_left s k n.target + way_by true e (handshakes p) (offering_of s k n.target) (answering_of s k n.initiator) ≡ 8 * (run_count s p n - (handshakes p).requests) + (4 * length (handshakes p).waiting + one_where req + one_where ack + next_left y (next_bits s p n)) =
-        λ i. 8 * data_requests s p n false ack atn true req 0 y dv h.linked i + before i in
+    λ i. 8 * data_requests s p n false ack atn true req 0 y dv h.linked i + before i in
     let is : for_byte * requests_left s j n.target + way_by true f (handshakes q) (offering_of s j n.target) (answering_of s j n.initiator) ≡ 8 * (run_count s p n - h'.requests) + (4 * length h'.waiting + one_where req' + one_where ack' + next_left y' (bits_if (nat_lt h'.requests (run_count s p n)) (byte_in_run s p n h'.requests))) =
-        λ i. 8 * requests i + after i in
+    λ i. 8 * requests i + after i in
     shift_falls s p t d l n e f o true c (phases_stay s p t d l n e f o true c (is_refusing s p))
     (subst (λ v. suc v ≤ for_byte * requests_left s k n.target + way_by true e (handshakes p) (offering_of s k n.target) (answering_of s k n.initiator)) (sym is)
     (subst (λ v. suc (8 * (run_count s p n - h'.requests) + (4 * length h'.waiting + one_where req' + one_where ack' + next_left y' (bits_if (nat_lt h'.requests (run_count s p n)) (byte_in_run s p n h'.requests)))) ≤ v) (sym was) less))
@@ -87,7 +81,7 @@ shift_out : (s : ScenarioValue) (p : List Row) (t d : ℕ) (l o : LineSet) (n : 
     → Shifts s p t d l n (ends false ack atn x false false false req 0) (ends false ack' atn' x' false false false req' 0) o true
     → handshakes (row_of_lines t d l ∷ p) ≡ h' → (h'.requests == 0) ≡ false
     → ((g : ℕ) → suc (8 * (run_count s p n - h'.requests) + (waiting_out (not ack' && x' == byte_bits g) (length h'.waiting) + one_where req' + one_where ack' + one_where (not (x' == 0))))
-        ≤ 8 * (run_count s p n - (handshakes p).requests) + (waiting_out (not ack && x == byte_bits (data_given (sending_of s (run_state s p)))) (length (handshakes p).waiting) + one_where req + one_where ack + one_where (not (x == 0))))
+    ≤ 8 * (run_count s p n - (handshakes p).requests) + (waiting_out (not ack && x == byte_bits (data_given (sending_of s (run_state s p)))) (length (handshakes p).waiting) + one_where req + one_where ack + one_where (not (x == 0))))
     → suc (measure s (row_of_lines t d l ∷ p)) ≤ measure s p
 shift_out s p t d l o n ack atn req ack' atn' req' x x' h' h c hand some less =
     let e : EndLines = ends false ack atn x false false false req 0 in
@@ -104,15 +98,15 @@ shift_out s p t d l o n ack atn req ack' atn' req' x x' h' h c hand some less =
     let requests = data_requests s q n false ack' atn' false req' x' 0 dw c.row.moves.linked ∙ (λ i. count i - (hand i).requests) in
     let g = (answering_of s j n.initiator).byte in
     let before : way_by true e (handshakes p) (offering_of s k n.target) (answering_of s k n.initiator) ≡ waiting_out (not ack && x == byte_bits (data_given (sending_of s k))) (length (handshakes p).waiting) + one_where req + one_where ack + one_where (not (x == 0)) =
-        out_shape ack atn req x (handshakes p) (offering_of s k n.target) (answering_of s k n.initiator) h.facts.asked
-        ∙ ap (λ (b : ℕ). waiting_out (not ack && x == byte_bits b) (length (handshakes p).waiting) + one_where req + one_where ack + one_where (not (x == 0))) (given_at s p n ack atn req x 0 dv h.linked) in
+    out_shape ack atn req x (handshakes p) (offering_of s k n.target) (answering_of s k n.initiator) h.facts.asked
+    ∙ ap (λ (b : ℕ). waiting_out (not ack && x == byte_bits b) (length (handshakes p).waiting) + one_where req + one_where ack + one_where (not (x == 0))) (given_at s p n ack atn req x 0 dv h.linked) in
     let after : way_by true f (handshakes q) (offering_of s j n.target) (answering_of s j n.initiator) ≡ waiting_out (not ack' && x' == byte_bits g) (length h'.waiting) + one_where req' + one_where ack' + one_where (not (x' == 0)) =
-        out_shape ack' atn' req' x' (handshakes q) (offering_of s j n.target) (answering_of s j n.initiator) asks
-        ∙ (λ i. waiting_out (not ack' && x' == byte_bits g) (length (hand i).waiting) + one_where req' + one_where ack' + one_where (not (x' == 0))) in
+    out_shape ack' atn' req' x' (handshakes q) (offering_of s j n.target) (answering_of s j n.initiator) asks
+    ∙ (λ i. waiting_out (not ack' && x' == byte_bits g) (length (hand i).waiting) + one_where req' + one_where ack' + one_where (not (x' == 0))) in
     let was : for_byte * requests_left s k n.target + way_by true e (handshakes p) (offering_of s k n.target) (answering_of s k n.initiator) ≡ 8 * (run_count s p n - (handshakes p).requests) + (waiting_out (not ack && x == byte_bits (data_given (sending_of s k))) (length (handshakes p).waiting) + one_where req + one_where ack + one_where (not (x == 0))) =
-        λ i. 8 * data_requests s p n false ack atn false req x 0 dv h.linked i + before i in
+    λ i. 8 * data_requests s p n false ack atn false req x 0 dv h.linked i + before i in
     let is : for_byte * requests_left s j n.target + way_by true f (handshakes q) (offering_of s j n.target) (answering_of s j n.initiator) ≡ 8 * (run_count s p n - h'.requests) + (waiting_out (not ack' && x' == byte_bits g) (length h'.waiting) + one_where req' + one_where ack' + one_where (not (x' == 0))) =
-        λ i. 8 * requests i + after i in
+    λ i. 8 * requests i + after i in
     shift_falls s p t d l n e f o true c (phases_stay s p t d l n e f o true c (is_refusing s p))
     (subst (λ v. suc v ≤ for_byte * requests_left s k n.target + way_by true e (handshakes p) (offering_of s k n.target) (answering_of s k n.initiator)) (sym is)
     (subst (λ v. suc (8 * (run_count s p n - h'.requests) + (waiting_out (not ack' && x' == byte_bits g) (length h'.waiting) + one_where req' + one_where ack' + one_where (not (x' == 0)))) ≤ v) (sym was) (less g)))
@@ -152,7 +146,7 @@ pulsing_answers s p t n req atn to y dv h waits =
     let f : EndLines = ends false true to 0 false false true req y in
     let c = shift_initiator s p t n e false true to 0 true dv h.linked h.phase.begun_is h.offset (quiet_other e f (initiator_side e) (initiator_side f) refl) in
     let hand : handshakes (row_of_lines t n.initiator (initiator_side f) ∷ p) ≡ answered t (handshakes p) =
-        (initiator_in_phase p n e false true to 0 t h.linked).handshakes_are ∙ ap (λ (q : Bool). answered t (asked_if q t (handshakes p))) (no_rise req) in
+    (initiator_in_phase p n e false true to 0 t h.linked).handshakes_are ∙ ap (λ (q : Bool). answered t (asked_if q t (handshakes p))) (no_rise req) in
     let fewer = one_fewer (handshakes p).waiting waits in
     shift_in s p t n.initiator _ _ n false atn req true to req y y (answered t (handshakes p)) h c hand h.facts.asked (omega (arith, fewer))
 
@@ -163,7 +157,7 @@ pulsing_sends s p t n req atn x dv h waits =
     let f : EndLines = ends false true atn x false false false req 0 in
     let c = shift_initiator s p t n e false true atn x true dv h.linked h.phase.begun_is h.offset (quiet_other e f (initiator_side e) (initiator_side f) refl) in
     let hand : handshakes (row_of_lines t n.initiator (initiator_side f) ∷ p) ≡ answered t (handshakes p) =
-        (initiator_in_phase p n e false true atn x t h.linked).handshakes_are ∙ ap (λ (q : Bool). answered t (asked_if q t (handshakes p))) (no_rise req) in
+    (initiator_in_phase p n e false true atn x t h.linked).handshakes_are ∙ ap (λ (q : Bool). answered t (asked_if q t (handshakes p))) (no_rise req) in
     let fewer = one_fewer (handshakes p).waiting waits in
     let driven = one_at_most ((true && x == byte_bits (data_given (sending_of s (run_state s p)))) && not (length (handshakes p).waiting == 0)) in
     shift_out s p t n.initiator _ _ n false atn req true atn req x x (answered t (handshakes p)) h c hand h.facts.asked (λ g. omega (arith, fewer, driven))
@@ -179,7 +173,7 @@ pulsing_asks_in s p t n ack atn y ob dv h follows =
     let f : EndLines = ends false ack atn 0 false false true true y in
     let c = shift_target s p t n e true y true dv h.linked h.phase.begun_is h.offset in
     let hand : handshakes (row_of_lines t n.target (target_side f) ∷ p) ≡ asked t (handshakes p) =
-        (target_in_phase p n e true y t h.linked).handshakes_are ∙ ap (λ (q : Bool). answered_if q t (asked t (handshakes p))) (no_rise ack) in
+    (target_in_phase p n e true y t h.linked).handshakes_are ∙ ap (λ (q : Bool). answered_if q t (asked t (handshakes p))) (no_rise ack) in
     let more = one_more t (handshakes p).waiting in
     let less = count_falls (handshakes p).requests (run_count s p n) (ltb-true (handshakes p).requests (run_count s p n) follows) (runs_are_short s (obeys_fits s ob) p n) in
     let next = one_at_most (not (y == bits_if (nat_lt (counted_on (handshakes p).requests) (run_count s p n)) (byte_in_run s p n (counted_on (handshakes p).requests)))) in
@@ -192,7 +186,7 @@ pulsing_asks_out s p t n ack atn x ob dv h follows =
     let f : EndLines = ends false ack atn x false false false true 0 in
     let c = shift_target s p t n e true 0 true dv h.linked h.phase.begun_is h.offset in
     let hand : handshakes (row_of_lines t n.target (target_side f) ∷ p) ≡ asked t (handshakes p) =
-        (target_in_phase p n e true 0 t h.linked).handshakes_are ∙ ap (λ (q : Bool). answered_if q t (asked t (handshakes p))) (no_rise ack) in
+    (target_in_phase p n e true 0 t h.linked).handshakes_are ∙ ap (λ (q : Bool). answered_if q t (asked t (handshakes p))) (no_rise ack) in
     let more = one_more t (handshakes p).waiting in
     let less = count_falls (handshakes p).requests (run_count s p n) (ltb-true (handshakes p).requests (run_count s p n) follows) (runs_are_short s (obeys_fits s ob) p n) in
     let driven = one_at_most ((not ack && x == byte_bits (data_given (sending_of s (run_state s p)))) && not (length (handshakes p).waiting == 0)) in

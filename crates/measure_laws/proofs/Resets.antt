@@ -22,6 +22,7 @@ use Rattle.progress_laws.specs.bus_laws.specs.Rows.{row_of_lines}
 use Rattle.progress_laws.specs.bus_laws.proofs.Resets.{released_own}
 use Rattle.progress_laws.specs.bus_laws.proofs.Rows.{drives_own}
 use Rattle.measure_laws.specs.Future.{awaits_reset, one_where, resets_left}
+use Rattle.bus_due.specs.bus_trace.specs.declared.changes.Change.{Change}
 
 pub driven_other : (xs : List LineSet) (i j : ℕ) (v : LineSet) → i ≢ j → driven_at (slice_set xs i v) j ≡ driven_at xs j
 driven_other xs i j v h = grind (arith, common_steps, elements)
@@ -46,7 +47,7 @@ one_stays s p t d l dv lt off next dev at =
     k : RunState
     k = run_state s p
 
-    c : Rattle.bus_due.specs.bus_trace.specs.declared.changes.Change.Change
+    c : Change
     c = (row_reading k.story.bus_state row).change
 
     own : awaits_reset (drives_of j d).rst (own_at j.owns d) at ≡ awaits_reset (drives_of k d).rst (own_at k.owns d) at

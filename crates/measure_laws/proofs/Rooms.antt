@@ -1,14 +1,12 @@
 -- What is asked for is of the phase: so fewer requests are left after it, of MESSAGE IN, STATUS, DATA IN and DATA OUT.
-use Rattle.std.proofs.Common.{ℕ, suc, zero, ◌≡◌, ◌≤◌, ◌<◌, ◌∙◌, Bool, true, false, List, [], ◌∷◌, length, refl, sym, ap, subst, arith, Option, Some, None}
-use Rattle.std.specs.Prelude.{◌+◌, ◌-◌, ◌*◌, ◌++◌, ◌==◌, ◌^◌, if◌then◌else◌, not, ◌&&◌, ◌||◌, is_some, nat_lt}
-use Rattle.std.proofs.lemmas.Bool.{eqb-true, ltb-true}
-use Rattle.bus_due.specs.bus_base.proofs.Tests.{wrong, wrong'}
-use Rattle.bus_due.specs.bus_trace.specs.LineSet.{LineSet}
+use Rattle.std.proofs.Common.{ℕ, ◌≡◌, ◌≤◌, ◌<◌, ◌∙◌, Bool, true, false, List, [], ◌∷◌, length, refl, sym, ap, subst, arith, Option, Some, None}
+use Rattle.std.specs.Prelude.{◌+◌, ◌++◌, ◌==◌, ◌^◌, if◌then◌else◌, not, ◌&&◌, ◌||◌, is_some, nat_lt}
+use Rattle.std.proofs.lemmas.Bool.{ltb-true}
+use Rattle.bus_due.specs.bus_base.proofs.Tests.{wrong'}
 use Rattle.bus_due.specs.bus_trace.specs.declared.Row.{Row}
 use Rattle.bus_due.specs.bus_trace.specs.declared.connection.Connection.{Connection}
 use Rattle.bus_due.specs.msg_grammar.specs.declared.message.MsgIn.{MsgIn}
 use Rattle.bus_due.specs.msg_grammar.specs.declared.message.MsgIn.TheVariants as to_initiator
-use Rattle.bus_due.specs.msg_grammar.specs.Messages.{in_bytes}
 use Rattle.bus_due.specs.bus_lines.specs.Handshakes.{Handshakes, handshakes, no_handshakes}
 use Rattle.bus_due.specs.scenario.specs.Value.{ScenarioValue}
 use Rattle.bus_due.specs.scenario.specs.Writing.{Obeys}
@@ -16,20 +14,17 @@ use Rattle.progress_laws.specs.scsi_device.proofs.FitLines.{obeys_fits}
 use Rattle.bus_due.specs.bus_dialogue.specs.declared.exchange.Messages.{Messages}
 use Rattle.bus_due.specs.bus_dialogue.specs.declared.exchange.Phase.TheVariants as phases
 use Rattle.bus_due.specs.bus_dialogue.specs.Exchange.{bytes_of_messages, message_bytes}
-use Rattle.bus_due.specs.bus_dialogue.specs.Hearing.{begun}
 use Rattle.bus_due.specs.bus_dialogue.specs.NextPhase.{phase_of}
 use Rattle.bus_due.specs.bus_dialogue.specs.PhaseBytes.{follows_in}
 use Rattle.bus_due.specs.Plain.{AreOfDevices}
-use Rattle.bus_due.specs.RunState.{RunState, bus_of}
 use Rattle.bus_due.specs.RunSteps.{run_state}
 use Rattle.bus_due.specs.Sights.{serving_at}
 use Rattle.bus_due.proofs.Plains.{run_state_plain}
-use Rattle.progress_laws.specs.bus_laws.specs.Ends.{EndLines, Linked, connected_bus}
+use Rattle.progress_laws.specs.bus_laws.specs.Ends.{Linked}
 use Rattle.progress_laws.specs.link_laws.specs.Phases.{Shaking, ends}
 use Rattle.progress_laws.specs.link_laws.specs.Pulses.{run_count}
 use Rattle.progress_laws.specs.link_laws.proofs.EndDues.{offering_with}
 use Rattle.progress_laws.specs.link_laws.proofs.RunLengths.{runs_are_short}
-use Rattle.progress_laws.specs.trace_laws.proofs.LinkRows.{is_pulsed}
 use Rattle.progress_laws.specs.trace_laws.proofs.Plans.{Planned}
 use Rattle.measure_laws.proofs.AskRows.{HasRoomIn}
 
@@ -103,5 +98,5 @@ next_room_in s p n atn true cd y o h follows =
 next_room_in s p n atn false true y o h follows = wrong' (sym h.asked ∙ follows)
 next_room_in s p n atn false false y o h follows =
     let less : nat_lt (handshakes p).requests (run_count s p n) ≡ true =
-        sym (ap (λ (q : Bool). if q then nat_lt (handshakes p).requests (run_count s p n) else follows_in (serving_at s (run_state s p) n.target phases.DataIn) (handshakes p) atn phases.DataIn) h.unpulsed) ∙ follows in
+    sym (ap (λ (q : Bool). if q then nat_lt (handshakes p).requests (run_count s p n) else follows_in (serving_at s (run_state s p) n.target phases.DataIn) (handshakes p) atn phases.DataIn) h.unpulsed) ∙ follows in
     (ltb-true (handshakes p).requests (run_count s p n) less, runs_are_short s (obeys_fits s o) p n)

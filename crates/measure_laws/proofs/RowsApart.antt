@@ -1,18 +1,14 @@
 -- With each row before which and after which no connection stands, RST being false, the measure falls.
-use Rattle.std.proofs.Common.{◌≡◌, ◌≤◌, ◌<◌, ◌∙◌, suc, true, false, List, ◌∷◌, None, refl, sym, ap}
+use Rattle.std.proofs.Common.{◌≡◌, ◌≤◌, ◌<◌, ◌∙◌, suc, false, List, ◌∷◌, None, sym}
 use Rattle.bus_due.specs.bus_base.proofs.Tests.{wrong}
-use Rattle.bus_due.specs.bus_trace.specs.LineSet.{LineSet}
 use Rattle.bus_due.specs.bus_trace.specs.declared.Row.{Row}
 use Rattle.bus_due.specs.bus_trace.specs.Terms.{connection}
-use Rattle.bus_due.specs.bus_trace.specs.Trace.{bus, drives}
-use Rattle.bus_due.specs.bus_trace.proofs.Buses.{bus_on}
-use Rattle.bus_due.specs.bus_rules.specs.Reset.{only_rst}
+use Rattle.bus_due.specs.bus_trace.specs.Trace.{bus}
 use Rattle.bus_due.specs.scenario.specs.Value.{ScenarioValue}
 use Rattle.bus_due.specs.scenario.specs.Writing.{Obeys}
 use Rattle.bus_due.specs.Least.{IsLeast}
-use Rattle.bus_due.specs.Next.{due, IsPrompt}
+use Rattle.bus_due.specs.Next.{IsPrompt}
 use Rattle.bus_due.specs.Plain.{AreOfDevices}
-use Rattle.progress_laws.specs.bus_laws.specs.Rows.{row_of_lines}
 use Rattle.progress_laws.specs.bus_laws.specs.Reactions.{unreset_due}
 use Rattle.progress_laws.specs.bus_laws.specs.Stages.{BusStage, CalmStanding, HasShortLatencies, NextCalmRow, on_free_bus, in_arbitration, after_arbitration, with_both_ids, awaiting_answer, after_withdrawal, after_answer, after_takeover, in_reset, in_connection}
 use Rattle.progress_laws.specs.bus_laws.proofs.FromAnswer.{from_answered, from_resumed, from_withdrawn}
@@ -21,9 +17,6 @@ use Rattle.progress_laws.specs.bus_laws.proofs.FromCalling.{from_asking, from_ca
 use Rattle.progress_laws.specs.bus_laws.proofs.FromFree.{from_free}
 use Rattle.progress_laws.specs.bus_laws.proofs.FromWon.{from_won}
 use Rattle.progress_laws.specs.bus_laws.proofs.Limits.{obeys_latencies}
-use Rattle.progress_laws.specs.bus_laws.proofs.Prompt.{least_is}
-use Rattle.progress_laws.specs.bus_laws.proofs.Rows.{drives_own}
-use Rattle.progress_laws.specs.bus_laws.proofs.Together.{by_calm, by_reset, reset_or_calm}
 use Rattle.progress_laws.specs.trace_laws.proofs.Called.{link_none}
 use Rattle.progress_laws.specs.trace_laws.proofs.Impossible.{none_some}
 use Rattle.progress_laws.specs.trace_laws.proofs.Joint.{Stood}
@@ -70,17 +63,3 @@ calm_row_falls s p row o prompt was alone calm always first =
 
     here : BusStage s p
     here = apart_of s p stood.here was
-
--- And with any row but a reset.
-pub apart_falls : (s : ScenarioValue) (p : List Row) (row : Row) → Obeys s → IsPrompt s (row ∷ p) → connection p ≡ None → connection (row ∷ p) ≡ None → (bus p).rst ≡ false → (bus (row ∷ p)).rst ≡ false → suc (measure s (row ∷ p)) ≤ measure s p
-apart_falls s p row o prompt was alone calm next =
-    elim (reset_or_calm s p row (whole s p o prompt.0).stood.standing calm least) [
-      | by_reset z ↦ wrong (sym (rst_on z) ∙ next)
-      | by_calm always first ↦ calm_row_falls s p row o prompt was alone calm always first
-    ]
-  where
-    least : IsLeast (due s p) 8 row
-    least = least_is s p row prompt.1
-
-    rst_on : row ≡ row_of_lines row.time row.dev only_rst → (bus (row ∷ p)).rst ≡ true
-    rst_on z = bus_on (λ y. y.rst) (λ _ _. refl) (row ∷ p) row.dev least.inside (ap (λ (x : Row). (drives (x ∷ p) row.dev).rst) z ∙ ap (λ (l : LineSet). l.rst) (drives_own p row.time row.dev only_rst))

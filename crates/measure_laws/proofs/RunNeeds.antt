@@ -1,10 +1,10 @@
 -- A command that has more data runs to make has them of the runs that are set aside for it: what it moves is what it needs.
-use Rattle.std.proofs.Common.{ℕ, ◌≡◌, ◌<◌, ◌+◌, ◌*◌, ◌∙◌, Bool, true, false, not, ◌&&◌, ◌||◌, List, [], ◌∷◌, length, Option, Some, None, Result, Ok, Err, refl, sym, ap, arith}
+use Rattle.std.proofs.Common.{ℕ, ◌≡◌, ◌<◌, ◌+◌, ◌*◌, ◌∙◌, Bool, true, false, ◌&&◌, ◌||◌, List, [], ◌∷◌, length, Option, Some, None, Result, Ok, Err, refl, sym, ap, arith}
 use Rattle.std.specs.Prelude.{◌==◌, if◌then◌else◌, is_some, nat_le, nat_lt}
 use Rattle.std.specs.List.{find, list_any}
 use Rattle.std.proofs.lemmas.Bool.{and_parts, eqb-true}
 use Rattle.std.proofs.lemmas.Option.{same_Some}
-use Rattle.bus_due.specs.bus_base.proofs.Tests.{wrong, wrong'}
+use Rattle.bus_due.specs.bus_base.proofs.Tests.{wrong'}
 use Rattle.bus_due.specs.cdb_codec.specs.Blocks.{blocks_moved}
 use Rattle.bus_due.specs.cdb_codec.specs.Cdb.{command_of}
 use Rattle.bus_due.specs.cdb_codec.specs.declared.command.CdbFault.{CdbFault}
@@ -23,23 +23,23 @@ use Rattle.bus_due.specs.disk_array.specs.ArrayHistory.{array_after}
 use Rattle.bus_due.specs.disk_array.specs.Contents.{Contents}
 use Rattle.bus_due.specs.disk_array.specs.Execution.{execution, is_good_range, range_of}
 use Rattle.bus_due.specs.disk_array.specs.Order.{range_in}
-use Rattle.bus_due.specs.disk_array.specs.Processes.{Process, command_process, process_by, process_if, process_of, sense_block, sense_process, command_at}
+use Rattle.bus_due.specs.disk_array.specs.Processes.{Process, command_process, process_by, process_if, process_of, sense_process, command_at}
 use Rattle.bus_due.specs.disk_array.specs.Steps.{context_at}
 use Rattle.bus_due.specs.disk_array.specs.Units.{Array, UnitState, nexus_of, unit_state_at}
 use Rattle.bus_due.specs.bus_story.specs.Budget.{data_runs, runs_at, runs_of, runs_over}
 use Rattle.bus_due.specs.bus_dialogue.specs.Arrivals.{policy_of}
-use Rattle.bus_due.specs.bus_dialogue.specs.DataRuns.{runs_in, runs_in_all}
-use Rattle.bus_due.specs.bus_dialogue.specs.declared.exchange.Task.{Task}
+use Rattle.bus_due.specs.bus_dialogue.specs.DataRuns.{runs_in}
 use Rattle.bus_due.specs.Defs.{target_def_of}
 use Rattle.bus_due.specs.RunState.{RunState, array_of}
 use Rattle.bus_due.specs.Tasks.{blocks_in, is_writing, moved_count, reply_now, size_of}
-use Rattle.progress_laws.specs.target_units.proofs.Rooms.{IsByLine, by_line, good_range}
-use Rattle.progress_laws.specs.target_units.specs.Rooms.{AreOfLines, IsOfLine}
+use Rattle.progress_laws.specs.target_units.proofs.Rooms.{IsByLine, good_range}
+use Rattle.progress_laws.specs.target_units.specs.Rooms.{IsOfLine}
 use Rattle.progress_laws.specs.trace_laws.proofs.Impossible.{none_some}
 use Rattle.progress_laws.specs.trace_laws.proofs.RunFacts.{task_here}
 use Rattle.progress_laws.specs.trace_laws.proofs.RunFits.{FitsRuns, fits_runs, lines_now}
 use Rattle.progress_laws.specs.trace_laws.proofs.Tests.{some_zero, zero_times}
 use Rattle.right_laws.proofs.ReadRuns.{fits_reads}
+use Rattle.right_laws.proofs.ReplyLengths.{need_is}
 use Rattle.measure_laws.proofs.DataLeavings.{HasMore}
 
 -- ---- an automatic REQUEST SENSE moves no blocks
@@ -78,7 +78,8 @@ blocks_needed r u c blocks is count size good = go r is good
 
 -- ---- so it needs what it moves
 
-target_there : (s : ScenarioValue) (dev : ℕ) → is_some (target_def_of s dev) ≡ true → has_target s dev ≡ true
+-- The target of a scenario that is found is there.
+pub target_there : (s : ScenarioValue) (dev : ℕ) → is_some (target_def_of s dev) ≡ true → has_target s dev ≡ true
 target_there s dev = go s.targets
   where
     go : (targets : List TargetDef) → is_some (find (λ (t : TargetDef). t.dev == dev) targets) ≡ true → list_any (λ (t : TargetDef). t.dev == dev) targets ≡ true
@@ -89,10 +90,6 @@ target_there s dev = go s.targets
             → is_some (if q then Some t else find (λ (x : TargetDef). x.dev == dev) targets) ≡ true → (q || list_any (λ (x : TargetDef). x.dev == dev) targets) ≡ true
         by true more z = refl
         by false more z = more z
-
-need_is : (s : ScenarioValue) (c : CmdDef) → has_target s c.target ≡ true → need_of s c ≡ moved_by (command_of c.cdb) (unit_of s c.target c.unit)
-unfolding need_of
-need_is s c t = λ i. if t i then moved_by (command_of c.cdb) (unit_of s c.target c.unit) else 0
 
 carried_out : (a : Array) (q : Process) → (moved_count q (reply_now a q) == 0) ≡ false → (reply_now a q).status ≡ GOOD
 carried_out a q some = go ((reply_now a q).status == GOOD) refl
@@ -127,7 +124,7 @@ need_moved s k q h blocks o is own there named some =
     go None (Some v) e l = absurd l
     go (Some u) (Some v) e l =
         let good : (execution (context_at a (nexus_of q) (Some v)) q.cdb q.sent).reply.status ≡ GOOD =
-            ap (λ (x : Option UnitState). (execution (context_at a (nexus_of q) x) q.cdb q.sent).reply.status) (sym e) ∙ carried_out a q some in
+        ap (λ (x : Option UnitState). (execution (context_at a (nexus_of q) x) q.cdb q.sent).reply.status) (sym e) ∙ carried_out a q some in
         blocks_needed (command_of q.cdb) u v.contents blocks named l.0 l.1 (λ c f. good_range (context_at a (nexus_of q) (Some v)) q.cdb q.sent c refl f good)
         ∙ ap (λ (x : Option UnitState). blocks * size_of x) (sym e) ∙ sym all
 

@@ -1,47 +1,37 @@
 -- Byte by byte the measure falls with each row with which REQ or ACK rises.
-use Rattle.std.proofs.Common.{ℕ, suc, zero, ◌≡◌, ◌≤◌, ◌<◌, ◌∙◌, Bool, true, false, List, ◌∷◌, length, refl, sym, ap, subst, arith, Option, Some, None}
-use Rattle.std.specs.Prelude.{◌+◌, ◌-◌, ◌*◌, ◌==◌, if◌then◌else◌, not, ◌&&◌, nat_lt}
-use Rattle.std.proofs.lemmas.Bool.{ltb-true}
+use Rattle.std.proofs.Common.{ℕ, suc, ◌≡◌, ◌≤◌, ◌∙◌, Bool, true, false, List, ◌∷◌, length, refl, sym, ap, subst, arith}
+use Rattle.std.specs.Prelude.{◌+◌, ◌-◌, ◌*◌, ◌==◌, not, ◌&&◌}
 use Rattle.bus_due.specs.bus_base.proofs.Tests.{and_false}
 use Rattle.bus_due.specs.bus_trace.specs.LineSet.{LineSet}
 use Rattle.bus_due.specs.bus_trace.specs.declared.Row.{Row}
 use Rattle.bus_due.specs.bus_trace.specs.declared.connection.Connection.{Connection}
-use Rattle.bus_due.specs.msg_grammar.specs.declared.message.MsgIn.{MsgIn}
-use Rattle.bus_due.specs.bus_lines.specs.Handshakes.{Handshakes, answered, answered_if, asked, asked_if, handshakes, no_handshakes}
+use Rattle.bus_due.specs.bus_lines.specs.Handshakes.{Handshakes, answered, handshakes}
 use Rattle.bus_due.specs.scenario.specs.Value.{ScenarioValue}
-use Rattle.bus_due.specs.scenario.specs.Writing.{Obeys}
-use Rattle.progress_laws.specs.scsi_device.proofs.FitLines.{obeys_fits}
-use Rattle.bus_due.specs.bus_dialogue.specs.declared.exchange.Messages.{Messages}
-use Rattle.bus_due.specs.bus_dialogue.specs.declared.exchange.Phase.TheVariants as phases
 use Rattle.bus_due.specs.bus_dialogue.specs.Arrivals.{policy_of}
-use Rattle.bus_due.specs.bus_dialogue.specs.Exchange.{Speech, bytes_of_messages}
-use Rattle.bus_due.specs.bus_dialogue.specs.Hearing.{begun}
+use Rattle.bus_due.specs.bus_dialogue.specs.Exchange.{bytes_of_messages}
 use Rattle.bus_due.specs.bus_dialogue.specs.NextPhase.{phase_of}
 use Rattle.bus_due.specs.bus_dialogue.specs.PhaseBytes.{run_length_if}
 use Rattle.bus_due.specs.Defs.{target_def_of}
 use Rattle.bus_due.specs.Plain.{AreOfDevices}
-use Rattle.bus_due.specs.RunState.{RunState, bus_of}
+use Rattle.bus_due.specs.RunState.{bus_of}
 use Rattle.bus_due.specs.RunSteps.{run_state}
 use Rattle.bus_due.specs.Sights.{answering_of, offering_of}
 use Rattle.bus_due.specs.Tasks.{task_of}
 use Rattle.bus_due.proofs.Plains.{run_state_plain}
-use Rattle.progress_laws.specs.bus_laws.specs.Ends.{EndLines, Linked, connected_bus, initiator_side, target_side}
+use Rattle.progress_laws.specs.bus_laws.specs.Ends.{EndLines, Linked, initiator_side}
 use Rattle.progress_laws.specs.bus_laws.specs.Rows.{row_of_lines}
-use Rattle.progress_laws.specs.link_laws.specs.Phases.{Settling, Shaking, ends}
+use Rattle.progress_laws.specs.link_laws.specs.Phases.{Shaking, ends}
 use Rattle.progress_laws.specs.link_laws.specs.Pulses.{run_count}
 use Rattle.progress_laws.specs.link_laws.proofs.DataRows.{count_stays}
-use Rattle.progress_laws.specs.link_laws.proofs.Moves.{initiator_in_phase, no_rise, target_in_phase}
-use Rattle.progress_laws.specs.link_laws.proofs.Shakes.{initiator_row, target_row}
+use Rattle.progress_laws.specs.link_laws.proofs.Moves.{initiator_in_phase}
+use Rattle.progress_laws.specs.link_laws.proofs.Shakes.{initiator_row}
 use Rattle.progress_laws.specs.bus_books.specs.WrongParity.{is_refusing}
 use Rattle.progress_laws.specs.trace_laws.proofs.Kept.{data_row, turn}
-use Rattle.progress_laws.specs.trace_laws.proofs.LinkRows.{is_pulsed}
 use Rattle.measure_laws.specs.Measure.{measure}
 use Rattle.measure_laws.specs.Turns.{is_asked, requests_by, requests_left, words_left}
-use Rattle.measure_laws.specs.Weights.{for_byte}
-use Rattle.measure_laws.proofs.ByteRows.{quiet_other, shift_initiator, shift_target}
-use Rattle.measure_laws.proofs.Calm.{way_by}
+use Rattle.measure_laws.proofs.ByteRows.{quiet_other, shift_initiator}
 use Rattle.measure_laws.proofs.PhaseStays.{messages_stay, phases_stay}
-use Rattle.measure_laws.proofs.Shakes.{answers, asks, sends}
+use Rattle.measure_laws.proofs.Shakes.{answers, sends}
 use Rattle.measure_laws.proofs.Shifts.{Shifts, shift_falls}
 
 -- ---- how many requests are left
@@ -123,7 +113,7 @@ out_next s p t d l o n bsy ack atn false req bsy' ack' atn' req' x y x' y' u h' 
 one_sum : (r s w v : ℕ) → r ≤ s → suc w ≤ v → suc (8 * r + w) ≤ 8 * s + v
 one_sum r s w v a b = omega (arith, a, b)
 
-eight_sum : (r s w v : ℕ) → suc r ≤ s → suc w ≤ 8 + v → suc (8 * r + w) ≤ 8 * s + v
+pub eight_sum : (r s w v : ℕ) → suc r ≤ s → suc w ≤ 8 + v → suc (8 * r + w) ≤ 8 * s + v
 eight_sum r s w v a b = omega (arith, a, b)
 
 -- ACK rises: to the initiator, where this shows no event; and to the target.

@@ -113,7 +113,7 @@ shift_sum f g c d e y z l h = omega arith
 pub shift_falls : (s : ScenarioValue) (p : List Row) (t d : ℕ) (l : LineSet) (n : Connection) (e f : EndLines) (o : LineSet) (u : Bool) → Shifts s p t d l n e f o u
     → phases_left (is_refusing s p) (run_state s (row_of_lines t d l ∷ p)) ≡ phases_left (is_refusing s p) (run_state s p)
     → suc (for_byte * requests_left s (run_state s (row_of_lines t d l ∷ p)) n.target + way_by u f (handshakes (row_of_lines t d l ∷ p)) (offering_of s (run_state s (row_of_lines t d l ∷ p)) n.target) (answering_of s (run_state s (row_of_lines t d l ∷ p)) n.initiator))
-        ≤ for_byte * requests_left s (run_state s p) n.target + way_by u e (handshakes p) (offering_of s (run_state s p) n.target) (answering_of s (run_state s p) n.initiator)
+    ≤ for_byte * requests_left s (run_state s p) n.target + way_by u e (handshakes p) (offering_of s (run_state s p) n.target) (answering_of s (run_state s p) n.initiator)
     → suc (measure s (row_of_lines t d l ∷ p)) ≤ measure s p
 shift_falls s p t d l n e f o u h phases less =
     let row : Row = row_of_lines t d l in

@@ -15,12 +15,13 @@ use Rattle.bus_due.specs.scenario.specs.Needs.{need_of}
 use Rattle.bus_due.specs.bus_story.specs.Budget.{bytes_of_all, data_runs, runs_of_all}
 use Rattle.bus_due.specs.bus_story.specs.Samples.{faults_in_order, with_fault}
 use Rattle.bus_due.specs.bus_story.specs.TraceHistory.{retries_of}
-use Rattle.bus_due.specs.RunState.{RunState}
+use Rattle.bus_due.specs.RunState.{RunState, drives_of}
 use Rattle.bus_due.specs.RunSteps.{first_run_state}
 use Rattle.progress_laws.specs.scsi_device.specs.Lines.{FitsBus, IsHostLine}
 use Rattle.progress_laws.specs.scsi_device.proofs.FitLines.{obeys_fits}
 use Rattle.measure_laws.specs.Future.{aborts_left, awaits_reset, bytes_after, bytes_over, commands_left, cut_bytes, one_where, resets_left}
 use Rattle.measure_laws.specs.Measure.{StartsWithin}
+use Rattle.bus_due.specs.Own.{own_at}
 
 -- ---- few tries
 
@@ -76,7 +77,7 @@ pub start_resets : (k : RunState) (resets : List ResetDef) → resets_left k res
 start_resets k [] = omega arith
 start_resets k (r ∷ resets) =
     let rest = start_resets k resets in
-    let one = one_at_most (awaits_reset (Rattle.bus_due.specs.RunState.drives_of k r.dev).rst (Rattle.bus_due.specs.Own.own_at k.owns r.dev) r.at) in
+    let one = one_at_most (awaits_reset (drives_of k r.dev).rst (own_at k.owns r.dev) r.at) in
     grind arith
 
 one_fault : (f : FaultDef) (faults : List FaultDef) → length (with_fault f faults) ≡ suc (length faults)

@@ -16,9 +16,9 @@ same_commands s j k w d n [] = refl
 same_commands s j k w d n (c ∷ commands) =
     let rest = same_commands s j k w d (n + 1) commands in
     λ i. (if has_item (w i).sent.over (command_item n) then sense_left (w i).sent n
-        else if has_item (w i).sent.sent (command_item n)
-        then open_left s (serves_item (w i).served (command_item n)) (d i) (progress_in (w i).progress (command_id n)).runs c
-        else unsent_left s (w i).sent n c) + rest i
+    else if has_item (w i).sent.sent (command_item n)
+    then open_left s (serves_item (w i).served (command_item n)) (d i) (progress_in (w i).progress (command_id n)).runs c
+    else unsent_left s (w i).sent n c) + rest i
 
 same_aborts : (s : ScenarioValue) (j k : RunState) → wishes_of j ≡ wishes_of k → (n : ℕ) (aborts : List AbortDef) → aborts_left s j.story.sent n aborts ≡ aborts_left s k.story.sent n aborts
 same_aborts s j k w n aborts = ap (λ (x : Wishes). aborts_left s x.sent n aborts) w

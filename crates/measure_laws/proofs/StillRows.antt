@@ -46,7 +46,7 @@ use Rattle.measure_laws.specs.Ways.{stage_left}
 use Rattle.measure_laws.specs.Weights.{for_byte, for_phase, for_reselection}
 use Rattle.bus_due.specs.bus_reactions.specs.declared.ends.Answering.{Answering}
 use Rattle.bus_due.specs.bus_reactions.specs.declared.ends.Offering.{Offering}
-use Rattle.measure_laws.proofs.Shakes.{ack_ends, gives, hands, req_ends, way}
+use Rattle.measure_laws.proofs.Shakes.{ack_ends, gives, req_ends, way}
 use Rattle.measure_laws.proofs.Resets.{resets_stay}
 use Rattle.measure_laws.proofs.Still.{future_same}
 
@@ -264,28 +264,4 @@ gives_falls s p t n atn to msg cd x dv h b u some =
       hand = r.handshakes_are;
       resets = resets_stay s p t n.initiator (initiator_side f) s.resets dv h.initiator_below (ap (λ (v : LineSet). v.rst) h.initiator) refl;
       falls = λ g f a c. gives atn to msg cd x (handshakes p) g f a c some;
-    })
-
--- The initiator hands BSY over.
-pub hands_falls : (s : ScenarioValue) (p : List Row) (t : ℕ) (n : Connection) (atn msg cd io : Bool) (y : ℕ) → AreOfDevices p → Linked p n (ends true false atn 0 msg cd io false y) → begun p ≡ true → is_pulsed p (ends true false atn 0 msg cd io false y) ≡ false
-    → suc (measure s (row_of_lines t n.initiator (initiator_side (ends false false atn 0 msg cd io false y)) ∷ p)) ≤ measure s p
-hands_falls s p t n atn msg cd io y dv h b u =
-    let e : EndLines = ends true false atn 0 msg cd io false y in
-    let f : EndLines = ends false false atn 0 msg cd io false y in
-    let r = initiator_in_phase p n e false false atn 0 t h in
-    quiet_falls s p t n.initiator (initiator_side f) n e f (initiator_side e)
-    (record {
-      row = initiator_end s p t n e false false atn 0 dv h;
-      begun_is = b;
-      unpulsed = u;
-      phase = phase_same e false false atn 0 false y (initiator_side e) (initiator_side f);
-      same_phase = refl;
-      same_data = refl;
-      asked = refl;
-      req = refl;
-      ack = refl;
-      begins = r.begun_is;
-      hand = r.handshakes_are;
-      resets = resets_stay s p t n.initiator (initiator_side f) s.resets dv h.initiator_below (ap (λ (v : LineSet). v.rst) h.initiator) refl;
-      falls = λ g f a c. hands atn msg cd io y (handshakes p) g f a c;
     })

@@ -13,7 +13,6 @@ use Rattle.bus_due.specs.bus_trace.specs.Trace.{drives, last_time}
 use Rattle.bus_due.specs.bus_trace.specs.declared.Row.{Row}
 use Rattle.bus_due.specs.bus_trace.specs.declared.changes.Change.{Change}
 use Rattle.bus_due.specs.bus_trace.specs.declared.connection.Connection.{Connection}
-use Rattle.bus_due.specs.bus_phases.specs.Dialogue.{dialogue}
 use Rattle.bus_due.specs.bus_lines.specs.Handshakes.{Handshakes, handshakes, strikes_if}
 use Rattle.bus_due.specs.bus_lines.proofs.Early.{struck_length}
 use Rattle.bus_due.specs.scenario.specs.declared.value.Policy.{Policy}
@@ -22,7 +21,7 @@ use Rattle.bus_due.specs.scenario.specs.Value.{ScenarioValue}
 use Rattle.bus_due.specs.disk_array.specs.Processes.{Process}
 use Rattle.bus_due.specs.bus_story.specs.BusState.{RowReading, row_reading}
 use Rattle.bus_due.specs.bus_story.specs.HistoryEvents.{is_complete, is_completion, link_events, row_events_by}
-use Rattle.bus_due.specs.bus_story.specs.Items.{Item, Sent}
+use Rattle.bus_due.specs.bus_story.specs.Items.{Item}
 use Rattle.bus_due.specs.bus_story.specs.Links.{Link}
 use Rattle.bus_due.specs.bus_story.specs.Samples.{latency_of}
 use Rattle.bus_due.specs.bus_story.specs.Story.{story_after_events}
@@ -43,17 +42,15 @@ use Rattle.bus_due.specs.bus_dialogue.specs.Exchange.{Exchange, Speech, bytes_of
 use Rattle.bus_due.specs.bus_dialogue.specs.Hearing.{begun}
 use Rattle.bus_due.specs.bus_dialogue.specs.NextPhase.{phase_of}
 use Rattle.bus_due.specs.bus_dialogue.specs.PhaseBytes.{run_length_if}
-use Rattle.bus_due.specs.Defs.{host_of, target_def_of}
-use Rattle.bus_due.specs.LastingState.{progress_in}
+use Rattle.bus_due.specs.Defs.{target_def_of}
 use Rattle.bus_due.specs.Least.{IsLeast}
 use Rattle.bus_due.specs.Plain.{AreOfDevices, IsPlain}
 use Rattle.bus_due.specs.RunState.{RunState, bus_of, process_item, process_served}
-use Rattle.bus_due.specs.RunSteps.{array_after_events, leaving_of, progress_after, progress_by_leaving, run_state, served_after}
-use Rattle.bus_due.specs.Sights.{answering_of, flip_of, hearing_of, leaving, offering_of}
+use Rattle.bus_due.specs.RunSteps.{array_after_events, leaving_of, progress_after, progress_by_leaving, run_state}
+use Rattle.bus_due.specs.Sights.{answering_of, flip_of, offering_of}
 use Rattle.bus_due.specs.Tasks.{task_if, task_of}
 use Rattle.bus_due.proofs.Plains.{run_state_plain}
-use Rattle.bus_due.proofs.Stills.{still_talk}
-use Rattle.progress_laws.specs.bus_books.specs.Rows.{IsRowIn, reading_in, strikes}
+use Rattle.progress_laws.specs.bus_books.specs.Rows.{IsRowIn, strikes}
 use Rattle.progress_laws.specs.bus_books.proofs.InConnection.{InConnection, in_connection}
 use Rattle.progress_laws.specs.bus_laws.specs.Ends.{EndLines, Linked, connected_bus, initiator_side, target_side}
 use Rattle.progress_laws.specs.bus_laws.specs.Reactions.{device_with, own_time, unreset_due}
@@ -71,10 +68,10 @@ use Rattle.right_laws.proofs.EndsOfLines.{initiator_lines, target_lines}
 use Rattle.right_laws.proofs.NoFaults.{of_lines}
 use Rattle.measure_laws.specs.Future.{aborts_left, future_left, is_in_data, one_where, resets_left}
 use Rattle.measure_laws.specs.Measure.{measure}
-use Rattle.measure_laws.specs.Turns.{after_words, has_first_byte, has_next_byte, is_asked, is_driven, phase_left, phases_in, phases_left, repeated, requests_by, requests_left, sense_bytes_left, struck_left, unanswered, under_way, waiting_left, words_left}
+use Rattle.measure_laws.specs.Turns.{after_words, has_first_byte, has_next_byte, is_asked, is_driven, phase_left, phases_in, phases_left, repeated, requests_by, requests_left, sense_bytes_left, struck_left, under_way, waiting_left, words_left}
 use Rattle.measure_laws.specs.Weights.{for_byte, for_fault, for_phase, for_reselection, for_reset, for_struck_phase}
 use Rattle.measure_laws.proofs.ApartFalls.{one_fault, times_one}
-use Rattle.measure_laws.proofs.ApartFuture.{commands_are, commands_by, future_was}
+use Rattle.measure_laws.proofs.ApartFuture.{commands_by, future_was}
 use Rattle.measure_laws.proofs.ByteRows.{tells_quiet}
 use Rattle.measure_laws.proofs.Calm.{phase_by_lines, way_by}
 use Rattle.measure_laws.proofs.FaultResets.{resets_fault}
@@ -138,7 +135,7 @@ same_more x y e = omega (arith, e)
 
 words_more : (none asked first a b : Bool) (w place : ℕ) → w ≤ 8
     → (if none then w else if not asked then (if first then repeated a w else w - place + repeated a w) else if first then w - 1 else w - (place + 1) + repeated a w)
-        ≤ (if none then w else if not asked then (if first then repeated b w else w - place + repeated b w) else if first then w - 1 else w - (place + 1) + repeated b w) + 8
+    ≤ (if none then w else if not asked then (if first then repeated b w else w - place + repeated b w) else if first then w - 1 else w - (place + 1) + repeated b w) + 8
 words_more true asked first a b w place h = same_more w w refl
 words_more false false true a b w place h = more_of (repeated a w) (repeated b w) (few_again a w h)
 words_more false false false a b w place h = more (w - place) (repeated a w) (repeated b w) (few_again a w h)
@@ -179,8 +176,8 @@ under_more u bus g h tl il x y a c e l =
     let w : ℕ = if u then length h.waiting else one_where (is_asked bus) in
     subst (λ v. v ≤ under_way u bus h tl il y c + 3) (λ i. under_by u bus (sym e i) (sym l i) tl il x a)
     (way_more (4 * w) (one_where (is_driven u il c.byte && not bus.io && not (w == 0))) (one_where (is_driven u il a.byte && not bus.io && not (w == 0)))
-        (one_where tl.req) (one_where il.ack) (one_where (not (il.data_bits == 0))) (one_where il.bsy) (one_where (has_first_byte bus h tl)) (one_where (has_next_byte u bus h tl y)) (one_where (has_next_byte u bus h tl x))
-        (one_most (is_driven u il c.byte && not bus.io && not (w == 0))) (one_most (has_next_byte u bus h tl x)))
+    (one_where tl.req) (one_where il.ack) (one_where (not (il.data_bits == 0))) (one_where il.bsy) (one_where (has_first_byte bus h tl)) (one_where (has_next_byte u bus h tl y)) (one_where (has_next_byte u bus h tl x))
+    (one_most (is_driven u il c.byte && not bus.io && not (w == 0))) (one_most (has_next_byte u bus h tl x)))
 
 -- ---- and of the phases after it: nothing
 
@@ -229,7 +226,7 @@ strike_falls s p t d bit n e dv lt h b some =
     subst (λ m. suc m ≤ measure s p) (sym same)
     (subst (λ m. suc (kept + for_fault s * rest + 40 + (phases_left (is_refusing s p) k + (for_byte * requests_left s j n.target + way_next) + sense_bytes_left (is_in_data k) k.progress k.served + struck_left s true)) ≤ m) (sym was)
     (strike_sum kept (for_fault s * rest) (for_struck_phase s) (phases_left (is_refusing s p) k) (requests_left s k n.target) (requests_left s j n.target) way_was way_next
-        (sense_bytes_left (is_in_data k) k.progress k.served) (struck_left s (is_struck_phase s p)) requests way))
+    (sense_bytes_left (is_in_data k) k.progress k.served) (struck_left s (is_struck_phase s p)) requests way))
   where
     row : Row
     row = row_of_fault t d bit
@@ -360,7 +357,7 @@ strike_falls s p t d bit n e dv lt h b some =
         subst (λ x. x ≤ requests_left s k n.target + 8)
         (sym (λ i. requests_by j.exchange.plan.struck (is_asked (lines i)) j.handshakes (speech i) (length (bytes_of_messages (messages i))) (run i) (phase_of (lines i))))
         (requests_more j.exchange.plan.struck k.exchange.plan.struck (is_asked (bus_of k)) j.handshakes k.handshakes k.exchange.speech (length (bytes_of_messages k.exchange.plan.messages)) (run_length_if policy (task_of s k)) (phase_of (bus_of k)) asked
-            (few_words s p))
+        (few_words s p))
 
     agreed : is_pulsed q e ≡ is_pulsed p e
     agreed = λ i. is_pulsed_phase true (connected_bus e) ((sym pj.dialogue ∙ made.dialogue_is ∙ pk.dialogue) i).heard.now.agreement

@@ -1,5 +1,5 @@
 -- The target knows of a struck byte only in a phase in which a fault row stands.
-use Rattle.std.proofs.Common.{◌≡◌, Bool, true, false, not, ◌&&◌, ◌||◌, List, [], ◌∷◌, Option, Some, None, refl}
+use Rattle.std.proofs.Common.{◌≡◌, Bool, true, false, not, ◌&&◌, ◌||◌, List, [], ◌∷◌, Option, Some, None, refl, sym}
 use Rattle.std.specs.Prelude.{if◌then◌else◌, is_some}
 use Rattle.bus_due.specs.bus_base.proofs.Tests.{wrong'}
 use Rattle.bus_due.specs.bus_trace.specs.Phases.{changes_phase, is_message_out}
@@ -12,12 +12,13 @@ use Rattle.bus_due.specs.bus_story.specs.TraceHistory.{aim_of}
 use Rattle.bus_due.specs.bus_dialogue.specs.declared.exchange.Hearing.{Hearing}
 use Rattle.bus_due.specs.bus_dialogue.specs.declared.exchange.Leaving.{Leaving}
 use Rattle.bus_due.specs.bus_dialogue.specs.declared.exchange.Plan.{Plan}
-use Rattle.bus_due.specs.bus_dialogue.specs.Exchange.{plan_after_message, plan_anew, struck_plan}
-use Rattle.bus_due.specs.bus_dialogue.specs.Planning.{plan_after, plan_in_message_out}
+use Rattle.bus_due.specs.bus_dialogue.specs.Exchange.{plan_after_message, plan_anew, struck_plan, no_messages}
+use Rattle.bus_due.specs.bus_dialogue.specs.Planning.{plan_after, plan_in_message_out, first_plan}
 use Rattle.bus_due.specs.RunState.{RunState}
-use Rattle.bus_due.specs.RunSteps.{exchange_after, first_exchange, leaving_of, run_state}
+use Rattle.bus_due.specs.RunSteps.{exchange_after, first_exchange, leaving_of, run_state, may_negotiate, messages_if}
 use Rattle.bus_due.specs.Sights.{hearing_of}
 use Rattle.progress_laws.specs.bus_books.specs.WrongParity.{is_struck_phase}
+use Rattle.bus_due.specs.Wants.{ready_of}
 
 abbrev IsKnown : Bool → Bool → Option Connection → Type 0
 IsKnown struck here n = struck ≡ true → (here ≡ true) × (is_some n ≡ true)
@@ -25,12 +26,12 @@ IsKnown struck here n = struck ≡ true → (here ≡ true) × (is_some n ≡ tr
 first_unstruck : (s : ScenarioValue) (k : RunState) (n : Connection) → (first_exchange s k n (aim_of k.story.aims n.initiator)).plan.struck ≡ false
 first_unstruck s k n = go n.reselected
   where
-    go : (q : Bool) → (Rattle.bus_due.specs.bus_dialogue.specs.Planning.first_plan q (not q && Rattle.bus_due.specs.RunSteps.may_negotiate k n (aim_of k.story.aims n.initiator)) (if q then Rattle.bus_due.specs.RunSteps.messages_if (Rattle.bus_due.specs.Wants.ready_of s k n.target) else Rattle.bus_due.specs.bus_dialogue.specs.Exchange.no_messages)).struck ≡ false
+    go : (q : Bool) → (first_plan q (not q && may_negotiate k n (aim_of k.story.aims n.initiator)) (if q then messages_if (ready_of s k n.target) else no_messages)).struck ≡ false
     go true = refl
     go false = refl
 
 never : {A : Type 0} (b : Bool) → b ≡ false → b ≡ true → A
-never true e f = wrong' (Rattle.std.proofs.Common.sym e)
+never true e f = wrong' (sym e)
 never false e f = wrong' f
 
 step : (w : Hearing) (l : Leaving) (p : Plan) (was : Bool) → (p.struck ≡ true → was ≡ true) → (plan_after w l p).struck ≡ true → (true && true && not (changes_phase w.change) && (w.fault || was)) ≡ true

@@ -87,7 +87,7 @@ pub refusal_pays : (v : Serving) → is_some v.plan.said.offer ≡ false → lef
 refusal_pays v e =
     subst (λ (q : Bool). left_of (if q then phase_entry phases.Command else if is_naming v.plan.messages.first then message_repetition v.plan else with_task v.task (λ t. recovery v.def t (message_repetition v.plan) bus_free)) ≤ after_next v.plan.messages v.plan.next) (sym e)
     (either (is_naming v.plan.messages.first) (message_repetition v.plan) (with_task v.task (λ t. recovery v.def t (message_repetition v.plan) bus_free)) (after_next v.plan.messages v.plan.next) (omega arith)
-        (tasked v.task (λ t. recovery v.def t (message_repetition v.plan) bus_free) (after_next v.plan.messages v.plan.next) (λ t. recovers v.def t (message_repetition v.plan) bus_free (after_next v.plan.messages v.plan.next) (omega arith) (omega arith))))
+    (tasked v.task (λ t. recovery v.def t (message_repetition v.plan) bus_free) (after_next v.plan.messages v.plan.next) (λ t. recovers v.def t (message_repetition v.plan) bus_free (after_next v.plan.messages v.plan.next) (omega arith) (omega arith))))
 
 -- After the answer to a request COMMAND follows.
 pub answer_pays : (v : Serving) → is_some v.plan.said.offer ≡ true → v.plan.next ≡ nexts.Command → left_of (after_refusal v) + 128 ≤ after_answer v.plan.next
@@ -121,14 +121,14 @@ arrived def t arrivals.Queued = omega arith
 pub command_pays : (v : Serving) (a : Arrival) → v.plan.struck ≡ false → left_of (command_leaving v a) + 3 * 128 ≤ 1024 + 4 * 128
 command_pays v a e =
     let w = tasked v.task (λ t. if v.plan.struck then recovery v.def t (pointer_restoration nexts.Command) (phase_entry phases.Status) else after_arrival v.def t a) (1024 + 128)
-        (λ t. subst (λ (q : Bool). left_of (if q then recovery v.def t (pointer_restoration nexts.Command) (phase_entry phases.Status) else after_arrival v.def t a) ≤ 1024 + 128) (sym e) (arrived v.def t a)) in
+    (λ t. subst (λ (q : Bool). left_of (if q then recovery v.def t (pointer_restoration nexts.Command) (phase_entry phases.Status) else after_arrival v.def t a) ≤ 1024 + 128) (sym e) (arrived v.def t a)) in
     omega arith
 
 -- Of a struck one the credit of the strike pays: two phases more.
 pub struck_command : (v : Serving) (a : Arrival) → left_of (command_leaving v a) ≤ 1024 + 6 * 128
 struck_command v a = tasked v.task (λ t. if v.plan.struck then recovery v.def t (pointer_restoration nexts.Command) (phase_entry phases.Status) else after_arrival v.def t a) (1024 + 6 * 128)
     (λ t. either v.plan.struck (recovery v.def t (pointer_restoration nexts.Command) (phase_entry phases.Status)) (after_arrival v.def t a) (1024 + 6 * 128) (recovers v.def t (pointer_restoration nexts.Command) (phase_entry phases.Status) (1024 + 6 * 128) (omega arith) (omega arith))
-        (let w = arrived v.def t a in omega arith))
+    (let w = arrived v.def t a in omega arith))
 
 -- ---- data: where runs are left, DISCONNECT is paid by the run that is done
 

@@ -1,6 +1,6 @@
 -- The measure falls with a row that turns to another phase, none of the two being of data: the phases after it are a phase less, and that pays
 -- for all that the new phase may ask for.
-use Rattle.std.proofs.Common.{inl, inr, ℕ, suc, ◌≡◌, ◌≤◌, ◌<◌, ◌+◌, ◌*◌, ◌⊎◌, ◌∙◌, Bool, true, false, not, ◌&&◌, ◌||◌, List, [], ◌∷◌, length, Option, Some, None, refl, sym, ap, subst, arith}
+use Rattle.std.proofs.Common.{inl, inr, ℕ, suc, ◌≡◌, ◌≤◌, ◌<◌, ◌+◌, ◌*◌, ◌⊎◌, ◌∙◌, Bool, true, false, not, ◌&&◌, ◌||◌, List, ◌∷◌, length, Option, Some, None, refl, sym, ap, subst, arith}
 use Rattle.std.specs.Prelude.{◌==◌, drop, if◌then◌else◌, is_some}
 use Rattle.bus_due.specs.bus_base.proofs.Tests.{wrong, wrong'}
 use Rattle.bus_due.specs.bus_base.specs.declared.ProcId.{ProcId}
@@ -11,7 +11,7 @@ use Rattle.bus_due.specs.bus_trace.specs.Trace.{bus}
 use Rattle.bus_due.specs.bus_trace.specs.declared.Row.{Row}
 use Rattle.bus_due.specs.bus_trace.specs.declared.changes.Change.{Change}
 use Rattle.bus_due.specs.bus_trace.specs.declared.connection.Connection.{Connection}
-use Rattle.bus_due.specs.bus_lines.specs.Handshakes.{Handshakes, no_handshakes}
+use Rattle.bus_due.specs.bus_lines.specs.Handshakes.{Handshakes, no_handshakes, handshakes_after, answered_if, asked_if}
 use Rattle.bus_due.specs.scenario.specs.Value.{ScenarioValue}
 use Rattle.bus_due.specs.bus_story.specs.Items.{Item, abort, command_id, command_item, process}
 use Rattle.bus_due.specs.bus_dialogue.specs.declared.exchange.Leaving.{Leaving}
@@ -44,16 +44,17 @@ use Rattle.progress_laws.specs.trace_laws.proofs.RowItems.{over_after}
 use Rattle.progress_laws.specs.trace_laws.proofs.Whole.{Whole}
 use Rattle.measure_laws.specs.Future.{future_left, is_in_data, one_where, open_left, resets_left, serves_item}
 use Rattle.measure_laws.specs.Measure.{measure}
-use Rattle.measure_laws.specs.Turns.{bytes_if_begun, is_asked, phase_left, phases_in, phases_left, requests_by, requests_left, sense_bytes_left, struck_left, under_way}
+use Rattle.measure_laws.specs.Turns.{bytes_if_begun, is_asked, phase_left, phases_in, phases_left, requests_by, requests_left, sense_bytes_left, struck_left, under_way, has_next_byte}
 use Rattle.measure_laws.specs.Weights.{for_byte, for_phase, for_reselection}
 use Rattle.measure_laws.proofs.BeginFalls.{calm_resets, few_under_way}
-use Rattle.measure_laws.proofs.CountedRuns.{same_runs}
-use Rattle.measure_laws.proofs.DoneRuns.{done_in_data}
+use Rattle.progress_laws.specs.trace_laws.proofs.CountedRuns.{same_runs}
+use Rattle.progress_laws.specs.trace_laws.proofs.DoneRuns.{done_in_data}
 use Rattle.measure_laws.proofs.Futures.{future_falls, open_of}
 use Rattle.measure_laws.proofs.Lengths.{few_messages, few_words}
 use Rattle.measure_laws.proofs.Lowers.{lowers_same}
 use Rattle.measure_laws.proofs.StillRows.{shape}
 use Rattle.measure_laws.proofs.Table.{left_in, left_of, left_to}
+use Rattle.bus_due.specs.bus_trace.specs.Changes.{rises}
 
 -- A row of a connection that turns to another phase, RST being false before it.
 pub record TurnRow (s : ScenarioValue) (p : List Row) (row : Row) (n : Connection) (c : Change) : Type 0 where
@@ -105,7 +106,7 @@ fresh_way true b h t i g a e = subst (λ (x : Handshakes). under_way true b x t 
     let w4 = at_most_one (not (i.data_bits == 0)) in
     let w5 = at_most_one i.bsy in
     let w6 = at_most_one (true && b.io && t.data_bits == 0) in
-    let w7 = at_most_one (Rattle.measure_laws.specs.Turns.has_next_byte true b no_handshakes t g) in
+    let w7 = at_most_one (has_next_byte true b no_handshakes t g) in
     omega arith)
 
 few_requests : (struck asked : Bool) (h : Handshakes) (p : Speech) (bytes run : ℕ) (phase : Phase) → h ≡ no_handshakes → length p.words ≤ 8 → bytes ≤ 5 → (phase ≡ phases.DataIn → ⊥) → (phase ≡ phases.DataOut → ⊥) → requests_by struck asked h p bytes run phase ≤ 12
@@ -132,8 +133,8 @@ turn_handshakes s p row n c h =
     let k = run_state s p in
     let w = turn_kind row n c h.goes.row_is.kind h.turned in
     (turn_in s p row n c h).handshakes_is
-    ∙ (λ i. Rattle.bus_due.specs.bus_lines.specs.Handshakes.handshakes_after (w.0 i) (Some n) c row.time k.handshakes)
-    ∙ (λ i. if h.turned i then no_handshakes else Rattle.bus_due.specs.bus_lines.specs.Handshakes.answered_if (Rattle.bus_due.specs.bus_trace.specs.Changes.rises c.before.ack c.after.ack) row.time (Rattle.bus_due.specs.bus_lines.specs.Handshakes.asked_if (Rattle.bus_due.specs.bus_trace.specs.Changes.rises c.before.req c.after.req) row.time k.handshakes))
+    ∙ (λ i. handshakes_after (w.0 i) (Some n) c row.time k.handshakes)
+    ∙ (λ i. if h.turned i then no_handshakes else answered_if (rises c.before.ack c.after.ack) row.time (asked_if (rises c.before.req c.after.req) row.time k.handshakes))
 
 -- What is left of the new phase.
 pub turn_phase : (s : ScenarioValue) (p : List Row) (row : Row) (n : Connection) (c : Change) → TurnRow s p row n c → is_data c.after ≡ false → phase_left s (run_state s (row ∷ p)) n ≤ 106
@@ -270,7 +271,7 @@ turn_falls s p row n c h from to pays =
     let struck = turn_struck s p row n c h in
     let before = shape s k (is_struck_phase s p) (is_refusing s p) n g.calm g.row_is.connection_is in
     let after = shape s j (is_struck_phase s q) (is_refusing s q) n (ap (λ (l : LineSet). l.rst) t.bus_is ∙ g.row_is.calm) t.connection_is
-        ∙ ap (λ (x : Bool). future_left s j + 40 + (phases_left (is_refusing s q) j + phase_left s j n + sense_bytes_left (is_in_data j) j.progress j.served + struck_left s x)) struck in
+    ∙ ap (λ (x : Bool). future_left s j + 40 + (phases_left (is_refusing s q) j + phase_left s j n + sense_bytes_left (is_in_data j) j.progress j.served + struck_left s x)) struck in
     let senses = sense_kept (is_in_data j) (is_in_data k) j.progress k.progress j.served moves runs ∙ ap (λ (o : Option Item). sense_bytes_left (is_in_data k) k.progress o) t.served_is in
     turn_sum (future_left s j) (future_left s k) (phases_left (is_refusing s q) j) (phases_left (is_refusing s p) k) (phase_left s j n) (phase_left s k n) (sense_bytes_left (is_in_data j) j.progress j.served) (sense_bytes_left (is_in_data k) k.progress k.served) (struck_left s (is_struck_phase s p)) (measure s p) (measure s q)
     after before future pays (turn_phase s p row n c h to) senses

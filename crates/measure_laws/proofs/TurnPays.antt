@@ -1,13 +1,12 @@
 -- The table of phases along a row that turns to another phase, none of data: a phase less is left than was left, with what a struck byte of the
 -- phase calls for.
-use Rattle.std.proofs.Common.{inl, inr, ℕ, suc, ◌≡◌, ◌≤◌, ◌<◌, ◌+◌, ◌*◌, ◌⊎◌, ◌∙◌, Bool, true, false, not, ◌&&◌, ◌||◌, List, [], ◌∷◌, Option, Some, None, refl, sym, ap, subst, arith}
+use Rattle.std.proofs.Common.{inl, inr, ℕ, suc, ◌≡◌, ◌≤◌, ◌+◌, ◌*◌, ◌∙◌, Bool, true, false, not, ◌&&◌, ◌||◌, List, ◌∷◌, Option, Some, None, refl, sym, ap, subst, arith}
 use Rattle.std.specs.Prelude.{if◌then◌else◌, is_none, is_some}
 use Rattle.std.proofs.lemmas.Bool.{and_parts}
 use Rattle.bus_due.specs.bus_base.proofs.Tests.{wrong, wrong'}
 use Rattle.bus_due.specs.bus_trace.specs.LineSet.{LineSet}
 use Rattle.bus_due.specs.bus_trace.specs.Phases.{changes_phase, is_data, is_message_out}
 use Rattle.bus_due.specs.bus_trace.specs.Terms.{connection}
-use Rattle.bus_due.specs.bus_trace.specs.Trace.{bus}
 use Rattle.bus_due.specs.bus_trace.specs.declared.agreements.Agreement.{Agreement}
 use Rattle.bus_due.specs.bus_trace.specs.declared.Row.{Row}
 use Rattle.bus_due.specs.bus_trace.specs.declared.changes.Change.{Change}
@@ -45,7 +44,7 @@ use Rattle.measure_laws.specs.Turns.{after_answer, after_next, after_refused, af
 use Rattle.measure_laws.specs.Weights.{for_phase, for_reselection}
 use Rattle.measure_laws.proofs.StruckPlans.{struck_known}
 use Rattle.measure_laws.proofs.Table.{answer_pays, command_pays, data_refusal_pays, left_of, messages_pay, opening_pays, refusal_pays, status_pays, status_refusal_pays, struck_command}
-use Rattle.measure_laws.proofs.TurnFalls.{TurnRow, turn_falls, turn_in, turn_phases}
+use Rattle.measure_laws.proofs.TurnFalls.{TurnRow, turn_falls, turn_in, turn_phases, no_data_out, no_data_in}
 
 -- ---- MESSAGE OUT
 
@@ -138,7 +137,7 @@ out_facts s p row n c o prompt h con begun out = record { truly = truly; asked =
     asked e f = elim (refuses_later s p n h.was.facts.offers con h.off begun there e) [
       | inl z ↦ z
       | inr z ↦ wrong (sym f ∙ ap (λ (x : Option Agreement). is_some x) (refusal_offers_none k.exchange.speech k.exchange.plan k.story.bus_state.dialogue
-        ((h.was.stood.books.speaks n h.goes.row_is.connection_is h.goes.calm).in_message_out begun there).heard (out_over s k n there (h.lines.over (ap changes_phase h.lines_are ∙ h.turned) (sym pk.begun ∙ begun))) z))
+          ((h.was.stood.books.speaks n h.goes.row_is.connection_is h.goes.calm).in_message_out begun there).heard (out_over s k n there (h.lines.over (ap changes_phase h.lines_are ∙ h.turned) (sym pk.begun ∙ begun))) z))
     ]
 
 -- ---- the first MESSAGE OUT after a selection
@@ -158,9 +157,9 @@ opening_falls s p row n c h begun =
     let about = (h.was.stood.books.speaks n h.goes.row_is.connection_is h.goes.calm).before_all begun in
     let r = is_refusing s (row ∷ p) in
     let after : phases_left r j ≡ 1024 + 7 * 128 =
-        (λ i. if (t.exchange_is i).begun then phases_in r (t.exchange_is i).plan (phase_of (t.bus_is i)) else for_reselection + 8 * for_phase)
-        ∙ (λ i. phases_in r (if not (out i) then record (plan_anew k.exchange.plan) { messages = l.messages; next = l.next } else if begun i then plan_in_message_out w k.exchange.plan else plan_anew k.exchange.plan) (phase_of c.after))
-        ∙ first_words r k.exchange.plan (phase_of c.after) about.cause_is (out_phase c.after out) in
+    (λ i. if (t.exchange_is i).begun then phases_in r (t.exchange_is i).plan (phase_of (t.bus_is i)) else for_reselection + 8 * for_phase)
+    ∙ (λ i. phases_in r (if not (out i) then record (plan_anew k.exchange.plan) { messages = l.messages; next = l.next } else if begun i then plan_in_message_out w k.exchange.plan else plan_anew k.exchange.plan) (phase_of c.after))
+    ∙ first_words r k.exchange.plan (phase_of c.after) about.cause_is (out_phase c.after out) in
     let before : phases_left (is_refusing s p) k ≡ 1024 + 8 * 128 = λ i. if begun i then phases_in (is_refusing s p) k.exchange.plan (phase_of (bus_of k)) else for_reselection + 8 * for_phase in
     turn_falls s p row n c h (λ i. begun i && is_data (bus_of k)) (no_data c.after out) (pays _ _ _ after before)
   where
@@ -195,7 +194,7 @@ named_turn_falls s p row n c o prompt h con begun from to other known =
     turn_falls s p row n c h (λ i. begun i && from i) to
     (replaced _ _ _ _ _ after before
     (phase_pays s (serving_of s k n.target) (bus_of k).atn (is_refusing s p) (is_struck_phase s p) (phase_of (bus_of k)) (λ z. (struck_known s p z).0) (out_facts s p row n c o prompt h con begun)
-    (Rattle.measure_laws.proofs.TurnFalls.no_data_in (bus_of k) from) (Rattle.measure_laws.proofs.TurnFalls.no_data_out (bus_of k) from)))
+    (no_data_in (bus_of k) from) (no_data_out (bus_of k) from)))
   where
     replaced : (a b x y u : ℕ) → a ≡ x → b ≡ y → x + 128 ≤ y + u → a + 128 ≤ b + u
     replaced a b x y u e f g = omega arith

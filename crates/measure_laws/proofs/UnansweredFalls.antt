@@ -51,7 +51,7 @@ use Rattle.measure_laws.proofs.ApartFalls.{falling}
 use Rattle.measure_laws.proofs.ApartFuture.{ApartParts, commands_by, future_by, future_is, future_was}
 use Rattle.measure_laws.proofs.FaultResets.{resets_calm}
 use Rattle.measure_laws.proofs.SensesThere.{checked_there}
-use Rattle.measure_laws.proofs.StruckOut.{struck_out}
+use Rattle.right_laws.proofs.StruckCallings.{struck_out}
 use Rattle.measure_laws.proofs.UnansweredTries.{aborts_le, aborts_pay, commands_le, commands_pay, gives_up_at, sent_if, try_sent}
 
 -- ---- who is there

@@ -1,17 +1,17 @@
 -- Row by row in MESSAGE OUT: what is kept of the place of the next byte.
-use Rattle.std.proofs.Common.{inl, inr, ℕ, suc, ◌≡◌, ◌≤◌, ◌<◌, ◌∙◌, Bool, true, false, List, [], ◌∷◌, refl, sym, ap, subst, arith, Option, Some, None}
-use Rattle.std.specs.Prelude.{◌+◌, ◌==◌, ◌%◌, if◌then◌else◌, is_some, not, ◌&&◌, ◌||◌}
+use Rattle.std.proofs.Common.{ℕ, ◌≡◌, ◌<◌, ◌∙◌, Bool, true, false, List, ◌∷◌, refl, sym, ap, subst, Option, Some, None}
+use Rattle.std.specs.Prelude.{◌+◌, ◌%◌, if◌then◌else◌, is_some, not, ◌&&◌}
 use Rattle.bus_due.specs.bus_base.specs.Faults.{counted_on}
-use Rattle.bus_due.specs.bus_base.proofs.Tests.{wrong, wrong'}
+use Rattle.bus_due.specs.bus_base.proofs.Tests.{wrong'}
 use Rattle.bus_due.specs.bus_trace.specs.Changes.{change_of, rises}
 use Rattle.bus_due.specs.bus_trace.specs.LineSet.{LineSet}
-use Rattle.bus_due.specs.bus_trace.specs.Phases.{changes_phase, is_message_out}
-use Rattle.bus_due.specs.bus_trace.specs.Terms.{connection, is_fault, receiver, receiver_in}
+use Rattle.bus_due.specs.bus_trace.specs.Phases.{changes_phase, is_message_out, is_message_in}
+use Rattle.bus_due.specs.bus_trace.specs.Terms.{connection, is_fault, receiver}
 use Rattle.bus_due.specs.bus_trace.specs.Trace.{bus}
 use Rattle.bus_due.specs.bus_trace.specs.declared.Row.{Row}
 use Rattle.bus_due.specs.bus_trace.specs.declared.changes.Change.{Change}
 use Rattle.bus_due.specs.bus_trace.specs.declared.connection.Connection.{Connection}
-use Rattle.bus_due.specs.bus_lines.specs.Handshakes.{Handshakes, answered_if, asked_if, handshakes, handshakes_after, handshakes_on, no_handshakes, strikes_if}
+use Rattle.bus_due.specs.bus_lines.specs.Handshakes.{Handshakes, answered_if, asked_if, handshakes, handshakes_after, no_handshakes, strikes_if}
 use Rattle.bus_due.specs.bus_phases.specs.declared.dialogue.Dialogue.{Dialogue}
 use Rattle.bus_due.specs.bus_phases.specs.Dialogue.{byte_crosses, byte_else, byte_in, byte_out, dialogue, phase_begins}
 use Rattle.bus_due.specs.scenario.specs.Value.{ScenarioValue}
@@ -21,7 +21,7 @@ use Rattle.bus_due.specs.Plain.{AreOfDevices}
 use Rattle.bus_due.specs.RunSteps.{run_state}
 use Rattle.bus_due.specs.Sights.{hearing_of, leaving}
 use Rattle.progress_laws.specs.bus_books.specs.Rows.{RowKind, crosses, reading_in, still, strikes, turns}
-use Rattle.progress_laws.specs.bus_books.proofs.InConnection.{SamePhase, in_connection, same_phase_is}
+use Rattle.progress_laws.specs.bus_books.proofs.InConnection.{in_connection, same_phase_is}
 use Rattle.progress_laws.specs.bus_laws.proofs.Apart.{change_plain}
 use Rattle.progress_laws.specs.link_laws.proofs.Moves.{TermsAfter, terms_after}
 use Rattle.progress_laws.specs.trace_laws.proofs.Crossings.{Goes}
@@ -87,8 +87,8 @@ voice_step s p row n dv lt con after g here struck was = go g.row_is.kind
         let place = ap (λ (x : Exchange). x.speech.place) ic.exchange_is ∙ begins_place (host_of s n.initiator) (hearing_of k row (reading_in k.story.bus_state n c false)) k.exchange.speech in
         let plain = ap (λ (x : Exchange). x.plan.struck) ic.exchange_is ∙ begins_unstruck (hearing_of k row (reading_in k.story.bus_state n c false)) (leaving s k n.target) k.exchange.plan in
         let answers : (handshakes (row ∷ p)).answers ≡ 0 =
-            ap (λ (h : Handshakes). h.answers) z.handshakes_are ∙ (λ i. (handshakes_after (el i) (Some n) c row.time (handshakes p)).answers)
-            ∙ ap (λ (b : Bool). (if b then no_handshakes else answered_if (rises c.before.ack c.after.ack) row.time (asked_if (rises c.before.req c.after.req) row.time (handshakes p))).answers) ep in
+        ap (λ (h : Handshakes). h.answers) z.handshakes_are ∙ (λ i. (handshakes_after (el i) (Some n) c row.time (handshakes p)).answers)
+        ∙ ap (λ (b : Bool). (if b then no_handshakes else answered_if (rises c.before.ack c.after.ack) row.time (asked_if (rises c.before.req c.after.req) row.time (handshakes p))).answers) ep in
         let none : is_some (receiver (row ∷ p)) ≡ false = ap (λ (x : Option ℕ). is_some x) (z.receiver_is ∙ er) in
         voiced_by _ _ _ _ _ _ _ _ refl refl answers none (begun_voiced (run_state s (row ∷ p)).exchange (dialogue (row ∷ p)).is_last place plain)
     go (still el ep er) =
@@ -96,11 +96,11 @@ voice_step s p row n dv lt con after g here struck was = go g.row_is.kind
         let ic = in_connection s k row n c false false false g.row_is ep (ap (λ (x : Option ℕ). is_some x) er) el in
         let low = no_ack n c.before.io (rises c.before.req c.after.req) (rises c.before.ack c.after.ack) (words ep).io er in
         let answers : (handshakes (row ∷ p)).answers ≡ (handshakes p).answers =
-            ap (λ (h : Handshakes). h.answers) z.handshakes_are ∙ (λ i. (handshakes_after (el i) (Some n) c row.time (handshakes p)).answers)
-            ∙ (λ i. (if ep i then no_handshakes else answered_if (low i) row.time (asked_if (rises c.before.req c.after.req) row.time (handshakes p))).answers)
-            ∙ answers_asked (rises c.before.req c.after.req) row.time (handshakes p) in
+        ap (λ (h : Handshakes). h.answers) z.handshakes_are ∙ (λ i. (handshakes_after (el i) (Some n) c row.time (handshakes p)).answers)
+        ∙ (λ i. (if ep i then no_handshakes else answered_if (low i) row.time (asked_if (rises c.before.req c.after.req) row.time (handshakes p))).answers)
+        ∙ answers_asked (rises c.before.req c.after.req) row.time (handshakes p) in
         let last : (dialogue (row ∷ p)).is_last ≡ (dialogue p).is_last =
-            ap (λ (d : Dialogue). d.is_last) z.dialogue_is ∙ (λ i. (if is_some (er i) then byte_crosses (dialogue p) c else if ep i then phase_begins (dialogue p) else dialogue p).is_last) in
+        ap (λ (d : Dialogue). d.is_last) z.dialogue_is ∙ (λ i. (if is_some (er i) then byte_crosses (dialogue p) c else if ep i then phase_begins (dialogue p) else dialogue p).is_last) in
         let none : is_some (receiver (row ∷ p)) ≡ false = ap (λ (x : Option ℕ). is_some x) (z.receiver_is ∙ er) in
         voiced_by _ _ _ _ _ _ _ _ ic.exchange_is last answers none (still_voiced k.exchange (dialogue p).is_last (handshakes p).answers (is_some (receiver p)) (before ep))
     go (strikes el ep er) =
@@ -108,11 +108,11 @@ voice_step s p row n dv lt con after g here struck was = go g.row_is.kind
         let ic = in_connection s k row n c false false true g.row_is ep (ap (λ (x : Option ℕ). is_some x) er) el in
         let place = ap (λ (x : Exchange). x.speech.place) ic.exchange_is in
         let answers : (handshakes (row ∷ p)).answers ≡ (handshakes p).answers =
-            ap (λ (h : Handshakes). h.answers) z.handshakes_are ∙ (λ i. (handshakes_after (el i) (Some n) c row.time (handshakes p)).answers) ∙ answers_struck c.before.io (handshakes p) in
+        ap (λ (h : Handshakes). h.answers) z.handshakes_are ∙ (λ i. (handshakes_after (el i) (Some n) c row.time (handshakes p)).answers) ∙ answers_struck c.before.io (handshakes p) in
         let last : (dialogue (row ∷ p)).is_last ≡ (dialogue p).is_last =
-            ap (λ (d : Dialogue). d.is_last) z.dialogue_is ∙ (λ i. (if is_some (er i) then byte_crosses (dialogue p) c else if ep i then phase_begins (dialogue p) else dialogue p).is_last) in
+        ap (λ (d : Dialogue). d.is_last) z.dialogue_is ∙ (λ i. (if is_some (er i) then byte_crosses (dialogue p) c else if ep i then phase_begins (dialogue p) else dialogue p).is_last) in
         voiced_by _ _ _ _ _ _ _ _ refl last answers refl (struck_voiced k.exchange (run_state s (row ∷ p)).exchange (dialogue p).is_last (handshakes p).answers (is_some (receiver (row ∷ p))) place
-            (subst (λ r. IsVoiced k.exchange (dialogue p).is_last (handshakes p).answers r) (struck el) (before ep)))
+        (subst (λ r. IsVoiced k.exchange (dialogue p).is_last (handshakes p).answers r) (struck el) (before ep)))
     go (crosses dev el ep er) =
         let k = run_state s p in
         let w = words ep in
@@ -122,14 +122,14 @@ voice_step s p row n dv lt con after g here struck was = go g.row_is.kind
         let ic = in_connection s k row n c false true false g.row_is ep (ap (λ (x : Option ℕ). is_some x) er) el in
         let up = one_ack n c.before.io (rises c.before.req c.after.req) (rises c.before.ack c.after.ack) dev w.io er in
         let place : (run_state s (row ∷ p)).exchange.speech.place ≡ (if attends_with k.exchange.speech then k.exchange.speech.place + 1 else 0) =
-            ap (λ (x : Exchange). x.speech.place) ic.exchange_is
-            ∙ ap (λ (q : Bool). (if q then speech_after_byte k.exchange.speech else speech_after_request k.exchange.speech (hearing_of k row (reading_in k.story.bus_state n c true)).into).place) out in
+        ap (λ (x : Exchange). x.speech.place) ic.exchange_is
+        ∙ ap (λ (q : Bool). (if q then speech_after_byte k.exchange.speech else speech_after_request k.exchange.speech (hearing_of k row (reading_in k.story.bus_state n c true)).into).place) out in
         let answers : (handshakes (row ∷ p)).answers ≡ counted_on (handshakes p).answers =
-            ap (λ (h : Handshakes). h.answers) z.handshakes_are ∙ (λ i. (handshakes_after (el i) (Some n) c row.time (handshakes p)).answers)
-            ∙ (λ i. (if ep i then no_handshakes else answered_if (up i) row.time (asked_if (rises c.before.req c.after.req) row.time (handshakes p))).answers)
-            ∙ ap counted_on (answers_asked (rises c.before.req c.after.req) row.time (handshakes p)) in
+        ap (λ (h : Handshakes). h.answers) z.handshakes_are ∙ (λ i. (handshakes_after (el i) (Some n) c row.time (handshakes p)).answers)
+        ∙ (λ i. (if ep i then no_handshakes else answered_if (up i) row.time (asked_if (rises c.before.req c.after.req) row.time (handshakes p))).answers)
+        ∙ ap counted_on (answers_asked (rises c.before.req c.after.req) row.time (handshakes p)) in
         let atn : c.after.atn ≡ attends_with k.exchange.speech = g.answered.attends_is out (ap (λ (x : Option ℕ). is_some x) er) in
         let last : (dialogue (row ∷ p)).is_last ≡ not (attends_with k.exchange.speech) =
-            ap (λ (d : Dialogue). d.is_last) z.dialogue_is
-            ∙ (λ i. (if is_some (er i) then (if out i then byte_out d byte (not (atn i)) else if Rattle.bus_due.specs.bus_trace.specs.Phases.is_message_in c.before then byte_in d byte else byte_else d c.before byte) else if ep i then phase_begins d else d).is_last) in
+        ap (λ (d : Dialogue). d.is_last) z.dialogue_is
+        ∙ (λ i. (if is_some (er i) then (if out i then byte_out d byte (not (atn i)) else if is_message_in c.before then byte_in d byte else byte_else d c.before byte) else if ep i then phase_begins d else d).is_last) in
         voiced_by _ _ _ _ _ _ _ _ refl refl answers refl (heard_voiced (run_state s (row ∷ p)).exchange (dialogue (row ∷ p)).is_last (attends_with k.exchange.speech) k.exchange.speech.place (handshakes p).answers (is_some (receiver (row ∷ p))) place last)

@@ -1,6 +1,6 @@
 -- Of each prompt trace: what is kept of the place of the next byte in MESSAGE OUT.
-use Rattle.std.proofs.Common.{ℕ, ◌≡◌, ◌∙◌, Bool, true, false, List, [], ◌∷◌, refl, sym, ap, Option, Some, None}
-use Rattle.std.specs.Prelude.{◌==◌, is_some, ◌||◌}
+use Rattle.std.proofs.Common.{ℕ, ◌≡◌, ◌∙◌, true, false, List, [], ◌∷◌, refl, sym, ap, Option, Some, None}
+use Rattle.std.specs.Prelude.{is_some, ◌||◌}
 use Rattle.bus_due.specs.bus_base.proofs.Tests.{wrong, wrong'}
 use Rattle.bus_due.specs.bus_trace.specs.Changes.{change_of}
 use Rattle.bus_due.specs.bus_trace.specs.LineSet.{LineSet}
@@ -21,8 +21,8 @@ use Rattle.progress_laws.specs.trace_laws.proofs.Impossible.{none_some}
 use Rattle.progress_laws.specs.trace_laws.proofs.RunCountFacts.{or_left}
 use Rattle.progress_laws.specs.trace_laws.proofs.Whole.{whole}
 use Rattle.measure_laws.proofs.Balances.{kind_of_row}
-use Rattle.measure_laws.proofs.PhaseRows as kinds
-use Rattle.measure_laws.proofs.PhaseRows.{PhaseRow}
+use Rattle.progress_laws.specs.trace_laws.proofs.PhaseRows as kinds
+use Rattle.progress_laws.specs.trace_laws.proofs.PhaseRows.{PhaseRow}
 use Rattle.measure_laws.proofs.Voices.{VoicedAt}
 use Rattle.measure_laws.proofs.VoiceRows.{InWords, voice_step}
 

@@ -51,7 +51,7 @@ use Rattle.progress_laws.specs.bus_laws.proofs.TwoIds.{IsCall, is_call}
 use Rattle.progress_laws.specs.trace_laws.proofs.Impossible.{none_some}
 use Rattle.measure_laws.specs.Ways.{again_if, answer_left, calling_left, stage_left, way_left}
 use Rattle.measure_laws.specs.Weights.{for_free_bus}
-use Rattle.measure_laws.proofs.DeviceCounts.{all_devices, busy, busy_one, busy_same, busy_swap, quiet, quiet_same}
+use Rattle.measure_laws.proofs.Drivers.{all_devices, busy, busy_one, busy_same, busy_swap, quiet, quiet_same}
 
 -- ---- the way, by the lines of the devices and the stage
 

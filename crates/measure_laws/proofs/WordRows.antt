@@ -1,35 +1,32 @@
 -- In MESSAGE OUT of a prompt trace: fewer requests are left as REQ rises, and no more as ACK does.
-use Rattle.std.proofs.Common.{inl, inr, ℕ, suc, ◌≡◌, ◌≤◌, ◌<◌, ◌⊎◌, ◌∙◌, Bool, true, false, List, [], ◌∷◌, length, refl, sym, ap, subst, arith, Option, Some, None}
-use Rattle.std.specs.Prelude.{◌+◌, ◌++◌, ◌==◌, if◌then◌else◌, is_some, not, ◌&&◌, ◌||◌}
+use Rattle.std.proofs.Common.{inl, inr, ℕ, suc, ◌≡◌, ◌≤◌, ◌<◌, ◌⊎◌, ◌∙◌, Bool, true, false, List, [], ◌∷◌, length, refl, sym, ap, subst, arith, Some, None}
+use Rattle.std.specs.Prelude.{◌+◌, ◌++◌, ◌==◌, if◌then◌else◌, not, ◌&&◌, ◌||◌}
 use Rattle.std.proofs.lemmas.Bool.Decides.{nat_tests}
 use Rattle.bus_due.specs.bus_base.specs.Faults.{counted_on}
-use Rattle.bus_due.specs.bus_base.proofs.Tests.{and_false, wrong, wrong'}
+use Rattle.bus_due.specs.bus_base.proofs.Tests.{wrong'}
 use Rattle.bus_due.specs.bus_trace.specs.LineSet.{LineSet}
 use Rattle.bus_due.specs.bus_trace.specs.Phases.{is_message_out}
-use Rattle.bus_due.specs.bus_trace.specs.Terms.{receiver}
 use Rattle.bus_due.specs.bus_trace.specs.Trace.{bus}
 use Rattle.bus_due.specs.bus_trace.specs.declared.Row.{Row}
 use Rattle.bus_due.specs.bus_trace.specs.declared.connection.Connection.{Connection}
-use Rattle.bus_due.specs.bus_lines.specs.Handshakes.{Handshakes, answered, asked, handshakes, no_handshakes}
+use Rattle.bus_due.specs.bus_lines.specs.Handshakes.{Handshakes, answered, handshakes}
 use Rattle.bus_due.specs.bus_phases.specs.declared.dialogue.Dialogue.{Dialogue}
 use Rattle.bus_due.specs.bus_phases.specs.Dialogue.{dialogue}
 use Rattle.bus_due.specs.scenario.specs.Value.{ScenarioValue}
 use Rattle.bus_due.specs.scenario.specs.Writing.{Obeys}
-use Rattle.progress_laws.specs.bus_books.specs.Speaking.{IsSpeaking}
 use Rattle.bus_due.specs.bus_dialogue.specs.declared.exchange.Plan.{Plan}
-use Rattle.bus_due.specs.bus_dialogue.specs.Exchange.{Exchange, Speech, attends_with, plan_anew_if}
+use Rattle.bus_due.specs.bus_dialogue.specs.Exchange.{Exchange, attends_with, plan_anew_if}
 use Rattle.bus_due.specs.Next.{IsPrompt}
-use Rattle.bus_due.specs.RunState.{RunState}
 use Rattle.bus_due.specs.RunSteps.{run_state}
 use Rattle.bus_due.proofs.Plains.{run_state_plain}
-use Rattle.progress_laws.specs.bus_laws.specs.Ends.{EndLines, Linked, connected_bus, initiator_side, target_side}
+use Rattle.progress_laws.specs.bus_laws.specs.Ends.{EndLines, Linked, initiator_side, target_side}
 use Rattle.progress_laws.specs.link_laws.specs.Phases.{Settling, Shaking, ends}
 use Rattle.progress_laws.specs.link_laws.proofs.EndDues.{offering_with}
 use Rattle.progress_laws.specs.link_laws.proofs.Moves.{initiator_in_phase}
 use Rattle.progress_laws.specs.link_laws.proofs.Shakes.{initiator_row, target_row}
 use Rattle.progress_laws.specs.trace_laws.proofs.LinkRows.{is_pulsed}
 use Rattle.progress_laws.specs.trace_laws.proofs.RunSteps.{pulsed_as}
-use Rattle.progress_laws.specs.trace_laws.proofs.Whole.{Whole, whole}
+use Rattle.progress_laws.specs.trace_laws.proofs.Whole.{whole}
 use Rattle.measure_laws.specs.Turns.{requests_left, words_left}
 use Rattle.measure_laws.proofs.AskRows.{asked_hand}
 use Rattle.measure_laws.proofs.Balances.{all_answered}
@@ -40,6 +37,7 @@ use Rattle.measure_laws.proofs.Voiced.{voiced}
 use Rattle.measure_laws.proofs.Voices.{VoicedAt}
 use Rattle.measure_laws.proofs.VoiceRows.{InWords}
 use Rattle.measure_laws.proofs.Words.{hears_by, said_left, says_by, words_said}
+use Rattle.bus_due.specs.bus_dialogue.specs.Hearing.{begun}
 
 struck_anew : (l : Bool) (p : Plan) → (plan_anew_if l p).struck ≡ (if l then false else p.struck)
 struck_anew true p = refl
@@ -48,7 +46,7 @@ struck_anew false p = refl
 words_of : (p : List Row) (n : Connection) (e : EndLines) → Linked p n e → e.msg ≡ true → e.cd ≡ true → e.io ≡ false → InWords (bus p)
 words_of p n e h m c i = record { msg = ap (λ (l : LineSet). l.msg) h.stands.bus_is ∙ m; cd = ap (λ (l : LineSet). l.cd) h.stands.bus_is ∙ c; io = ap (λ (l : LineSet). l.io) h.stands.bus_is ∙ i }
 
-voice_here : (s : ScenarioValue) (p : List Row) (n : Connection) (bsy ack atn req : Bool) (x y : ℕ) → Obeys s → IsPrompt s p → Linked p n (ends bsy ack atn x true true false req y) → (Rattle.bus_due.specs.bus_dialogue.specs.Hearing.begun p) ≡ true → VoicedAt s p
+voice_here : (s : ScenarioValue) (p : List Row) (n : Connection) (bsy ack atn req : Bool) (x y : ℕ) → Obeys s → IsPrompt s p → Linked p n (ends bsy ack atn x true true false req y) → (begun p) ≡ true → VoicedAt s p
 voice_here s p n bsy ack atn req x y o prompt h b = voiced s p o prompt n h.stands.connection_is (ap (λ (l : LineSet). l.rst) h.stands.bus_is) b (words_of p n (ends bsy ack atn x true true false req y) h refl refl refl)
 
 length_more : (a : List ℕ) (b : ℕ) (c : List ℕ) → length a < length (a ++ b ∷ c)
@@ -56,7 +54,7 @@ length_more [] b c = omega arith
 length_more (x ∷ a) b c = let z = length_more a b c in omega (arith, z)
 
 -- The place stands in the words.
-place_there : (s : ScenarioValue) (p : List Row) (n : Connection) (bsy ack atn req : Bool) (x y : ℕ) → Obeys s → IsPrompt s p → Linked p n (ends bsy ack atn x true true false req y) → (Rattle.bus_due.specs.bus_dialogue.specs.Hearing.begun p) ≡ true → (run_state s p).exchange.speech.place < length (run_state s p).exchange.speech.words
+place_there : (s : ScenarioValue) (p : List Row) (n : Connection) (bsy ack atn req : Bool) (x y : ℕ) → Obeys s → IsPrompt s p → Linked p n (ends bsy ack atn x true true false req y) → (begun p) ≡ true → (run_state s p).exchange.speech.place < length (run_state s p).exchange.speech.words
 place_there s p n bsy ack atn req x y o prompt h b =
     let w = whole s p o prompt in
     let k = run_state s p in
@@ -84,7 +82,7 @@ says s p t n atn x o prompt h =
     let talk = shift_exchange s p t n.initiator (initiator_side f) n e f (initiator_side e) false c (Some n.target) refl in
     let last : k.story.bus_state.dialogue.is_last ≡ (dialogue p).is_last = ap (λ (d : Dialogue). d.is_last) pl.dialogue in
     let struck : j.exchange.plan.struck ≡ (if (dialogue p).is_last then false else k.exchange.plan.struck) =
-        ap (λ (z : Exchange). z.plan.struck) talk ∙ struck_anew k.story.bus_state.dialogue.is_last k.exchange.plan ∙ ap (λ (l : Bool). if l then false else k.exchange.plan.struck) last in
+    ap (λ (z : Exchange). z.plan.struck) talk ∙ struck_anew k.story.bus_state.dialogue.is_last k.exchange.plan ∙ ap (λ (l : Bool). if l then false else k.exchange.plan.struck) last in
     let place : j.exchange.speech.place ≡ (if attends_with k.exchange.speech then k.exchange.speech.place + 1 else 0) = ap (λ (z : Exchange). z.speech.place) talk in
     let words : length j.exchange.speech.words ≡ length k.exchange.speech.words = ap (λ (z : Exchange). length z.speech.words) talk in
     let hand : handshakes q ≡ answered t (handshakes p) = (initiator_in_phase p n e false true atn x t h.linked).handshakes_are in
@@ -111,7 +109,7 @@ counted_some : (n : ℕ) → (counted_on n == 0) ≡ false
 counted_some n = grind (arith, nat_tests)
 
 -- The words after it.
-asked_words : (s : ScenarioValue) (p : List Row) (t : ℕ) (n : Connection) (bsy atn : Bool) (y : ℕ) → Obeys s → IsPrompt s p → Linked p n (ends bsy false atn 0 true true false false y) → (Rattle.bus_due.specs.bus_dialogue.specs.Hearing.begun p) ≡ true
+asked_words : (s : ScenarioValue) (p : List Row) (t : ℕ) (n : Connection) (bsy atn : Bool) (y : ℕ) → Obeys s → IsPrompt s p → Linked p n (ends bsy false atn 0 true true false false y) → (begun p) ≡ true
     → requests_left s (run_state s (target_row t n (ends bsy false atn 0 true true false true y) ∷ p)) n.target ≡ said_left (run_state s p).exchange.plan.struck true (run_state s p).exchange.speech.place (length (run_state s p).exchange.speech.words)
 asked_words s p t n bsy atn y o prompt h b =
     let e : EndLines = ends bsy false atn 0 true true false false y in
@@ -171,7 +169,7 @@ words_next s p t n atn true y o prompt h follows =
     let some : ((handshakes p).answers == 0) ≡ false = is_some_count (handshakes p).answers (omega (arith, all, rose)) in
     let attention : atn ≡ not (dialogue p).is_last = (w.stood.driven n con calm e h.linked h.phase.begun_is).attention refl refl in
     let struck : (k.exchange.speech.place == 0) ≡ true → k.exchange.plan.struck ≡ true =
-        λ z. third ((handshakes p).answers == 0) atn k.exchange.plan.struck follows some (attention ∙ ap not (v.fresh z some)) in
+    λ z. third ((handshakes p).answers == 0) atn k.exchange.plan.struck follows some (attention ∙ ap not (v.fresh z some)) in
     subst (λ a. suc a ≤ requests_left s k n.target) (sym (asked_words s p t n false atn y o prompt h.linked h.phase.begun_is))
     (subst (λ b. suc (said_left k.exchange.plan.struck true k.exchange.speech.place (length k.exchange.speech.words)) ≤ b) (sym was)
     (hears_by k.exchange.plan.struck k.exchange.speech.place (length k.exchange.speech.words) struck there))

@@ -1,10 +1,7 @@
 -- MESSAGE OUT: fewer words are left as REQ rises, and no more as ACK does.
-use Rattle.std.proofs.Common.{inl, inr, ℕ, suc, zero, ◌≡◌, ◌≤◌, ◌<◌, ◌⊎◌, ◌∙◌, Bool, true, false, List, [], ◌∷◌, length, refl, sym, ap, subst, arith, Option, Some, None}
-use Rattle.std.specs.Prelude.{◌+◌, ◌-◌, ◌++◌, ◌==◌, if◌then◌else◌, not, ◌&&◌, ◌||◌, nat_lt}
+use Rattle.std.proofs.Common.{inl, inr, ℕ, suc, ◌≡◌, ◌≤◌, ◌<◌, ◌⊎◌, ◌∙◌, Bool, true, false, length, refl, ap, arith}
+use Rattle.std.specs.Prelude.{◌+◌, ◌-◌, ◌==◌, if◌then◌else◌}
 use Rattle.std.proofs.lemmas.Bool.{eqb-true}
-use Rattle.bus_due.specs.bus_base.specs.Faults.{counted_on}
-use Rattle.bus_due.specs.bus_base.proofs.Tests.{wrong, wrong'}
-use Rattle.bus_due.specs.bus_trace.specs.declared.Row.{Row}
 use Rattle.bus_due.specs.bus_lines.specs.Handshakes.{Handshakes}
 use Rattle.bus_due.specs.bus_dialogue.specs.Exchange.{Speech}
 use Rattle.measure_laws.specs.Turns.{repeated, words_left}

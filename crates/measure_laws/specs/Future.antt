@@ -1,4 +1,4 @@
--- What is still to come of the scenario's lines: its commands with their automatic REQUEST SENSE, its aborts, resets and faults.
+-- What is still to come of the scenario's lines, in rows: of its commands with their automatic REQUEST SENSE, its aborts, resets and faults.
 use Rattle.std.specs.Prelude.{ℕ, ◌+◌, ◌-◌, ◌*◌, Bool, true, false, not, ◌&&◌, ◌==◌, List, [], ◌∷◌, length, Option, Some, None, nat_lt, if◌then◌else◌}
 use Rattle.std.specs.List.{list_any}
 use Rattle.bus_due.specs.cdb_codec.specs.Cdb.{command_of}
@@ -27,7 +27,8 @@ use Rattle.bus_due.specs.cdb_codec.specs.declared.command.Command.{Command}
 use Rattle.bus_due.specs.cdb_codec.specs.declared.command.CdbFault.{CdbFault}
 use Rattle.std.specs.Prelude.{Result, Ok, Err}
 
--- ---- the bytes of the data runs that are left after so many
+-- ---- the bytes of the data runs that are left after so many, by the policy of the target: with NOSAVE the first run may be made twice, once
+-- cut short and once from the beginning
 
 abbrev pub cut_bytes : Policy → ℕ → ℕ → ℕ → ℕ
 cut_bytes policies.Never size need made = if made == 0 then need else 0
@@ -66,20 +67,22 @@ abbrev pub one_where : Bool → ℕ
 one_where true = 1
 one_where false = 0
 
--- It is not sent yet.
+-- It is not sent yet: a calling for each time that it may still be tried, the connection in which it is sent, that of its REQUEST SENSE, and
+-- all its runs, each with a reselection, and one for STATUS.
 abbrev pub unsent_left : ScenarioValue → Sent → ℕ → CmdDef → ℕ
 unsent_left s b n c =
     for_calling * (retries_of s.hosts c.host + 1 - count_item b.tries (command_item n))
     + (2 * for_item + for_reselection * (data_runs s c + 1) + for_byte * bytes_after s c 0)
 
--- It is open, and its target serves it now, or not; it has made so many of its runs, with the present one in a data phase.
+-- It is open, and its target serves it now, or not; it has made so many of its runs. In a data phase the present run is counted by the
+-- connection. While it is not served one reselection more is set aside.
 abbrev pub open_left : ScenarioValue → Bool → Bool → ℕ → CmdDef → ℕ
 open_left s served moves made c =
     for_reselection * (data_runs s c - made + one_where (not served))
     + for_byte * bytes_after s c (made + one_where (served && moves))
     + for_item
 
--- It is over: its automatic REQUEST SENSE may be left.
+-- It is over: its automatic REQUEST SENSE may be left, until that is sent or given up.
 abbrev pub sense_left : Sent → ℕ → ℕ
 sense_left b n = if list_any (λ m. m == n) b.checks && not (is_done b (sense_item n)) then for_item else 0
 
@@ -104,7 +107,7 @@ abbrev pub aborts_left : ScenarioValue → Sent → ℕ → List AbortDef → �
 aborts_left s b n [] = 0
 aborts_left s b n (a ∷ aborts) = abort_left s b n a + aborts_left s b (n + 1) aborts
 
--- ---- resets: one that its device has neither made nor dropped
+-- ---- resets: those that their devices have neither made nor dropped
 
 abbrev pub awaits_reset : Bool → Own → ℕ → Bool
 awaits_reset true o at = nat_lt o.rst at

@@ -1,5 +1,5 @@
 -- The measure as a test that is computed on runs: it starts within the budget, and falls with each row.
-use Rattle.std.specs.Prelude.{◌/◌, Bool, true, false, ◌&&◌, List, [], ◌∷◌, nat_lt}
+use Rattle.std.specs.Prelude.{ℕ, ◌/◌, Bool, true, false, ◌&&◌, List, [], ◌∷◌, nat_lt}
 use Rattle.bus_due.specs.bus_trace.specs.declared.Row.{Row}
 use Rattle.bus_due.specs.scenario.specs.Value.{ScenarioValue}
 use Rattle.bus_due.specs.bus_story.specs.BusState.{row_reading}
@@ -25,7 +25,7 @@ tally_after s t row = record {
   refusing = is_refusal_after t.state (row_reading t.state.story.bus_state row) t.struck t.refusing;
 }
 
-abbrev pub measure_of : ScenarioValue → Tally → Rattle.std.specs.Prelude.ℕ
+abbrev pub measure_of : ScenarioValue → Tally → ℕ
 measure_of s t = measure_by s t.state t.struck t.refusing
 
 -- The rows are given the oldest first.

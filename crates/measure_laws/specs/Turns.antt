@@ -1,4 +1,6 @@
--- What is left of a connection: of its present phase, by REQ and ACK; and of the phases after it, without those that a fault calls for.
+-- What is left of a connection, in rows: of its present phase, by REQ and ACK; and of the phases after it, without those that a fault calls for.
+-- Each phase that may follow counts for one phase; those before COMMAND count for a reselection more, which pays for a command that waits in
+-- the queue of its unit.
 use Rattle.std.specs.Prelude.{ℕ, ◌+◌, ◌-◌, ◌*◌, Bool, true, false, not, ◌&&◌, ◌||◌, ◌==◌, List, length, Option, Some, None, if◌then◌else◌}
 use Rattle.bus_due.specs.bus_trace.specs.LineSet.{LineSet}
 use Rattle.bus_due.specs.bus_trace.specs.declared.connection.Connection.{Connection}
@@ -32,7 +34,8 @@ use Rattle.measure_laws.specs.Weights.{for_byte, for_phase, for_reselection, for
 
 -- ---- how often REQ may still rise in the phase
 
--- MESSAGE OUT: the words that are left, and all of them again where one was struck. The first of them begins them anew.
+-- MESSAGE OUT: the words that are left, and all of them again where one was struck. The first of them begins them anew, and while it is asked
+-- for again the flag is not counted.
 abbrev pub repeated : Bool → ℕ → ℕ
 repeated struck words = if struck then words else 0
 
@@ -63,14 +66,15 @@ requests_left s k target =
 
 -- ---- what is under way
 
--- The bytes that were asked for and not answered; the one that the initiator drives already.
+-- The bytes that were asked for and not answered: four rows each (the byte, ACK, the end of ACK, the release), two less for the one that the
+-- initiator drives already.
 abbrev pub is_driven : Bool → LineSet → ℕ → Bool
 is_driven pulsed own byte = not own.ack && (if pulsed then own.data_bits == byte_bits byte else not (own.data_bits == 0))
 
 abbrev pub waiting_left : Bool → Bool → ℕ → ℕ
 waiting_left io driven waiting = 4 * waiting - 2 * one_where (driven && not io && not (waiting == 0))
 
--- By pulses several bytes may be asked for.
+-- By pulses several bytes may be asked for, byte by byte one.
 abbrev pub unanswered : Bool → LineSet → Handshakes → ℕ
 unanswered pulsed bus h = if pulsed then length h.waiting else one_where (is_asked bus)
 

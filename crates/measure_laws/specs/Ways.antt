@@ -1,5 +1,5 @@
--- What is left of the way to a connection: of an arbitration, of a selection or reselection, and under RST. A free bus, and a connection,
--- have an arbitration set aside.
+-- What is left of the way to a connection, in rows: of an arbitration, of a selection or reselection, and under RST. A free bus, and a
+-- connection, have an arbitration set aside: who ends one has paid for the next.
 use Rattle.std.specs.Prelude.{ℕ, ◌+◌, Bool, true, false, Option, Some, None, if◌then◌else◌}
 use Rattle.bus_due.specs.bus_trace.specs.LineSet.{none, same_set}
 use Rattle.bus_due.specs.bus_trace.specs.declared.selection.Calling.{Calling}
@@ -44,6 +44,8 @@ abbrev pub again_if : Bool → ℕ
 again_if true = for_calling
 again_if false = 0
 
+-- Of a calling 7 are left once SEL is true, 6 with both IDs, 5 once BSY was let go, 4 once the IDs were withdrawn; and a row of each device
+-- that drives lines.
 abbrev pub withdrawal_left : Option ℕ → ℕ
 withdrawal_left None = 5
 withdrawal_left (Some time) = 4
@@ -56,10 +58,12 @@ abbrev pub calling_left : Option Calling → ℕ
 calling_left None = 7
 calling_left (Some c) = released_left c c.released
 
+-- Once it is answered 3 are left, and 2 once its caller drives BSY again, as a target does.
 abbrev pub answer_left : Option ℕ → ℕ
 answer_left None = 3
 answer_left (Some time) = 2
 
+-- In an arbitration each idle device may still enter.
 abbrev pub stage_left : RunState → Stage → ℕ
 stage_left k (OnFreeBus free) = for_free_bus
 stage_left k (InArbitration a) = 16 + idle k

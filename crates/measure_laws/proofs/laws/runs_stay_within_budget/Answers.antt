@@ -20,4 +20,4 @@ pub returns-clause-within : goal.returns-clause-within
 returns-clause-within c = λ s rows o p. stays_within falls s rows o p
 
 pub returns-clause-ends : goal.returns-clause-ends
-returns-clause-ends c = λ s o. runs_end falls s o
+returns-clause-ends c = λ s o. runs_end falls c.runs_are_prompt.ensures.prompt c.runs_are_prompt.ensures.ended s o

@@ -1,5 +1,5 @@
 -- A command gives no more bytes than it moves at the line of its unit, and a write gives none (7.3, 8.2, 9.2).
-use Rattle.std.proofs.Common.{ℕ, ◌≡◌, ◌≤◌, ◌+◌, ◌*◌, ◌-◌, ◌^◌, Bool, true, false, not, ◌&&◌, ◌∙◌, List, length, take, Option, Some, None, Result, Ok, Err, refl, sym, ap, subst, arith}
+use Rattle.std.proofs.Common.{ℕ, ◌≡◌, ◌≤◌, ◌+◌, ◌*◌, ◌-◌, Bool, true, false, not, ◌&&◌, ◌∙◌, List, length, take, Option, Some, None, Result, Ok, Err, refl, sym, ap, subst, arith}
 use Rattle.std.specs.Prelude.{if◌then◌else◌, min, nat_le, nat_lt}
 use Rattle.std.proofs.lemmas.Bool.{and_parts}
 use Rattle.std.proofs.lemmas.List.{length-take}
@@ -25,9 +25,9 @@ use Rattle.bus_due.specs.disk_array.specs.Seats.{contents_of}
 use Rattle.bus_due.specs.disk_array.specs.Steps.{context_at}
 use Rattle.bus_due.specs.disk_array.specs.Units.{Array, UnitState, nexus_of, sense_of_nexus, unit_state_at}
 use Rattle.disk_unit.proofs.Parts.{length_bytes}
-use Rattle.progress_laws.specs.target_units.specs.Absent.{absent_reply_by, data_or_refusal, inquiry_room, sense_room}
-use Rattle.progress_laws.specs.target_units.specs.Rooms.{AreOfLines, IsOfLine}
-use Rattle.progress_laws.specs.target_units.proofs.AbsentReplies.{replies}
+use Rattle.trace_laws.specs.target_units.specs.Absent.{absent_reply_by, data_or_refusal, inquiry_room, sense_room}
+use Rattle.trace_laws.specs.target_units.specs.Rooms.{AreOfLines, IsOfLine}
+use Rattle.trace_laws.specs.target_units.proofs.AbsentReplies.{replies}
 use Rattle.right_laws.proofs.WholeBlocks.{AreWhole, HasWhole}
 
 -- What a command may give at the line of its unit.
@@ -150,3 +150,10 @@ given_few s a p lines whole = go (unit_of s p.target p.unit) (unit_state_at a.un
     go None (Some v) h w = absurd h
     go (Some u) None h w = absurd h
     go (Some u) (Some v) h w = execution_few (context_at a (nexus_of p) (Some v)) u p.cdb p.sent (record { count = h.0; size = h.1; whole = w })
+
+-- ---- what it needs
+
+-- By the line of its unit, where its target is one of the scenario.
+pub need_is : (s : ScenarioValue) (c : CmdDef) → has_target s c.target ≡ true → need_of s c ≡ moved_by (command_of c.cdb) (unit_of s c.target c.unit)
+unfolding need_of
+need_is s c t = λ i. if t i then moved_by (command_of c.cdb) (unit_of s c.target c.unit) else 0

@@ -29,29 +29,29 @@ use Rattle.bus_due.specs.bus_story.specs.Story.{by_reset}
 use Rattle.bus_due.specs.bus_reactions.specs.declared.due.Due.{Due}
 use Rattle.bus_due.specs.Least.{IsLeast}
 use Rattle.bus_due.specs.Next.{due, IsPrompt}
-use Rattle.progress_laws.specs.bus_laws.specs.Callings.{answer_lines, begun_call, calling_lines, awaiting_call, both_ids, won_call}
-use Rattle.progress_laws.specs.bus_laws.specs.Reactions.{own_time, unreset_due}
-use Rattle.progress_laws.specs.bus_laws.specs.Rows.{row_of_lines}
-use Rattle.progress_laws.specs.bus_laws.specs.Stages.{HasShortLatencies, CalmStanding, BusStage, on_free_bus, in_arbitration, after_arbitration, with_both_ids, awaiting_answer, after_withdrawal, after_answer, after_takeover, in_reset, in_connection, AwaitsAnswer, Calls}
-use Rattle.progress_laws.specs.bus_laws.proofs.CallDues.{asks_due, answers_due, waits_due, flip_at}
-use Rattle.progress_laws.specs.bus_laws.proofs.Dues.{is_there, is_at}
-use Rattle.progress_laws.specs.bus_laws.proofs.FromCalling.{answer_exists, ids_not_zero}
-use Rattle.progress_laws.specs.bus_laws.proofs.Limits.{obeys_latencies}
-use Rattle.progress_laws.specs.bus_laws.proofs.Prompt.{least_is}
-use Rattle.progress_laws.specs.bus_laws.proofs.Rows.{drives_own, stage_is}
-use Rattle.progress_laws.specs.bus_laws.proofs.Together.{reset_or_calm, by_reset, by_calm}
-use Rattle.progress_laws.specs.link_laws.proofs.Traces.{sides_are}
-use Rattle.progress_laws.specs.trace_laws.proofs.FirstRows.{quiet_sel, under_rst}
-use Rattle.progress_laws.specs.trace_laws.proofs.Impossible.{none_some}
-use Rattle.progress_laws.specs.trace_laws.proofs.Joint.{Stood}
-use Rattle.progress_laws.specs.trace_laws.proofs.UnderRst.{quiet_at_end}
-use Rattle.progress_laws.specs.trace_laws.proofs.Whole.{whole}
+use Rattle.trace_laws.specs.bus_laws.specs.Callings.{answer_lines, begun_call, calling_lines, awaiting_call, both_ids, won_call}
+use Rattle.trace_laws.specs.bus_laws.specs.Reactions.{own_time, unreset_due}
+use Rattle.trace_laws.specs.bus_laws.specs.Rows.{row_of_lines}
+use Rattle.trace_laws.specs.bus_laws.specs.Stages.{HasShortLatencies, CalmStanding, BusStage, on_free_bus, in_arbitration, after_arbitration, with_both_ids, awaiting_answer, after_withdrawal, after_answer, after_takeover, in_reset, in_connection, AwaitsAnswer, Calls}
+use Rattle.trace_laws.specs.bus_laws.proofs.CallDues.{asks_due, answers_due, waits_due, flip_at}
+use Rattle.trace_laws.specs.bus_laws.proofs.Dues.{is_there, is_at}
+use Rattle.trace_laws.specs.bus_laws.proofs.FromCalling.{answer_exists, ids_not_zero}
+use Rattle.trace_laws.specs.bus_laws.proofs.Limits.{obeys_latencies}
+use Rattle.trace_laws.specs.bus_laws.proofs.Prompt.{least_is}
+use Rattle.trace_laws.specs.bus_laws.proofs.Rows.{drives_own, stage_is}
+use Rattle.trace_laws.specs.bus_laws.proofs.Together.{reset_or_calm, by_reset, by_calm}
+use Rattle.trace_laws.specs.link_laws.proofs.Traces.{sides_are}
+use Rattle.trace_laws.proofs.FirstRows.{quiet_sel, under_rst}
+use Rattle.trace_laws.proofs.Impossible.{none_some}
+use Rattle.trace_laws.proofs.Joint.{Stood}
+use Rattle.trace_laws.proofs.UnderRst.{quiet_at_end}
+use Rattle.trace_laws.proofs.Whole.{whole}
 use Rattle.right_laws.proofs.Calls.{Follows, calling_follows, GoesOn, call_goes}
 use Rattle.right_laws.proofs.Moments.{apart_of, linked_of, reset_of}
 
 -- ---- a row of the caller
 
-asks_row : (s : ScenarioValue) (p : List Row) (m : Bool) (c k t0 t1 : ℕ) (row : Row) → CalmStanding s p → Calls s p (begun_call m c k t0 t1) c k (both_ids m c k) none (both_ids m c k) → IsLeast (unreset_due s p) 8 row → row.dev ≡ c
+pub asks_row : (s : ScenarioValue) (p : List Row) (m : Bool) (c k t0 t1 : ℕ) (row : Row) → CalmStanding s p → Calls s p (begun_call m c k t0 t1) c k (both_ids m c k) none (both_ids m c k) → IsLeast (unreset_due s p) 8 row → row.dev ≡ c
     → row.kind ≡ Drives (calling_lines m false (2 ^ c + 2 ^ k + 256))
 asks_row s p m c k t0 t1 row always h least same =
     let x : Due = record { time = row.time; kind = row.kind } in
@@ -59,11 +59,11 @@ asks_row s p m c k t0 t1 row always h least same =
     let was : stage p ≡ InCalling (begun_call m c k t0 t1) = stage_is p _ _ _ _ h.stands in
     (is_at (own_time p c + 90 + w.0) (calling_lines m false (2 ^ c + 2 ^ k + 256)) x (sym (asks_due s p m c k t0 t1 w.0 (both_ids m c k) always.devices h.caller_below (ap (latency_of s) (sym same) ∙ w.1) h.stands.connection_is was h.caller) ∙ ap (unreset_due s p) (sym same) ∙ least.is_due)).kind_is
 
-record Withdrawn (row : Row) (m : Bool) (t : ℕ) : Type 0 where
-  late : t + 250000000 ≤ row.time
-  kind_is : row.kind ≡ Drives (calling_lines m false 0)
+pub record Withdrawn (row : Row) (m : Bool) (t : ℕ) : Type 0 where
+  pub late : t + 250000000 ≤ row.time
+  pub kind_is : row.kind ≡ Drives (calling_lines m false 0)
 
-waits_row : (s : ScenarioValue) (p : List Row) (v m : Bool) (c k t0 t1 t2 n : ℕ) (row : Row) → CalmStanding s p → AwaitsAnswer s p v m c k t0 t1 t2 n → IsLeast (unreset_due s p) 8 row → row.dev ≡ c → Withdrawn row m t2
+pub waits_row : (s : ScenarioValue) (p : List Row) (v m : Bool) (c k t0 t1 t2 n : ℕ) (row : Row) → CalmStanding s p → AwaitsAnswer s p v m c k t0 t1 t2 n → IsLeast (unreset_due s p) 8 row → row.dev ≡ c → Withdrawn row m t2
 waits_row s p v m c k t0 t1 t2 n row always a least same =
     let h = a.here in
     let x : Due = record { time = row.time; kind = row.kind } in
@@ -172,7 +172,7 @@ struck_on s p row fits alone calm always least h was k g e f un w lat there = by
 linked_sel : (s : ScenarioValue) (p : List Row) (n : Connection) → Stood s p → connection p ≡ Some n → (bus p).rst ≡ false → (bus p).sel ≡ false
 linked_sel s p n was con calm = let w = sides_are s p n (linked_of s p n was.here calm con) in ap (λ (l : LineSet). l.sel) w.1.stands.bus_is
 
-reset_sel : (s : ScenarioValue) (p : List Row) (row : Row) → Stood s p → row.dev < 8 → broken_rule p row ≡ None → (bus p).rst ≡ true → (bus (row ∷ p)).rst ≡ false → (bus p).sel ≡ false
+pub reset_sel : (s : ScenarioValue) (p : List Row) (row : Row) → Stood s p → row.dev < 8 → broken_rule p row ≡ None → (bus p).rst ≡ true → (bus (row ∷ p)).rst ≡ false → (bus p).sel ≡ false
 reset_sel s p row was lt obeys on off =
     quiet_sel (bus p) (same_set-eq (union only_rst (bus p)) only_rst (quiet_at_end s p row lt obeys (under_rst s p (reset_of s p was.here on) on) off))
 

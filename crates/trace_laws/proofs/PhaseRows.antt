@@ -1,5 +1,4 @@
--- The next row of a connection, resets apart, by what the two ends are due to do: the kinds that LinkRow of the laws of traces names, each with
--- all that its stage knows, and with what pulses do.
+-- The next row of a connection, resets apart, by what the two ends are due to do: which lines it changes, and all that its stage knows.
 use Rattle.std.proofs.Common.{ℕ, ◌≡◌, Bool, true, false, not, ◌&&◌, ◌||◌, ◌==◌, ◌∙◌, List, [], ◌∷◌, Some, None, refl, sym, ap, subst, arith}
 use Rattle.std.specs.Prelude.{◌+◌, if◌then◌else◌, max, nat_lt, length}
 use Rattle.bus_due.specs.bus_trace.specs.LineSet.{LineSet}
@@ -10,7 +9,7 @@ use Rattle.bus_due.specs.bus_trace.specs.Trace.{last_time, line_times, phase_tim
 use Rattle.bus_due.specs.bus_phases.specs.Dialogue.{dialogue}
 use Rattle.bus_due.specs.bus_rules.specs.Order.{is_of_device}
 use Rattle.bus_due.specs.bus_lines.specs.declared.handshakes.Request.{Request}
-use Rattle.bus_due.specs.bus_lines.specs.Handshakes.{Handshakes, handshakes, no_handshakes, first_of, is_struck}
+use Rattle.bus_due.specs.bus_lines.specs.Handshakes.{handshakes, first_of, is_struck}
 use Rattle.bus_due.specs.scenario.specs.Value.{ScenarioValue}
 use Rattle.bus_due.specs.bus_reactions.specs.Reactions.{due_at}
 use Rattle.bus_due.specs.bus_reactions.specs.Target.{byte_bits, bits_if}
@@ -25,23 +24,30 @@ use Rattle.bus_due.specs.Own.{own_of}
 use Rattle.bus_due.specs.Plain.{AreOfDevices}
 use Rattle.bus_due.specs.RunSteps.{run_state}
 use Rattle.bus_due.specs.Sights.{serving_at}
-use Rattle.progress_laws.specs.bus_laws.specs.Reactions.{own_time, unreset_due}
-use Rattle.progress_laws.specs.bus_laws.specs.Rows.{row_of_lines, row_of_fault}
-use Rattle.progress_laws.specs.bus_laws.specs.Ends.{EndLines, initiator_side, target_side, connected_bus, Linked, BeginsSelected, ends_selected}
-use Rattle.progress_laws.specs.bus_laws.proofs.Dues.{is_at}
-use Rattle.progress_laws.specs.link_laws.specs.Phases.{ends, Settling, Turning, Offering, Shaking}
-use Rattle.progress_laws.specs.link_laws.specs.Pulses.{Pulsing, times_here, offset_here, run_count, byte_in_run, next_bits}
-use Rattle.progress_laws.specs.link_laws.specs.LinkStages.{LinkStage, when_selected, when_settling, when_turning, when_offering, when_shaking, when_pulsing}
-use Rattle.progress_laws.specs.link_laws.proofs.Ahead.{never}
-use Rattle.progress_laws.specs.link_laws.proofs.EndDues.{due_of, Mover, by_fault, by_initiator, by_target, mover_is, target_plain, initiator_plain, offering_with, answering_with}
-use Rattle.progress_laws.specs.link_laws.proofs.PulseDues.{pulsed_target_in, pulsed_target_out, pulsed_initiator_in, pulsed_initiator_out, hold_end_time, pulse_time, leaving_time, ack_pulse_end_time, answer_time, release_time, byte_driven_time, given_bits}
-use Rattle.progress_laws.specs.link_laws.proofs.Shakes.{target_row, initiator_row}
-use Rattle.progress_laws.specs.link_laws.proofs.StageDues.{selected_target, selected_initiator, settling_target, settling_initiator, handing_initiator, turning_target, turned_initiator, owing_initiator, offering_target, offering_initiator, answered_target, answered_initiator_in, answered_initiator_out, asking_target, asking_initiator_in, asking_initiator_out, giving_initiator_out, ending_target, ending_initiator_in, ending_initiator_out, ack_end_time, between_target, between_initiator_in, between_initiator_out}
+use Rattle.link_laws.specs.bus_laws.specs.Reactions.{own_time, unreset_due}
+use Rattle.link_laws.specs.bus_laws.specs.Rows.{row_of_lines, row_of_fault}
+use Rattle.link_laws.specs.bus_laws.specs.Ends.{EndLines, initiator_side, target_side, connected_bus, Linked, BeginsSelected, ends_selected}
+use Rattle.link_laws.specs.bus_laws.proofs.Dues.{is_at}
+use Rattle.link_laws.specs.Phases.{ends, Settling, Turning, Offering, Shaking}
+use Rattle.link_laws.specs.Pulses.{Pulsing, times_here, offset_here, run_count, next_bits}
+use Rattle.link_laws.specs.LinkStages.{LinkStage, when_selected, when_settling, when_turning, when_offering, when_shaking, when_pulsing}
+use Rattle.link_laws.proofs.Ahead.{never}
+use Rattle.link_laws.proofs.EndDues.{due_of, Mover, by_fault, by_initiator, by_target, mover_is, target_plain, initiator_plain, offering_with, answering_with}
+use Rattle.link_laws.proofs.PulseDues.{pulsed_target_in, pulsed_target_out, pulsed_initiator_in, pulsed_initiator_out, hold_end_time, pulse_time, leaving_time, ack_pulse_end_time, answer_time, release_time, byte_driven_time, given_bits}
+use Rattle.link_laws.proofs.Shakes.{target_row, initiator_row}
+use Rattle.link_laws.proofs.StageDues.{selected_target, selected_initiator, settling_target, settling_initiator, handing_initiator, turning_target, turned_initiator, owing_initiator, offering_target, offering_initiator, answered_target, answered_initiator_in, answered_initiator_out, asking_target, asking_initiator_in, asking_initiator_out, giving_initiator_out, ending_target, ending_initiator_in, ending_initiator_out, ack_end_time, between_target, between_initiator_in, between_initiator_out}
 use Rattle.std.proofs.lemmas.Bool.{eqb-true}
 use Rattle.std.proofs.lemmas.Option.{none-some}
-use Rattle.bus_due.specs.bus_base.proofs.Tests.{wrong, or_true, zero_of, implication_parts}
-use Rattle.progress_laws.specs.link_laws.proofs.Faults.{none_device}
-use Rattle.progress_laws.specs.trace_laws.proofs.LinkRows.{is_pulsed, is_unasked, row_at}
+use Rattle.bus_due.specs.bus_base.proofs.Tests.{wrong, zero_of, implication_parts}
+use Rattle.link_laws.proofs.Faults.{none_device}
+
+-- The phase is one of data by pulses.
+abbrev pub is_pulsed : List Row → EndLines → Bool
+is_pulsed p e = is_pulsed_phase true (connected_bus e) (dialogue p).heard.now.agreement
+
+-- No byte was asked for in the phase.
+abbrev pub is_unasked : List Row → Bool
+is_unasked p = (handshakes p).requests == 0
 
 pub data PhaseRow (s : ScenarioValue) (p : List Row) (n : Connection) (row : Row) : Type 0 where
   -- a phase begins, is left, or its last byte is struck
@@ -74,6 +80,9 @@ pub data PhaseRow (s : ScenarioValue) (p : List Row) (n : Connection) (row : Row
   changes_pulse : (ack atn : Bool) (y : ℕ) → Pulsing s p n true false ack atn 0 y → (y == next_bits s p n) ≡ false → row ≡ target_row row.time n (ends false ack atn 0 false false true false (next_bits s p n)) → PhaseRow s p n row
   asks_pulse_in : (ack atn : Bool) (y : ℕ) → Pulsing s p n true false ack atn 0 y → y ≡ next_bits s p n → nat_lt (handshakes p).requests (run_count s p n) ≡ true → nat_lt (length (handshakes p).waiting) (offset_here p) ≡ true → row ≡ target_row row.time n (ends false ack atn 0 false false true true y) → PhaseRow s p n row
   asks_pulse_out : (ack atn : Bool) (x : ℕ) → Pulsing s p n false false ack atn x 0 → nat_lt (handshakes p).requests (run_count s p n) ≡ true → nat_lt (length (handshakes p).waiting) (offset_here p) ≡ true → row ≡ target_row row.time n (ends false ack atn x false false false true 0) → PhaseRow s p n row
+
+pub row_at : (row : Row) (d time : ℕ) (l : LineSet) → row.dev ≡ d → due_at time l ≡ Some (due_of row) → row ≡ row_of_lines row.time d l
+row_at row d time l same e = let z = is_at time l (due_of row) e in λ i. record { time = row.time; dev = same i; kind = z.kind_is i }
 
 -- ---- before the first REQ
 
