@@ -7,9 +7,11 @@ after it.
     tools/makers/books_case.py --reads tools/due_cases/one_read.scn .. > crates/right_laws/proofs/Cases.antt
     tools/makers/books_case.py --given tools/due_cases/one_read.scn .. > crates/right_laws/proofs/GivenCases.antt
     tools/makers/books_case.py --debts tools/due_cases/hold_of_a_unit.scn .. > crates/progress_laws/proofs/DebtCases.antt
+    tools/makers/books_case.py --measure tools/due_cases/*.scn .. > crates/measure_laws/proofs/MeasureCases.antt
 
 With `--reads` and `--given` the lemmas say instead what processes have carried of their data, and what is asked of each row of it (`ReadTests` and
-`GivenTests` of crates/right_laws/specs). With `--debts` they say which senses are owed (`DebtTests` of crates/progress_laws/specs). With `--whole` it writes the scenarios and their rows, too, those of the report NAME.out beside each NAME.scn, which comes from outside
+`GivenTests` of crates/right_laws/specs). With `--debts` they say which senses are owed (`DebtTests` of crates/progress_laws/specs), with `--measure` that the measure of what is still to come
+falls (`MeasureTests` of crates/measure_laws/specs). With `--whole` it writes the scenarios and their rows, too, those of the report NAME.out beside each NAME.scn, which comes from outside
 this repository. The books are stated as tests in `Tests` of crates/bus_books/specs, what is asked of a row in `RowTests`.
 """
 import sys
@@ -33,6 +35,7 @@ READS = ("-- In some runs what processes have carried of their data is a front o
 GIVEN = ("-- In some runs what is asked of each row of what processes give of their replies holds.", "give_well", "Rattle.right_laws.specs.GivenTests.{give_well}")
 DEBTS = ("-- In some runs those to whom a sense is owed stand in the hold, and no two senses are owed to one initiator at one unit.", "keep_debts",
          "Rattle.progress_laws.specs.DebtTests.{keep_debts}")
+MEASURE = ("-- The measure of some runs is within the budget at their start, and falls with each row.", "is_measured", "Rattle.measure_laws.specs.MeasureTests.{is_measured}")
 UNFOLDING = "unfolding need_of sent_of ones union_below line_of form_out form_in"
 
 
@@ -51,7 +54,8 @@ use Rattle.bus_trace.specs.declared.Kind.TheVariants.{Drives, Fault}"""
 def print_lemma(name, test):
     """The lemma of one run."""
     lemma = "%s_%s" % (name, test.split("_")[1])
-    print("\n%s : %s %s (first_run_state %s) %s_rows ≡ true" % (lemma, test, name, name, name))
+    state = "" if test == "is_measured" else " (first_run_state %s)" % name
+    print("\n%s : %s %s%s %s_rows ≡ true" % (lemma, test, name, state, name))
     print("%s\n%s = refl" % (UNFOLDING, lemma))
 
 
@@ -68,8 +72,10 @@ def print_whole(head, test, paths):
 
 def main():
     paths = [word for word in sys.argv[1:] if not word.startswith("--")]
-    words, test, module = READS if "--reads" in sys.argv else GIVEN if "--given" in sys.argv else DEBTS if "--debts" in sys.argv else BOOKS
+    words, test, module = READS if "--reads" in sys.argv else GIVEN if "--given" in sys.argv else DEBTS if "--debts" in sys.argv else MEASURE if "--measure" in sys.argv else BOOKS
     head = HEAD % (words, module)
+    if test == "is_measured":
+        head = "\n".join(line for line in head.splitlines() if "first_run_state" not in line)
     if "--whole" in sys.argv:
         return print_whole(head, test, paths)
     names = [array_case.name_of(scn, "_due") for scn in paths]

@@ -12,7 +12,7 @@ pub mod ListedReplies
 pub mod Settled
 pub mod Replied
 pub mod Answered
-pub mod ReplyLengths
+pub mod ReplyRooms
 pub mod RanTargets
 pub mod Held
 pub mod Added

@@ -40,7 +40,8 @@ use Rattle.delivery_laws.specs.scsi_device.proofs.FitLines.{command_fits, obeys_
 use Rattle.delivery_laws.specs.target_units.specs.Rooms.{AreOfLines}
 use Rattle.delivery_laws.specs.target_units.proofs.Rooms.{IsByLine, by_line, lines_always}
 use Rattle.initiator.specs.Received.{data_room}
-use Rattle.bus_engine.proofs.ReplyLengths.{given_few, most_given, none_few, room_there}
+use Rattle.delivery_laws.specs.right_laws.proofs.ReplyLengths.{given_few, most_given, none_few}
+use Rattle.bus_engine.proofs.ReplyRooms.{room_there}
 use Rattle.delivery_laws.proofs.SenseReplies.{execution_known, is_known}
 
 -- ---- what a command answers as it runs

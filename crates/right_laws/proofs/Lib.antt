@@ -57,3 +57,5 @@ pub mod Moments
 pub mod Puts
 pub mod NextTaken
 pub mod Strikes
+pub mod StruckCallings
+pub mod ReplyLengths

@@ -114,7 +114,7 @@ moved_reads a q blocks whole reads is some = go ((reply_now a q).status == GOOD)
     go false e = wrong (sym (ap (λ (x : ℕ). x == 0) (moved false e)) ∙ some)
     go true e = moved true e ∙ at (unit_state_at a.units q.target q.unit) refl (eqb-true (reply_now a q).status GOOD e)
 
-whole_now : (s : ScenarioValue) (history : List Event) (o : Option Array) → Obeys s → array_after s history ≡ o → HasWhole (or_start s o)
+pub whole_now : (s : ScenarioValue) (history : List Event) (o : Option Array) → Obeys s → array_after s history ≡ o → HasWhole (or_start s o)
 whole_now s history None o e = whole_start s o
 whole_now s history (Some a) o e = whole_always s history a o e
 

@@ -1,3 +1,4 @@
+pub mod PhaseRows
 pub mod LinkRows
 pub mod Driven
 pub mod Kept
@@ -174,7 +175,7 @@ pub mod Complained
 pub mod UnitsKept
 pub mod WriterUnits
 pub mod ArrivalRows
-mod DoneRuns
+pub mod DoneRuns
 pub mod WriteTurns
 mod WriteRows
 pub mod WriteNext
@@ -198,7 +199,7 @@ pub mod FailureWords
 pub mod Whole
 mod ResetRows
 mod ResetFacts
-mod CountedRuns
+pub mod CountedRuns
 mod WritePresent
 mod SentBytes
 pub mod FailureEntries

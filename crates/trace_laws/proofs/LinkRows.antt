@@ -1,56 +1,35 @@
--- The next row of a connection, resets apart, by what the two ends are due to do: which lines it changes, and why.
-use Rattle.std.proofs.Common.{ℕ, ◌≡◌, Bool, true, false, not, ◌&&◌, ◌||◌, ◌==◌, ◌∙◌, List, [], ◌∷◌, Some, None, refl, sym, ap, subst, arith}
-use Rattle.std.specs.Prelude.{◌+◌, if◌then◌else◌, max, nat_lt, length}
-use Rattle.bus_due.specs.bus_trace.specs.LineSet.{LineSet}
+-- The next row of a connection, resets apart, by what the two ends are due to do: which lines it changes, and why, by the lines alone.
+use Rattle.std.proofs.Common.{ℕ, ◌≡◌, Bool, true, false, not, ◌&&◌, ◌||◌, ◌==◌, ◌∙◌, List, [], refl, ap}
+use Rattle.std.specs.Prelude.{if◌then◌else◌, nat_lt}
 use Rattle.bus_due.specs.bus_trace.specs.declared.Row.{Row}
 use Rattle.bus_due.specs.bus_trace.specs.declared.connection.Connection.{Connection}
 use Rattle.bus_due.specs.bus_trace.specs.Terms.{receiver}
 use Rattle.bus_due.specs.bus_trace.specs.Trace.{last_time, line_times, phase_time}
-use Rattle.bus_due.specs.bus_phases.specs.Dialogue.{dialogue}
 use Rattle.bus_due.specs.bus_rules.specs.Order.{is_of_device}
-use Rattle.bus_due.specs.bus_lines.specs.declared.handshakes.Request.{Request}
 use Rattle.bus_due.specs.bus_lines.specs.Handshakes.{Handshakes, handshakes, no_handshakes, first_of, is_struck}
 use Rattle.bus_due.specs.scenario.specs.Value.{ScenarioValue}
-use Rattle.bus_due.specs.bus_reactions.specs.Reactions.{due_at}
 use Rattle.bus_due.specs.bus_reactions.specs.Target.{byte_bits, bits_if}
 use Rattle.bus_due.specs.bus_reactions.specs.Initiator.{attends_by}
-use Rattle.bus_due.specs.bus_dialogue.specs.Ends.{is_pulsed_phase}
-use Rattle.bus_due.specs.bus_dialogue.specs.declared.exchange.Phase.TheVariants as phases
-use Rattle.bus_due.specs.bus_dialogue.specs.PhaseBytes.{follows_in}
 use Rattle.bus_due.specs.bus_dialogue.specs.Hearing.{begun}
-use Rattle.bus_due.specs.bus_trace.specs.Agreements.{times_of}
 use Rattle.bus_due.specs.Least.{IsLeast}
-use Rattle.bus_due.specs.Own.{own_of}
 use Rattle.bus_due.specs.Plain.{AreOfDevices}
-use Rattle.bus_due.specs.RunSteps.{run_state}
-use Rattle.bus_due.specs.Sights.{serving_at}
-use Rattle.link_laws.specs.bus_laws.specs.Reactions.{own_time, unreset_due}
+use Rattle.link_laws.specs.bus_laws.specs.Reactions.{unreset_due}
 use Rattle.link_laws.specs.bus_laws.specs.Rows.{row_of_lines, row_of_fault}
-use Rattle.link_laws.specs.bus_laws.specs.Ends.{EndLines, initiator_side, target_side, connected_bus, Linked, BeginsSelected, ends_selected}
-use Rattle.link_laws.specs.bus_laws.proofs.Dues.{is_at}
-use Rattle.link_laws.specs.Phases.{ends, Settling, Turning, Offering, Shaking}
-use Rattle.link_laws.specs.Pulses.{Pulsing, times_here, offset_here, run_count, byte_in_run, next_bits}
-use Rattle.link_laws.specs.LinkStages.{LinkStage, when_selected, when_settling, when_turning, when_offering, when_shaking, when_pulsing}
-use Rattle.link_laws.proofs.Ahead.{never}
-use Rattle.link_laws.proofs.EndDues.{due_of, Mover, by_fault, by_initiator, by_target, mover_is, target_plain, initiator_plain, offering_with, answering_with}
-use Rattle.link_laws.proofs.PulseDues.{pulsed_target_in, pulsed_target_out, pulsed_initiator_in, pulsed_initiator_out, hold_end_time, pulse_time, leaving_time, ack_pulse_end_time, answer_time, release_time, byte_driven_time, given_bits}
+use Rattle.link_laws.specs.bus_laws.specs.Ends.{EndLines, connected_bus, Linked, ends_selected}
+use Rattle.link_laws.specs.Phases.{ends}
+use Rattle.link_laws.specs.Pulses.{run_count, byte_in_run, next_bits}
+use Rattle.link_laws.specs.LinkStages.{LinkStage}
+use Rattle.link_laws.proofs.EndDues.{offering_with, answering_with}
+use Rattle.link_laws.proofs.PulseDues.{given_bits}
 use Rattle.link_laws.proofs.Shakes.{target_row, initiator_row}
-use Rattle.link_laws.proofs.StageDues.{selected_target, selected_initiator, settling_target, settling_initiator, handing_initiator, turning_target, turned_initiator, owing_initiator, offering_target, offering_initiator, answered_target, answered_initiator_in, answered_initiator_out, asking_target, asking_initiator_in, asking_initiator_out, giving_initiator_out, ending_target, ending_initiator_in, ending_initiator_out, ack_end_time, between_target, between_initiator_in, between_initiator_out}
-use Rattle.std.proofs.lemmas.Bool.{eqb-true}
-use Rattle.std.proofs.lemmas.Option.{none-some}
-use Rattle.bus_due.specs.bus_base.proofs.Tests.{wrong, or_true, zero_of, implication_parts}
-use Rattle.link_laws.proofs.Faults.{none_device}
-
--- The phase is one of data by pulses.
-abbrev pub is_pulsed : List Row → EndLines → Bool
-is_pulsed p e = is_pulsed_phase true (connected_bus e) (dialogue p).heard.now.agreement
+use Rattle.bus_due.specs.bus_base.proofs.Tests.{or_true}
+use Rattle.trace_laws.proofs.PhaseRows as by
+use Rattle.trace_laws.proofs.PhaseRows.{PhaseRow, phase_row}
+pub use Rattle.trace_laws.proofs.PhaseRows.{is_pulsed, is_unasked, row_at}
 
 -- The target drives its first byte, or need not wait for the turn of I/O.
 abbrev pub has_first : List Row → (io : Bool) → ℕ → Bool
 has_first p io y = not (y == 0) || not (io && (line_times p).io == phase_time (line_times p))
-
-abbrev pub is_unasked : List Row → Bool
-is_unasked p = (handshakes p).requests == 0
 
 pub data LinkRow (s : ScenarioValue) (p : List Row) (n : Connection) (row : Row) : Type 0 where
   -- MESSAGE OUT begins after a selection
@@ -82,249 +61,40 @@ pub data LinkRow (s : ScenarioValue) (p : List Row) (n : Connection) (row : Row)
   changes_pulsed : (ack atn : Bool) (y z : ℕ) → Linked p n (ends false ack atn 0 false false true false y) → begun p ≡ true → is_unasked p ≡ false → is_pulsed p (ends false ack atn 0 false false true false y) ≡ true → row ≡ target_row row.time n (ends false ack atn 0 false false true false z) → LinkRow s p n row
   asks_pulse : (io ack atn : Bool) (x y : ℕ) → Linked p n (ends false ack atn x false false io false y) → begun p ≡ true → is_unasked p ≡ false → is_pulsed p (ends false ack atn x false false io false y) ≡ true → (io ≡ true → x ≡ 0) → (io ≡ true → (y ≡ byte_bits (offering_with s p n true (ends false ack atn x false false io false y)).byte) × (nat_lt (handshakes p).requests (run_count s p n) ≡ true)) → row ≡ target_row row.time n (ends false ack atn x false false io true y) → LinkRow s p n row
 
-pub row_at : (row : Row) (d time : ℕ) (l : LineSet) → row.dev ≡ d → due_at time l ≡ Some (due_of row) → row ≡ row_of_lines row.time d l
-row_at row d time l same e = let z = is_at time l (due_of row) e in λ i. record { time = row.time; dev = same i; kind = z.kind_is i }
-
--- ---- before the first REQ
+-- ---- by what its stage knows
 
 unasked : (p : List Row) → handshakes p ≡ no_handshakes → is_unasked p ≡ true
 unasked p h = ap (λ (b : Handshakes). b.requests == 0) h
 
-of_selected : (s : ScenarioValue) (p : List Row) (row : Row) (n : Connection) → BeginsSelected p n → Mover s p n false ends_selected row → LinkRow s p n row
-of_selected s p row n h (by_fault bit got same) = absurd (none_device (receiver p) row.dev h.receiver_is got)
-of_selected s p row n h (by_initiator lat there same e) = absurd (never _ (due_of row) (selected_initiator s p n lat) e)
-of_selected s p row n h (by_target lat there same e) =
-    opens h.linked h.begun_is (row_at row n.target ((line_times p).sel + lat) (target_side (ends false false true 0 true true false false 0)) same (sym (selected_target s p n lat) ∙ e))
-
-of_settling : (s : ScenarioValue) (p : List Row) (row : Row) (n : Connection) (bsy atn msg cd io : Bool) (y : ℕ) → Settling p n bsy atn msg cd io y → Mover s p n true (ends bsy false atn 0 msg cd io false y) row → LinkRow s p n row
-of_settling s p row n bsy atn msg cd io y h (by_fault bit got same) = absurd (none_device (receiver p) row.dev h.receiver_is got)
-of_settling s p row n true atn msg cd io y h (by_initiator lat there same e) =
-    hands atn msg cd io y h.linked h.phase.begun_is (unasked p h.quiet) (row_at row n.initiator ((line_times p).sel + lat) (initiator_side (ends false false atn 0 msg cd io false y)) same (sym (handing_initiator s p n atn msg cd io y lat) ∙ e))
-of_settling s p row n false atn msg cd io y h (by_initiator lat there same e) = absurd (never _ (due_of row) (settling_initiator s p n atn msg cd io y lat h) e)
-of_settling s p row n bsy atn msg cd io y h (by_target lat there same e) =
-    asks_first bsy atn msg cd io y h.linked h.phase.begun_is (unasked p h.quiet) (ap (λ (q : Bool). not (y == 0) || not q) h.unturned ∙ or_true (not (y == 0)))
-    (row_at row n.target (phase_time (line_times p) + 400 + lat) (target_side (ends bsy false atn 0 msg cd io true y)) same (sym (settling_target s p n bsy atn msg cd io y lat h) ∙ e))
-
-of_turning : (s : ScenarioValue) (p : List Row) (row : Row) (n : Connection) (atn : Bool) (x : ℕ) (msg cd : Bool) → Turning s p n atn x msg cd → Mover s p n true (ends false false atn x msg cd true false 0) row → LinkRow s p n row
-of_turning s p row n atn x msg cd h (by_fault bit got same) = absurd (none_device (receiver p) row.dev h.receiver_is got)
-of_turning s p row n atn x msg cd h (by_initiator lat there same e) = go (x == 0) refl
-  where
-    go : (q : Bool) → (x == 0) ≡ q → LinkRow s p n row
-    go true none = absurd (never _ (due_of row) (turned_initiator s p n atn msg cd lat (subst (λ z. Turning s p n atn z msg cd) (zero_of x none) h)) (subst (λ z. initiator_plain s p n true (ends false false atn z msg cd true false 0) lat ≡ Some (due_of row)) (zero_of x none) e))
-    go false some =
-        releases atn x msg cd h.linked h.phase.begun_is (unasked p h.quiet)
-        (row_at row n.initiator ((own_of p n.initiator).ack + (times_of (dialogue p).heard.now.agreement.period).hold + lat) (initiator_side (ends false false atn 0 msg cd true false 0)) same (sym (owing_initiator s p n atn x msg cd lat h some) ∙ e))
-of_turning s p row n atn x msg cd h (by_target lat there same e) =
-    offers atn x msg cd h.linked h.phase.begun_is (unasked p h.quiet)
-    (row_at row n.target (phase_time (line_times p) + 800 + lat) (target_side (ends false false atn x msg cd true false (byte_bits (offering_with s p n true (ends false false atn x msg cd true false 0)).byte))) same (sym (turning_target s p n atn x msg cd lat h) ∙ e))
-
-of_offering : (s : ScenarioValue) (p : List Row) (row : Row) (n : Connection) (atn msg cd : Bool) (y : ℕ) → Offering p n atn msg cd y → Mover s p n true (ends false false atn 0 msg cd true false y) row → LinkRow s p n row
-of_offering s p row n atn msg cd y h (by_fault bit got same) = absurd (none_device (receiver p) row.dev h.receiver_is got)
-of_offering s p row n atn msg cd y h (by_initiator lat there same e) = absurd (never _ (due_of row) (offering_initiator s p n atn msg cd y lat h) e)
-of_offering s p row n atn msg cd y h (by_target lat there same e) =
-    asks_first false atn msg cd true y h.linked h.phase.begun_is (unasked p h.quiet) (λ i. not (h.some i) || not (true && (line_times p).io == phase_time (line_times p)))
-    (row_at row n.target (own_time p n.target + 55 + lat) (target_side (ends false false atn 0 msg cd true true y)) same (sym (offering_target s p n atn msg cd y lat h) ∙ e))
-
--- ---- byte by byte
-
-between : (s : ScenarioValue) (p : List Row) (row : Row) (n : Connection) (msg cd io atn : Bool) (y lat : ℕ) → Shaking p n msg cd io false false atn 0 y → row.dev ≡ n.target → target_plain s p n true (ends false false atn 0 msg cd io false y) lat ≡ Some (due_of row) → LinkRow s p n row
-between s p row n msg cd io atn y lat h same e = go (offering_with s p n true (ends false false atn 0 msg cd io false y)).follows refl (sym (between_target s p n msg cd io atn 0 y lat h) ∙ e)
-  where
-    go : (q : Bool) → (offering_with s p n true (ends false false atn 0 msg cd io false y)).follows ≡ q
-        → (if q then due_at ((if io then max (line_times p).ack (own_time p n.target + 55) else (line_times p).ack) + lat) (target_side (ends false false atn 0 msg cd io true y)) else due_at ((line_times p).ack + lat + (offering_with s p n true (ends false false atn 0 msg cd io false y)).wait) (offering_with s p n true (ends false false atn 0 msg cd io false y)).to) ≡ Some (due_of row) → LinkRow s p n row
-    go true f e =
-        asks_next atn msg cd io y h.linked h.phase.begun_is h.asked h.unpulsed f
-        (row_at row n.target ((if io then max (line_times p).ack (own_time p n.target + 55) else (line_times p).ack) + lat) (target_side (ends false false atn 0 msg cd io true y)) same e)
-    go false f e =
-        leaves atn msg cd io 0 y h.linked h.phase.begun_is h.phase.known h.asked (λ z. refl, λ z. absurd (wrong (sym z ∙ h.unpulsed))) f
-        (row_at row n.target ((line_times p).ack + lat + (offering_with s p n true (ends false false atn 0 msg cd io false y)).wait) (offering_with s p n true (ends false false atn 0 msg cd io false y)).to same e)
-
-answered : (s : ScenarioValue) (p : List Row) (row : Row) (n : Connection) (msg cd io atn : Bool) (x y lat : ℕ) → Shaking p n msg cd io true true atn x y → row.dev ≡ n.target → target_plain s p n true (ends false true atn x msg cd io true y) lat ≡ Some (due_of row) → LinkRow s p n row
-answered s p row n msg cd io atn x y lat h same e =
-    let g = offering_with s p n true (ends false true atn x msg cd io true y) in
-    ends_req atn msg cd io x y h.linked h.phase.begun_is h.asked h.unpulsed
-    (row_at row n.target ((line_times p).ack + lat) (target_side (ends false true atn x msg cd io false (bits_if (io && g.follows) g.byte))) same (sym (answered_target s p n msg cd io atn x y lat h) ∙ e))
-
-of_shaking_in : (s : ScenarioValue) (p : List Row) (row : Row) (n : Connection) (msg cd req ack atn : Bool) (y : ℕ) → Shaking p n msg cd true req ack atn 0 y → Mover s p n true (ends false ack atn 0 msg cd true req y) row → LinkRow s p n row
-of_shaking_in s p row n msg cd req ack atn y h (by_fault bit got same) = strikes (ends false ack atn 0 msg cd true req y) bit h.linked h.phase.begun_is got (h.receives row.dev got) same
-of_shaking_in s p row n msg cd true true atn y h (by_initiator lat there same e) = absurd (never _ (due_of row) (answered_initiator_in s p n msg cd atn y lat h) e)
-of_shaking_in s p row n msg cd true false atn y h (by_initiator lat there same e) =
-    let to = ((handshakes p).struck || (answering_with s p n (ends false false atn 0 msg cd true true y)).speaks) || atn in
-    answers atn to msg cd y h.linked h.phase.begun_is (h.asked, h.unpulsed) refl (row_at row n.initiator ((line_times p).req + lat) (initiator_side (ends false true to 0 msg cd true true y)) same (sym (asking_initiator_in s p n msg cd atn y lat h) ∙ e))
-of_shaking_in s p row n msg cd false true atn y h (by_initiator lat there same e) =
-    ends_ack_in atn msg cd y h.linked h.phase.begun_is h.asked h.unpulsed (row_at row n.initiator (ack_end_time p atn + lat) (initiator_side (ends false false atn 0 msg cd true false y)) same (sym (ending_initiator_in s p n msg cd atn y lat h) ∙ e))
-of_shaking_in s p row n msg cd false false atn y h (by_initiator lat there same e) = absurd (never _ (due_of row) (between_initiator_in s p n msg cd atn y lat h) e)
-of_shaking_in s p row n msg cd true true atn y h (by_target lat there same e) = answered s p row n msg cd true atn 0 y lat h same e
-of_shaking_in s p row n msg cd true false atn y h (by_target lat there same e) = absurd (never _ (due_of row) (asking_target s p n msg cd true atn 0 y lat h) e)
-of_shaking_in s p row n msg cd false true atn y h (by_target lat there same e) = absurd (never _ (due_of row) (ending_target s p n msg cd true atn 0 y lat h) e)
-of_shaking_in s p row n msg cd false false atn y h (by_target lat there same e) = between s p row n msg cd true atn y lat h same e
-
-of_shaking_out : (s : ScenarioValue) (p : List Row) (row : Row) (n : Connection) (msg cd req ack atn : Bool) (x : ℕ) → Shaking p n msg cd false req ack atn x 0 → Mover s p n true (ends false ack atn x msg cd false req 0) row → LinkRow s p n row
-of_shaking_out s p row n msg cd req ack atn x h (by_fault bit got same) = strikes (ends false ack atn x msg cd false req 0) bit h.linked h.phase.begun_is got (h.receives row.dev got) same
-of_shaking_out s p row n msg cd true true atn x h (by_initiator lat there same e) = absurd (never _ (due_of row) (answered_initiator_out s p n msg cd atn x lat h) e)
-of_shaking_out s p row n msg cd true false atn x h (by_initiator lat there same e) = go (x == 0) refl
-  where
-    go : (q : Bool) → (x == 0) ≡ q → LinkRow s p n row
-    go true none =
-        let at_zero = subst (λ z. Shaking p n msg cd false true false atn z 0) (zero_of x none) h in
-        let a = answering_with s p n (ends false false atn 0 msg cd false true 0) in
-        let to = attends_by (connected_bus (ends false false atn 0 msg cd false true 0)) a.attends atn in
-        gives atn msg cd at_zero.linked at_zero.phase.begun_is at_zero.unpulsed
-        (row_at row n.initiator ((line_times p).req + lat) (initiator_side (ends false false to (byte_bits a.byte) msg cd false true 0)) same (sym (asking_initiator_out s p n msg cd atn lat at_zero) ∙ subst (λ z. initiator_plain s p n true (ends false false atn z msg cd false true 0) lat ≡ Some (due_of row)) (zero_of x none) e))
-    go false some =
-        sends atn msg cd x h.linked h.phase.begun_is h.unpulsed some
-        (row_at row n.initiator ((if msg && cd && true then max (own_time p n.initiator + 55) ((line_times p).atn + 90) else own_time p n.initiator + 55) + lat) (initiator_side (ends false true atn x msg cd false true 0)) same (sym (giving_initiator_out s p n msg cd atn x lat h some) ∙ e))
-of_shaking_out s p row n msg cd false true atn x h (by_initiator lat there same e) =
-    ends_ack_out atn msg cd x h.linked h.phase.begun_is (row_at row n.initiator (ack_end_time p atn + lat) (initiator_side (ends false false atn 0 msg cd false false 0)) same (sym (ending_initiator_out s p n msg cd atn x lat h) ∙ e))
-of_shaking_out s p row n msg cd false false atn x h (by_initiator lat there same e) = absurd (never _ (due_of row) (between_initiator_out s p n msg cd atn x lat h) e)
-of_shaking_out s p row n msg cd true true atn x h (by_target lat there same e) = answered s p row n msg cd false atn x 0 lat h same e
-of_shaking_out s p row n msg cd true false atn x h (by_target lat there same e) = absurd (never _ (due_of row) (asking_target s p n msg cd false atn x 0 lat h) e)
-of_shaking_out s p row n msg cd false true atn x h (by_target lat there same e) = absurd (never _ (due_of row) (ending_target s p n msg cd false atn x 0 lat h) e)
-of_shaking_out s p row n msg cd false false atn x h (by_target lat there same e) =
-    between s p row n msg cd false atn 0 lat (subst (λ z. Shaking p n msg cd false false false atn z 0) h.driven h) same (subst (λ z. target_plain s p n true (ends false false atn z msg cd false false 0) lat ≡ Some (due_of row)) h.driven e)
-
--- ---- by pulses
-
-none_waits : (waiting : List Request) → (length waiting == 0) ≡ true → waiting ≡ []
-none_waits [] e = refl
-none_waits (r ∷ waiting) e = let u = eqb-true (length (r ∷ waiting)) 0 e in absurd (omega arith)
-
--- Whether a byte follows, by the length of the run.
-follows_pulsed_in : (s : ScenarioValue) (p : List Row) (n : Connection) (ack atn : Bool) (x y : ℕ) → nat_lt 0 (offset_here p) ≡ true → (offering_with s p n true (ends false ack atn x false false true false y)).follows ≡ nat_lt (handshakes p).requests (run_count s p n)
-follows_pulsed_in s p n ack atn x y off = ap (λ (q : Bool). if q then nat_lt (handshakes p).requests (run_count s p n) else follows_in (serving_at s (run_state s p) n.target phases.DataIn) (handshakes p) atn phases.DataIn) off
-
-follows_pulsed_out : (s : ScenarioValue) (p : List Row) (n : Connection) (ack atn : Bool) (x y : ℕ) → nat_lt 0 (offset_here p) ≡ true → (offering_with s p n true (ends false ack atn x false false false false y)).follows ≡ nat_lt (handshakes p).requests (run_count s p n)
-follows_pulsed_out s p n ack atn x y off = ap (λ (q : Bool). if q then nat_lt (handshakes p).requests (run_count s p n) else follows_in (serving_at s (run_state s p) n.target phases.DataOut) (handshakes p) atn phases.DataOut) off
-
-target_in : (s : ScenarioValue) (p : List Row) (row : Row) (n : Connection) (req ack atn : Bool) (y lat : ℕ) → Pulsing s p n true req ack atn 0 y → row.dev ≡ n.target → target_plain s p n true (ends false ack atn 0 false false true req y) lat ≡ Some (due_of row) → LinkRow s p n row
-target_in s p row n true ack atn y lat h same e =
-    ends_req_pulse true ack atn 0 y h.linked h.phase.begun_is h.facts.asked h.offset
-    (row_at row n.target ((line_times p).req + (times_here p).assertion + lat) (target_side (ends false ack atn 0 false false true false y)) same (sym (pulsed_target_in s p n true ack atn y lat h.offset h.facts.asked) ∙ e))
-target_in s p row n false ack atn y lat h same e = changes (y == next_bits s p n) refl (sym (pulsed_target_in s p n false ack atn y lat h.offset h.facts.asked) ∙ e)
-  where
-    left : (q : Bool) → (not (length (handshakes p).waiting == 0) || ack) ≡ q → nat_lt (handshakes p).requests (run_count s p n) ≡ false → (if q then None else due_at (leaving_time p true lat) (offering_with s p n true (ends false ack atn 0 false false true false y)).to) ≡ Some (due_of row) → LinkRow s p n row
-    left true z f e = absurd (none-some (due_of row) e)
-    left false z f e = at_rest ack (implication_parts (length (handshakes p).waiting == 0) ack z).1 h e
-      where
-        none : (length (handshakes p).waiting == 0) ≡ true
-        none = (implication_parts (length (handshakes p).waiting == 0) ack z).0
-
-        at_rest : (ack : Bool) → ack ≡ false → Pulsing s p n true false ack atn 0 y → due_at (leaving_time p true lat) (offering_with s p n true (ends false ack atn 0 false false true false y)).to ≡ Some (due_of row) → LinkRow s p n row
-        at_rest true a h e = absurd cc
-        at_rest false a h e =
-            leaves atn false false true 0 y h.linked h.phase.begun_is h.phase.known h.facts.asked (λ z. refl, λ z. none_waits (handshakes p).waiting none) (follows_pulsed_in s p n false atn 0 y h.offset ∙ f)
-            (row_at row n.target (leaving_time p true lat) (offering_with s p n true (ends false false atn 0 false false true false y)).to same e)
-
-    rooms : (q : Bool) → nat_lt (length (handshakes p).waiting) (offset_here p) ≡ q → y ≡ next_bits s p n → nat_lt (handshakes p).requests (run_count s p n) ≡ true → (if q then due_at (pulse_time p true lat) (target_side (ends false ack atn 0 false false true true y)) else None) ≡ Some (due_of row) → LinkRow s p n row
-    rooms false z b f e = absurd (none-some (due_of row) e)
-    rooms true z b f e =
-        asks_pulse true ack atn 0 y h.linked h.phase.begun_is h.facts.asked h.offset (λ i. refl) (λ i. (b ∙ ap (λ (q : Bool). bits_if q (byte_in_run s p n (handshakes p).requests)) f, f))
-        (row_at row n.target (pulse_time p true lat) (target_side (ends false ack atn 0 false false true true y)) same e)
-
-    follows : (q : Bool) → nat_lt (handshakes p).requests (run_count s p n) ≡ q → y ≡ next_bits s p n → (if q then (if nat_lt (length (handshakes p).waiting) (offset_here p) then due_at (pulse_time p true lat) (target_side (ends false ack atn 0 false false true true y)) else None) else if not (length (handshakes p).waiting == 0) || ack then None else due_at (leaving_time p true lat) (offering_with s p n true (ends false ack atn 0 false false true false y)).to) ≡ Some (due_of row) → LinkRow s p n row
-    follows true f b e = rooms (nat_lt (length (handshakes p).waiting) (offset_here p)) refl b f e
-    follows false f b e = left (not (length (handshakes p).waiting == 0) || ack) refl f e
-
-    changes : (q : Bool) → (y == next_bits s p n) ≡ q → (if not q then due_at (hold_end_time p lat) (target_side (ends false ack atn 0 false false true false (next_bits s p n))) else if nat_lt (handshakes p).requests (run_count s p n) then (if nat_lt (length (handshakes p).waiting) (offset_here p) then due_at (pulse_time p true lat) (target_side (ends false ack atn 0 false false true true y)) else None) else if not (length (handshakes p).waiting == 0) || ack then None else due_at (leaving_time p true lat) (offering_with s p n true (ends false ack atn 0 false false true false y)).to) ≡ Some (due_of row) → LinkRow s p n row
-    changes false z e =
-        changes_pulsed ack atn y (next_bits s p n) h.linked h.phase.begun_is h.facts.asked h.offset
-        (row_at row n.target (hold_end_time p lat) (target_side (ends false ack atn 0 false false true false (next_bits s p n))) same e)
-    changes true z e = follows (nat_lt (handshakes p).requests (run_count s p n)) refl (eqb-true y (next_bits s p n) z) e
-
-target_out : (s : ScenarioValue) (p : List Row) (row : Row) (n : Connection) (req ack atn : Bool) (x lat : ℕ) → Pulsing s p n false req ack atn x 0 → row.dev ≡ n.target → target_plain s p n true (ends false ack atn x false false false req 0) lat ≡ Some (due_of row) → LinkRow s p n row
-target_out s p row n true ack atn x lat h same e =
-    ends_req_pulse false ack atn x 0 h.linked h.phase.begun_is h.facts.asked h.offset
-    (row_at row n.target ((line_times p).req + (times_here p).assertion + lat) (target_side (ends false ack atn x false false false false 0)) same (sym (pulsed_target_out s p n true ack atn x lat h.offset h.facts.asked) ∙ e))
-target_out s p row n false ack atn x lat h same e = follows (nat_lt (handshakes p).requests (run_count s p n)) refl (sym (pulsed_target_out s p n false ack atn x lat h.offset h.facts.asked) ∙ e)
-  where
-    left : (q : Bool) → (not (length (handshakes p).waiting == 0) || ack) ≡ q → nat_lt (handshakes p).requests (run_count s p n) ≡ false → (if q then None else due_at (leaving_time p false lat) (offering_with s p n true (ends false ack atn x false false false false 0)).to) ≡ Some (due_of row) → LinkRow s p n row
-    left true z f e = absurd (none-some (due_of row) e)
-    left false z f e = at_rest ack (implication_parts (length (handshakes p).waiting == 0) ack z).1 h e
-      where
-        none : (length (handshakes p).waiting == 0) ≡ true
-        none = (implication_parts (length (handshakes p).waiting == 0) ack z).0
-
-        at_rest : (ack : Bool) → ack ≡ false → Pulsing s p n false false ack atn x 0 → due_at (leaving_time p false lat) (offering_with s p n true (ends false ack atn x false false false false 0)).to ≡ Some (due_of row) → LinkRow s p n row
-        at_rest true a h e = absurd cc
-        at_rest false a h e =
-            leaves atn false false false x 0 h.linked h.phase.begun_is h.phase.known h.facts.asked (λ z. let w = sym h.offset ∙ z in absurd cc, λ z. none_waits (handshakes p).waiting none) (follows_pulsed_out s p n false atn x 0 h.offset ∙ f)
-            (row_at row n.target (leaving_time p false lat) (offering_with s p n true (ends false false atn x false false false false 0)).to same e)
-
-    rooms : (q : Bool) → nat_lt (length (handshakes p).waiting) (offset_here p) ≡ q → (if q then due_at (pulse_time p false lat) (target_side (ends false ack atn x false false false true 0)) else None) ≡ Some (due_of row) → LinkRow s p n row
-    rooms false z e = absurd (none-some (due_of row) e)
-    rooms true z e =
-        asks_pulse false ack atn x 0 h.linked h.phase.begun_is h.facts.asked h.offset (λ i. absurd cc) (λ i. absurd cc)
-        (row_at row n.target (pulse_time p false lat) (target_side (ends false ack atn x false false false true 0)) same e)
-
-    follows : (q : Bool) → nat_lt (handshakes p).requests (run_count s p n) ≡ q → (if q then (if nat_lt (length (handshakes p).waiting) (offset_here p) then due_at (pulse_time p false lat) (target_side (ends false ack atn x false false false true 0)) else None) else if not (length (handshakes p).waiting == 0) || ack then None else due_at (leaving_time p false lat) (offering_with s p n true (ends false ack atn x false false false false 0)).to) ≡ Some (due_of row) → LinkRow s p n row
-    follows true f e = rooms (nat_lt (length (handshakes p).waiting) (offset_here p)) refl e
-    follows false f e = left (not (length (handshakes p).waiting == 0) || ack) refl f e
-
-initiator_in : (s : ScenarioValue) (p : List Row) (row : Row) (n : Connection) (req ack atn : Bool) (y lat : ℕ) → Pulsing s p n true req ack atn 0 y → row.dev ≡ n.initiator → initiator_plain s p n true (ends false ack atn 0 false false true req y) lat ≡ Some (due_of row) → LinkRow s p n row
-initiator_in s p row n req true atn y lat h same e =
-    ends_ack_pulse true req atn 0 y h.linked h.phase.begun_is h.facts.asked h.offset
-    (row_at row n.initiator (ack_pulse_end_time p atn lat) (initiator_side (ends false false atn 0 false false true req y)) same (sym (pulsed_initiator_in s p n req true atn y lat h.offset) ∙ e))
-initiator_in s p row n req false atn y lat h same e = go (length (handshakes p).waiting == 0) refl (sym (pulsed_initiator_in s p n req false atn y lat h.offset) ∙ e)
-  where
-    go : (q : Bool) → (length (handshakes p).waiting == 0) ≡ q → (if not q then due_at (answer_time s p n + lat) (initiator_side (ends false true (is_struck (first_of (handshakes p).waiting) || atn) 0 false false true req y)) else None) ≡ Some (due_of row) → LinkRow s p n row
-    go true z e = absurd (none-some (due_of row) e)
-    go false z e =
-        answers_pulse req atn (is_struck (first_of (handshakes p).waiting) || atn) y h.linked h.phase.begun_is h.facts.asked h.offset refl
-        (row_at row n.initiator (answer_time s p n + lat) (initiator_side (ends false true (is_struck (first_of (handshakes p).waiting) || atn) 0 false false true req y)) same e)
-
-initiator_out : (s : ScenarioValue) (p : List Row) (row : Row) (n : Connection) (req ack atn : Bool) (x lat : ℕ) → Pulsing s p n false req ack atn x 0 → row.dev ≡ n.initiator → initiator_plain s p n true (ends false ack atn x false false false req 0) lat ≡ Some (due_of row) → LinkRow s p n row
-initiator_out s p row n req true atn x lat h same e =
-    ends_ack_pulse false req atn x 0 h.linked h.phase.begun_is h.facts.asked h.offset
-    (row_at row n.initiator (ack_pulse_end_time p atn lat) (initiator_side (ends false false atn x false false false req 0)) same (sym (pulsed_initiator_out s p n req true atn x lat h.offset) ∙ e))
-initiator_out s p row n req false atn x lat h same e = go (length (handshakes p).waiting == 0) refl (sym (pulsed_initiator_out s p n req false atn x lat h.offset) ∙ e)
-  where
-    given : ℕ
-    given = given_bits s p n (ends false false atn x false false false req 0)
-
-    waits : (q : Bool) → (x == given) ≡ q → (if q then due_at (max (answer_time s p n) (byte_driven_time p n lat + (times_here p).set_up) + lat) (initiator_side (ends false true atn x false false false req 0)) else due_at (byte_driven_time p n lat) (initiator_side (ends false false atn given false false false req 0))) ≡ Some (due_of row) → LinkRow s p n row
-    waits true z e =
-        sends_pulse req atn x h.linked h.phase.begun_is h.offset (eqb-true x given z)
-        (row_at row n.initiator (max (answer_time s p n) (byte_driven_time p n lat + (times_here p).set_up) + lat) (initiator_side (ends false true atn x false false false req 0)) same e)
-    waits false z e =
-        drives_pulsed req atn x given h.linked h.phase.begun_is h.offset
-        (row_at row n.initiator (byte_driven_time p n lat) (initiator_side (ends false false atn given false false false req 0)) same e)
-
-    idle : (q : Bool) → (x == 0) ≡ q → (if q then None else due_at (release_time p n lat) (initiator_side (ends false false atn 0 false false false req 0))) ≡ Some (due_of row) → LinkRow s p n row
-    idle true z e = absurd (none-some (due_of row) e)
-    idle false z e =
-        drives_pulsed req atn x 0 h.linked h.phase.begun_is h.offset
-        (row_at row n.initiator (release_time p n lat) (initiator_side (ends false false atn 0 false false false req 0)) same e)
-
-    go : (q : Bool) → (length (handshakes p).waiting == 0) ≡ q → (if not q then (if x == given then due_at (max (answer_time s p n) (byte_driven_time p n lat + (times_here p).set_up) + lat) (initiator_side (ends false true atn x false false false req 0)) else due_at (byte_driven_time p n lat) (initiator_side (ends false false atn given false false false req 0))) else if x == 0 then None else due_at (release_time p n lat) (initiator_side (ends false false atn 0 false false false req 0))) ≡ Some (due_of row) → LinkRow s p n row
-    go false z e = waits (x == given) refl e
-    go true z e = idle (x == 0) refl e
-
-of_pulsing : (s : ScenarioValue) (p : List Row) (row : Row) (n : Connection) (io req ack atn : Bool) (x y : ℕ) → Pulsing s p n io req ack atn x y → Mover s p n true (ends false ack atn x false false io req y) row → LinkRow s p n row
-of_pulsing s p row n io req ack atn x y h (by_fault bit got same) = strikes (ends false ack atn x false false io req y) bit h.linked h.phase.begun_is got (h.receives row.dev got) same
-of_pulsing s p row n true req ack atn x y h (by_initiator lat there same e) =
-    let z = h.side in
-    initiator_in s p row n req ack atn y lat (subst (λ k. Pulsing s p n true req ack atn k y) z h) same (subst (λ k. initiator_plain s p n true (ends false ack atn k false false true req y) lat ≡ Some (due_of row)) z e)
-of_pulsing s p row n false req ack atn x y h (by_initiator lat there same e) =
-    let z = h.side in
-    initiator_out s p row n req ack atn x lat (subst (λ k. Pulsing s p n false req ack atn x k) z h) same (subst (λ k. initiator_plain s p n true (ends false ack atn x false false false req k) lat ≡ Some (due_of row)) z e)
-of_pulsing s p row n true req ack atn x y h (by_target lat there same e) =
-    let z = h.side in
-    target_in s p row n req ack atn y lat (subst (λ k. Pulsing s p n true req ack atn k y) z h) same (subst (λ k. target_plain s p n true (ends false ack atn k false false true req y) lat ≡ Some (due_of row)) z e)
-of_pulsing s p row n false req ack atn x y h (by_target lat there same e) =
-    let z = h.side in
-    target_out s p row n req ack atn x lat (subst (λ k. Pulsing s p n false req ack atn x k) z h) same (subst (λ k. target_plain s p n true (ends false ack atn x false false false req k) lat ≡ Some (due_of row)) z e)
-
--- ---- any stage
+of_phase : (s : ScenarioValue) (p : List Row) (row : Row) (n : Connection) → PhaseRow s p n row → LinkRow s p n row
+of_phase s p row n (by.opens h e) = opens h.linked h.begun_is e
+of_phase s p row n (by.strikes e bit h b got who is) = strikes e bit h b got who is
+of_phase s p row n (by.leaves atn msg cd io x y h b known asked rest follows e) = leaves atn msg cd io x y h b known asked rest follows e
+of_phase s p row n (by.hands atn msg cd io y h e) = hands atn msg cd io y h.linked h.phase.begun_is (unasked p h.quiet) e
+of_phase s p row n (by.releases atn x msg cd h some e) = releases atn x msg cd h.linked h.phase.begun_is (unasked p h.quiet) e
+of_phase s p row n (by.offers atn x msg cd h e) = offers atn x msg cd h.linked h.phase.begun_is (unasked p h.quiet) e
+of_phase s p row n (by.asks_settled bsy atn msg cd io y h e) =
+    asks_first bsy atn msg cd io y h.linked h.phase.begun_is (unasked p h.quiet) (ap (λ (q : Bool). not (y == 0) || not q) h.unturned ∙ or_true (not (y == 0))) e
+of_phase s p row n (by.asks_offered atn msg cd y h e) =
+    asks_first false atn msg cd true y h.linked h.phase.begun_is (unasked p h.quiet) (λ i. not (h.some i) || not (true && (line_times p).io == phase_time (line_times p))) e
+of_phase s p row n (by.answers atn to msg cd y h is e) = answers atn to msg cd y h.linked h.phase.begun_is (h.asked, h.unpulsed) is e
+of_phase s p row n (by.ends_ack_in atn msg cd y h e) = ends_ack_in atn msg cd y h.linked h.phase.begun_is h.asked h.unpulsed e
+of_phase s p row n (by.gives atn msg cd h e) = gives atn msg cd h.linked h.phase.begun_is h.unpulsed e
+of_phase s p row n (by.sends atn msg cd x h some e) = sends atn msg cd x h.linked h.phase.begun_is h.unpulsed some e
+of_phase s p row n (by.ends_ack_out atn msg cd x h e) = ends_ack_out atn msg cd x h.linked h.phase.begun_is e
+of_phase s p row n (by.ends_req atn msg cd io x y h e) = ends_req atn msg cd io x y h.linked h.phase.begun_is h.asked h.unpulsed e
+of_phase s p row n (by.asks_next atn msg cd io y h follows e) = asks_next atn msg cd io y h.linked h.phase.begun_is h.asked h.unpulsed follows e
+of_phase s p row n (by.ends_ack_pulse io req atn x y h e) = ends_ack_pulse io req atn x y h.linked h.phase.begun_is h.facts.asked h.offset e
+of_phase s p row n (by.answers_pulse req atn to y h some is e) = answers_pulse req atn to y h.linked h.phase.begun_is h.facts.asked h.offset is e
+of_phase s p row n (by.gives_pulse req atn x h some other e) =
+    drives_pulsed req atn x (given_bits s p n (ends false false atn x false false false req 0)) h.linked h.phase.begun_is h.offset e
+of_phase s p row n (by.sends_pulse req atn x h some is e) = sends_pulse req atn x h.linked h.phase.begun_is h.offset is e
+of_phase s p row n (by.releases_pulse req atn x h none some e) = drives_pulsed req atn x 0 h.linked h.phase.begun_is h.offset e
+of_phase s p row n (by.ends_req_pulse io ack atn x y h e) = ends_req_pulse io ack atn x y h.linked h.phase.begun_is h.facts.asked h.offset e
+of_phase s p row n (by.changes_pulse ack atn y h other e) = changes_pulsed ack atn y (next_bits s p n) h.linked h.phase.begun_is h.facts.asked h.offset e
+of_phase s p row n (by.asks_pulse_in ack atn y h is follows room e) =
+    asks_pulse true ack atn 0 y h.linked h.phase.begun_is h.facts.asked h.offset (λ i. refl) (λ i. (is ∙ ap (λ (q : Bool). bits_if q (byte_in_run s p n (handshakes p).requests)) follows, follows)) e
+of_phase s p row n (by.asks_pulse_out ack atn x h follows room e) = asks_pulse false ack atn x 0 h.linked h.phase.begun_is h.facts.asked h.offset (λ i. absurd cc) (λ i. absurd cc) e
 
 pub link_row : (s : ScenarioValue) (p : List Row) (row : Row) (n : Connection) → AreOfDevices p → LinkStage s p n → IsLeast (unreset_due s p) 8 row → LinkRow s p n row
-link_row s p row n d (when_selected h) least = of_selected s p row n h (mover_is s p n false ends_selected row d h.linked h.begun_is least)
-link_row s p row n d (when_settling bsy atn msg cd io y h) least = of_settling s p row n bsy atn msg cd io y h (mover_is s p n true _ row d h.linked h.phase.begun_is least)
-link_row s p row n d (when_turning atn x msg cd h) least = of_turning s p row n atn x msg cd h (mover_is s p n true _ row d h.linked h.phase.begun_is least)
-link_row s p row n d (when_offering atn msg cd y h) least = of_offering s p row n atn msg cd y h (mover_is s p n true _ row d h.linked h.phase.begun_is least)
-link_row s p row n d (when_shaking msg cd true req ack atn x y h) least =
-    let z = subst (λ k. Shaking p n msg cd true req ack atn k y) h.side h in
-    of_shaking_in s p row n msg cd req ack atn y z (mover_is s p n true _ row d z.linked z.phase.begun_is least)
-link_row s p row n d (when_shaking msg cd false req ack atn x y h) least =
-    let z = subst (λ k. Shaking p n msg cd false req ack atn x k) h.side h in
-    of_shaking_out s p row n msg cd req ack atn x z (mover_is s p n true _ row d z.linked z.phase.begun_is least)
-link_row s p row n d (when_pulsing io req ack atn x y h a) least = of_pulsing s p row n io req ack atn x y h (mover_is s p n true _ row d h.linked h.phase.begun_is least)
+link_row s p row n devices stage least = of_phase s p row n (phase_row s p row n devices stage least)

@@ -1,36 +1,34 @@
--- A command gives no more bytes than it moves at the line of its unit, and a write gives none; so its initiator has room for them, where its
--- target is one of the scenario (7.3, 8.2, 9.2).
-use Rattle.std.proofs.Common.{ℕ, ◌≡◌, ◌≤◌, ◌+◌, ◌*◌, ◌-◌, ◌^◌, Bool, true, false, not, ◌&&◌, ◌∙◌, List, length, take, Option, Some, None, Result, Ok, Err, refl, sym, ap, subst, arith}
+-- A command gives no more bytes than it moves at the line of its unit, and a write gives none (7.3, 8.2, 9.2).
+use Rattle.std.proofs.Common.{ℕ, ◌≡◌, ◌≤◌, ◌+◌, ◌*◌, ◌-◌, Bool, true, false, not, ◌&&◌, ◌∙◌, List, length, take, Option, Some, None, Result, Ok, Err, refl, sym, ap, subst, arith}
 use Rattle.std.specs.Prelude.{if◌then◌else◌, min, nat_le, nat_lt}
 use Rattle.std.proofs.lemmas.Bool.{and_parts}
 use Rattle.std.proofs.lemmas.List.{length-take}
-use Rattle.cdb_codec.specs.Blocks.{blocks_moved}
-use Rattle.cdb_codec.specs.Cdb.{command_of}
-use Rattle.cdb_codec.specs.Replies.{inquiry_data, sense_data}
-use Rattle.cdb_codec.specs.declared.Sense.{Sense}
-use Rattle.cdb_codec.specs.declared.command.CdbFault.{CdbFault}
-use Rattle.cdb_codec.specs.declared.command.CdbFault.TheVariants as faults
-use Rattle.cdb_codec.specs.declared.command.Command.{Command}
-use Rattle.cdb_codec.specs.declared.command.Command.TheVariants as commands
-use Rattle.cdb_codec.specs.declared.operation.TheConstants.{INQUIRY}
-use Rattle.cdb_codec.specs.declared.replies.TheConstants.{INQUIRY_LEN, SENSE_LEN}
-use Rattle.scenario.specs.Lookups.{has_target, unit_of}
-use Rattle.scenario.specs.Needs.{is_write, moved_by, need_of}
-use Rattle.scenario.specs.Value.{ScenarioValue}
-use Rattle.scenario.specs.declared.value.CmdDef.{CmdDef}
-use Rattle.scenario.specs.declared.value.UnitDef.{UnitDef}
-use Rattle.disk_array.specs.Contents.{Contents, bytes_at, no_contents}
-use Rattle.disk_array.specs.Execution.{CommandContext, Reply, attention_execution, block_out_of_range, cdb_execution, check_condition, command_execution, execution, heeds_attention, invalid_field, is_good_range, is_opcode, needs_unit, range_execution, range_of, reply_execution, returned_sense, unit_not_supported}
-use Rattle.disk_array.specs.Processes.{Process}
-use Rattle.disk_array.specs.Seats.{contents_of}
-use Rattle.disk_array.specs.Steps.{context_at}
-use Rattle.disk_array.specs.Units.{Array, UnitState, nexus_of, sense_of_nexus, unit_state_at}
+use Rattle.bus_due.specs.cdb_codec.specs.Blocks.{blocks_moved}
+use Rattle.bus_due.specs.cdb_codec.specs.Cdb.{command_of}
+use Rattle.bus_due.specs.cdb_codec.specs.Replies.{inquiry_data, sense_data}
+use Rattle.bus_due.specs.cdb_codec.specs.declared.Sense.{Sense}
+use Rattle.bus_due.specs.cdb_codec.specs.declared.command.CdbFault.{CdbFault}
+use Rattle.bus_due.specs.cdb_codec.specs.declared.command.CdbFault.TheVariants as faults
+use Rattle.bus_due.specs.cdb_codec.specs.declared.command.Command.{Command}
+use Rattle.bus_due.specs.cdb_codec.specs.declared.command.Command.TheVariants as commands
+use Rattle.bus_due.specs.cdb_codec.specs.declared.operation.TheConstants.{INQUIRY}
+use Rattle.bus_due.specs.cdb_codec.specs.declared.replies.TheConstants.{INQUIRY_LEN, SENSE_LEN}
+use Rattle.bus_due.specs.scenario.specs.Lookups.{has_target, unit_of}
+use Rattle.bus_due.specs.scenario.specs.Needs.{is_write, moved_by, need_of}
+use Rattle.bus_due.specs.scenario.specs.Value.{ScenarioValue}
+use Rattle.bus_due.specs.scenario.specs.declared.value.CmdDef.{CmdDef}
+use Rattle.bus_due.specs.scenario.specs.declared.value.UnitDef.{UnitDef}
+use Rattle.bus_due.specs.disk_array.specs.Contents.{Contents, bytes_at, no_contents}
+use Rattle.bus_due.specs.disk_array.specs.Execution.{CommandContext, Reply, attention_execution, block_out_of_range, cdb_execution, check_condition, command_execution, execution, heeds_attention, invalid_field, is_good_range, is_opcode, needs_unit, range_execution, range_of, reply_execution, returned_sense, unit_not_supported}
+use Rattle.bus_due.specs.disk_array.specs.Processes.{Process}
+use Rattle.bus_due.specs.disk_array.specs.Seats.{contents_of}
+use Rattle.bus_due.specs.disk_array.specs.Steps.{context_at}
+use Rattle.bus_due.specs.disk_array.specs.Units.{Array, UnitState, nexus_of, sense_of_nexus, unit_state_at}
 use Rattle.disk_unit.proofs.Parts.{length_bytes}
-use Rattle.delivery_laws.specs.target_units.specs.Absent.{absent_reply_by, data_or_refusal, inquiry_room, sense_room}
-use Rattle.delivery_laws.specs.target_units.specs.Rooms.{AreOfLines, IsOfLine}
-use Rattle.delivery_laws.specs.target_units.proofs.AbsentReplies.{replies}
-use Rattle.delivery_laws.specs.right_laws.proofs.WholeBlocks.{AreWhole, HasWhole}
-use Rattle.initiator.specs.Received.{data_room}
+use Rattle.trace_laws.specs.target_units.specs.Absent.{absent_reply_by, data_or_refusal, inquiry_room, sense_room}
+use Rattle.trace_laws.specs.target_units.specs.Rooms.{AreOfLines, IsOfLine}
+use Rattle.trace_laws.specs.target_units.proofs.AbsentReplies.{replies}
+use Rattle.right_laws.proofs.WholeBlocks.{AreWhole, HasWhole}
 
 -- What a command may give at the line of its unit.
 abbrev pub most_given : Result Command CdbFault → Option UnitDef → ℕ
@@ -153,19 +151,9 @@ given_few s a p lines whole = go (unit_of s p.target p.unit) (unit_state_at a.un
     go (Some u) None h w = absurd h
     go (Some u) (Some v) h w = execution_few (context_at a (nexus_of p) (Some v)) u p.cdb p.sent (record { count = h.0; size = h.1; whole = w })
 
--- ---- the room of its initiator
+-- ---- what it needs
 
-need_is : (s : ScenarioValue) (c : CmdDef) → has_target s c.target ≡ true → need_of s c ≡ moved_by (command_of c.cdb) (unit_of s c.target c.unit)
+-- By the line of its unit, where its target is one of the scenario.
+pub need_is : (s : ScenarioValue) (c : CmdDef) → has_target s c.target ≡ true → need_of s c ≡ moved_by (command_of c.cdb) (unit_of s c.target c.unit)
 unfolding need_of
 need_is s c t = λ i. if t i then moved_by (command_of c.cdb) (unit_of s c.target c.unit) else 0
-
--- A command of a scenario needs 65536 bytes at most.
-pub room_there : (s : ScenarioValue) (c : CmdDef) (n : ℕ) → has_target s c.target ≡ true → need_of s c ≤ 65536 → n ≤ most_given (command_of c.cdb) (unit_of s c.target c.unit) → n ≤ data_room s c
-room_there s c n there most few = go (is_write (command_of c.cdb)) (subst (λ (x : ℕ). n ≤ (if is_write (command_of c.cdb) then 0 else x)) (sym (need_is s c there)) few)
-  where
-    in_room : (need : ℕ) → need ≤ 65536 → n ≤ need → n ≤ min need (2 ^ 32 - 1)
-    in_room need k f = omega (arith, k, f)
-
-    go : (q : Bool) → n ≤ (if q then 0 else need_of s c) → n ≤ (if q then 0 else min (need_of s c) (2 ^ 32 - 1))
-    go true f = f
-    go false f = in_room (need_of s c) most f

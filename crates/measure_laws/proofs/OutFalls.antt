@@ -1,0 +1,33 @@
+-- The measure falls with each row that turns from MESSAGE IN or STATUS to MESSAGE OUT, as ATN is true.
+use Rattle.std.proofs.Common.{suc, ◌≡◌, ◌≤◌, ◌∙◌, Bool, true, false, not, ◌&&◌, List, ◌∷◌, Some, sym, ap, refl}
+use Rattle.bus_due.specs.bus_trace.specs.LineSet.{LineSet}
+use Rattle.bus_due.specs.bus_trace.specs.Phases.{changes_phase, is_data, is_message_out}
+use Rattle.bus_due.specs.bus_trace.specs.declared.Row.{Row}
+use Rattle.bus_due.specs.bus_trace.specs.declared.changes.Change.{Change}
+use Rattle.bus_due.specs.bus_trace.specs.declared.connection.Connection.{Connection}
+use Rattle.bus_due.specs.scenario.specs.Value.{ScenarioValue}
+use Rattle.bus_due.specs.bus_dialogue.specs.NextPhase.{phase_of}
+use Rattle.bus_due.specs.RunSteps.{run_state}
+use Rattle.bus_due.specs.Sights.{leaving}
+use Rattle.bus_due.proofs.Plains.{run_state_plain}
+use Rattle.measure_laws.specs.Future.{is_in_data}
+use Rattle.measure_laws.specs.Measure.{measure}
+use Rattle.measure_laws.proofs.OutTurns.{attended_pays}
+use Rattle.measure_laws.proofs.TurnFalls.{TurnRow, turn_falls}
+
+pub no_data : (l : LineSet) → is_message_out l ≡ true → is_data l ≡ false
+no_data l e = go l.msg l.cd l.io e
+  where
+    go : (m d i : Bool) → (m && d && not i) ≡ true → (not m && not d) ≡ false
+    go true d i z = refl
+    go false d i z = absurd cc
+
+-- To which phase it goes.
+pub turns_to : (s : ScenarioValue) (p : List Row) (row : Row) (n : Connection) (c : Change) → TurnRow s p row n c → (run_state s p).exchange.begun ≡ true → (leaving s (run_state s p) n.target).to ≡ Some (phase_of c.after)
+turns_to s p row n c h begun =
+    let b = (run_state_plain s p h.was.stood.standing.devices).begun in
+    h.lines.whereto (ap changes_phase h.lines_are ∙ h.turned) (sym b ∙ begun) ∙ ap (λ (x : Change). Some (phase_of x.after)) h.lines_are
+
+pub out_turn_falls : (s : ScenarioValue) (p : List Row) (row : Row) (n : Connection) (c : Change) → TurnRow s p row n c → (run_state s p).exchange.begun ≡ true → is_message_out c.after ≡ true → is_in_data (run_state s p) ≡ false → suc (measure s (row ∷ p)) ≤ measure s p
+out_turn_falls s p row n c h begun out from =
+    turn_falls s p row n c h from (no_data c.after out) (attended_pays s p row n c h.goes.row_is h.goes.phase h.turned begun out (turns_to s p row n c h begun))

@@ -1,0 +1,105 @@
+-- The phases that are to come stay with each row in a phase, whatever crosses with it.
+use Rattle.std.proofs.Common.{ℕ, ◌≡◌, ◌∙◌, Bool, true, false, List, ◌∷◌, refl, sym, ap, Option, Some, None}
+use Rattle.std.specs.Prelude.{◌+◌, ◌*◌, if◌then◌else◌, is_some}
+use Rattle.bus_due.specs.bus_trace.specs.LineSet.{LineSet}
+use Rattle.bus_due.specs.bus_trace.specs.Phases.{is_message_out}
+use Rattle.bus_due.specs.bus_trace.specs.Terms.{receiver_in}
+use Rattle.bus_due.specs.bus_trace.specs.declared.Row.{Row}
+use Rattle.bus_due.specs.bus_trace.specs.declared.connection.Connection.{Connection}
+use Rattle.bus_due.specs.msg_grammar.specs.declared.message.MsgOut.{MsgOut}
+use Rattle.bus_due.specs.scenario.specs.Value.{ScenarioValue}
+use Rattle.bus_due.specs.bus_dialogue.specs.declared.exchange.Cause.{Cause}
+use Rattle.bus_due.specs.bus_dialogue.specs.declared.exchange.Cause.TheVariants as causes
+use Rattle.bus_due.specs.bus_dialogue.specs.declared.exchange.Hearing.{Hearing}
+use Rattle.bus_due.specs.bus_dialogue.specs.declared.exchange.Phase.{Phase}
+use Rattle.bus_due.specs.bus_dialogue.specs.declared.exchange.Phase.TheVariants as phases
+use Rattle.bus_due.specs.bus_dialogue.specs.declared.exchange.Plan.{Plan}
+use Rattle.bus_due.specs.bus_dialogue.specs.declared.exchange.Said.{Said}
+use Rattle.bus_due.specs.bus_dialogue.specs.Exchange.{Exchange, nothing_heard, plan_after_message, said_with_if}
+use Rattle.bus_due.specs.bus_dialogue.specs.NextPhase.{phase_of}
+use Rattle.bus_due.specs.bus_dialogue.specs.Planning.{plan_with_byte}
+use Rattle.bus_due.specs.Defs.{host_of}
+use Rattle.bus_due.specs.RunState.{bus_of}
+use Rattle.bus_due.specs.RunSteps.{run_state}
+use Rattle.bus_due.specs.Sights.{hearing_of, leaving}
+use Rattle.bus_due.proofs.Plains.{run_state_plain}
+use Rattle.bus_due.proofs.Stills.{still_talk}
+use Rattle.progress_laws.specs.bus_books.specs.Rows.{crosses, reading_in, still}
+use Rattle.progress_laws.specs.bus_books.proofs.InConnection.{in_connection}
+use Rattle.progress_laws.specs.bus_laws.specs.Ends.{EndLines}
+use Rattle.progress_laws.specs.bus_laws.specs.Rows.{row_of_lines}
+use Rattle.progress_laws.specs.trace_laws.proofs.Kept.{row_in, turn}
+use Rattle.measure_laws.specs.Turns.{after_words, phases_in, phases_left}
+use Rattle.measure_laws.specs.Weights.{for_phase, for_reselection}
+use Rattle.measure_laws.proofs.Shifts.{Shifts}
+
+-- ---- what is heard and struck is no matter to them
+
+heard_words : (b : Bool) (p : Plan) (x : Said) (y : Bool) (c : Cause) → after_words b (record p { said = x; struck = y }) c ≡ after_words b p c
+heard_words b p x y causes.Selected = refl
+heard_words true p x y causes.InMessage = refl
+heard_words false p x y causes.InMessage = refl
+heard_words true p x y causes.InData = refl
+heard_words false p x y causes.InData = refl
+heard_words true p x y causes.InStatus = refl
+heard_words false p x y causes.InStatus = refl
+
+heard_phases : (b : Bool) (p : Plan) (x : Said) (y : Bool) (phase : Phase) → phases_in b (record p { said = x; struck = y }) phase ≡ phases_in b p phase
+heard_phases b p x y phases.MessageOut = heard_words b p x y p.cause
+heard_phases b p x y phases.MessageIn = refl
+heard_phases b p x y phases.Command = refl
+heard_phases b p x y phases.Status = refl
+heard_phases b p x y phases.DataIn = refl
+heard_phases b p x y phases.DataOut = refl
+
+byte_phases : (b : Bool) (p : Plan) (last : Bool) (m : Option MsgOut) (out : Bool) (phase : Phase) → phases_in b (if out then plan_after_message p last m else p) phase ≡ phases_in b p phase
+byte_phases b p true m true phase = heard_phases b p (said_with_if m nothing_heard) false phase
+byte_phases b p false m true phase = heard_phases b p (said_with_if m p.said) p.struck phase
+byte_phases b p last m false phase = refl
+
+-- ---- a row
+
+-- What is said and planned, by whether a byte crosses.
+pub shift_exchange : (s : ScenarioValue) (p : List Row) (t d : ℕ) (l : LineSet) (n : Connection) (e f : EndLines) (o : LineSet) (u : Bool) → Shifts s p t d l n e f o u → (r : Option ℕ) → receiver_in n (turn e f o l) ≡ r
+    → (run_state s (row_of_lines t d l ∷ p)).exchange ≡ still_talk false (is_some r) false (host_of s n.initiator) (hearing_of (run_state s p) (row_of_lines t d l) (reading_in (run_state s p).story.bus_state n (turn e f o l) (is_some r))) (leaving s (run_state s p) n.target) (run_state s p).exchange
+shift_exchange s p t d l n e f o u h None er =
+    (in_connection s (run_state s p) (row_of_lines t d l) n (turn e f o l) false false false (row_in s p t d l n e f o h.row (still refl h.phase er)) h.phase (ap (λ (x : Option ℕ). is_some x) er) refl).exchange_is
+shift_exchange s p t d l n e f o u h (Some dev) er =
+    (in_connection s (run_state s p) (row_of_lines t d l) n (turn e f o l) false true false (row_in s p t d l n e f o h.row (crosses dev refl h.phase er)) h.phase (ap (λ (x : Option ℕ). is_some x) er) refl).exchange_is
+
+talk_phases : (b : Bool) (w : Hearing) (x : Exchange) (now : Bool) (phase : Phase) → phases_in b (if now then plan_with_byte w x.plan else x.plan) phase ≡ phases_in b x.plan phase
+talk_phases b w x true phase = byte_phases b x.plan w.is_last w.out (is_message_out w.change.before) phase
+talk_phases b w x false phase = refl
+
+pub phases_stay : (s : ScenarioValue) (p : List Row) (t d : ℕ) (l : LineSet) (n : Connection) (e f : EndLines) (o : LineSet) (u : Bool) → Shifts s p t d l n e f o u → (b : Bool)
+    → phases_left b (run_state s (row_of_lines t d l ∷ p)) ≡ phases_left b (run_state s p)
+phases_stay s p t d l n e f o u h b =
+    let row : Row = row_of_lines t d l in
+    let k = run_state s p in
+    let j = run_state s (row ∷ p) in
+    let r = receiver_in n (turn e f o l) in
+    let w = hearing_of k row (reading_in k.story.bus_state n (turn e f o l) (is_some r)) in
+    let pk = run_state_plain s p h.row.devices in
+    let pj = run_state_plain s (row ∷ p) (h.row.below, h.row.devices) in
+    let exchange = shift_exchange s p t d l n e f o u h r refl in
+    let phase : phase_of (bus_of j) ≡ phase_of (bus_of k) = ap phase_of (pj.bus ∙ h.row.moves.linked.stands.bus_is) ∙ h.same_phase ∙ sym (ap phase_of (pk.bus ∙ h.row.was.stands.bus_is)) in
+    (λ i. if (exchange i).begun then phases_in b (exchange i).plan (phase i) else for_reselection + 8 * for_phase)
+    ∙ (λ i. if k.exchange.begun then talk_phases b w k.exchange (is_some r) (phase_of (bus_of k)) i else for_reselection + 8 * for_phase)
+
+-- So do the messages.
+byte_messages : (p : Plan) (last : Bool) (m : Option MsgOut) (out : Bool) → (if out then plan_after_message p last m else p).messages ≡ p.messages
+byte_messages p true m true = refl
+byte_messages p false m true = refl
+byte_messages p last m false = refl
+
+talk_messages : (w : Hearing) (x : Exchange) (now : Bool) → (if now then plan_with_byte w x.plan else x.plan).messages ≡ x.plan.messages
+talk_messages w x true = byte_messages x.plan w.is_last w.out (is_message_out w.change.before)
+talk_messages w x false = refl
+
+pub messages_stay : (s : ScenarioValue) (p : List Row) (t d : ℕ) (l : LineSet) (n : Connection) (e f : EndLines) (o : LineSet) (u : Bool) → Shifts s p t d l n e f o u
+    → (run_state s (row_of_lines t d l ∷ p)).exchange.plan.messages ≡ (run_state s p).exchange.plan.messages
+messages_stay s p t d l n e f o u h =
+    let k = run_state s p in
+    let r = receiver_in n (turn e f o l) in
+    ap (λ (x : Exchange). x.plan.messages) (shift_exchange s p t d l n e f o u h r refl)
+    ∙ talk_messages (hearing_of k (row_of_lines t d l) (reading_in k.story.bus_state n (turn e f o l) (is_some r))) k.exchange (is_some r)

@@ -1,0 +1,287 @@
+-- The measure falls with a row that turns to another phase, none of the two being of data: the phases after it are a phase less, and that pays
+-- for all that the new phase may ask for.
+use Rattle.std.proofs.Common.{inl, inr, ℕ, suc, ◌≡◌, ◌≤◌, ◌<◌, ◌+◌, ◌*◌, ◌⊎◌, ◌∙◌, Bool, true, false, not, ◌&&◌, ◌||◌, List, ◌∷◌, length, Option, Some, None, refl, sym, ap, subst, arith}
+use Rattle.std.specs.Prelude.{◌==◌, drop, if◌then◌else◌, is_some}
+use Rattle.bus_due.specs.bus_base.proofs.Tests.{wrong, wrong'}
+use Rattle.bus_due.specs.bus_base.specs.declared.ProcId.{ProcId}
+use Rattle.bus_due.specs.bus_trace.specs.LineSet.{LineSet}
+use Rattle.bus_due.specs.bus_trace.specs.Phases.{changes_phase, is_data, is_message_out}
+use Rattle.bus_due.specs.bus_trace.specs.Terms.{is_fault, receiver_in}
+use Rattle.bus_due.specs.bus_trace.specs.Trace.{bus}
+use Rattle.bus_due.specs.bus_trace.specs.declared.Row.{Row}
+use Rattle.bus_due.specs.bus_trace.specs.declared.changes.Change.{Change}
+use Rattle.bus_due.specs.bus_trace.specs.declared.connection.Connection.{Connection}
+use Rattle.bus_due.specs.bus_lines.specs.Handshakes.{Handshakes, no_handshakes, handshakes_after, answered_if, asked_if}
+use Rattle.bus_due.specs.scenario.specs.Value.{ScenarioValue}
+use Rattle.bus_due.specs.bus_story.specs.Items.{Item, abort, command_id, command_item, process}
+use Rattle.bus_due.specs.bus_dialogue.specs.declared.exchange.Leaving.{Leaving}
+use Rattle.bus_due.specs.bus_dialogue.specs.declared.exchange.Phase.{Phase}
+use Rattle.bus_due.specs.bus_dialogue.specs.declared.exchange.Phase.TheVariants as phases
+use Rattle.bus_due.specs.bus_dialogue.specs.declared.exchange.Plan.{Plan}
+use Rattle.bus_due.specs.bus_dialogue.specs.Exchange.{Speech, bytes_of_messages, plan_anew}
+use Rattle.bus_due.specs.bus_dialogue.specs.NextPhase.{phase_entry, phase_leaving, phase_of}
+use Rattle.bus_due.specs.bus_dialogue.specs.Planning.{plan_in_message_out}
+use Rattle.bus_due.specs.bus_reactions.specs.declared.ends.Answering.{Answering}
+use Rattle.bus_due.specs.bus_reactions.specs.declared.ends.Offering.{Offering}
+use Rattle.bus_due.specs.Defs.{target_def_of}
+use Rattle.bus_due.specs.LastingState.{ProcessProgress, progress_in, progress_with}
+use Rattle.bus_due.specs.RunState.{RunState, bus_of, drives_of, process_served}
+use Rattle.bus_due.specs.disk_array.specs.Processes.{Process}
+use Rattle.bus_due.specs.RunSteps.{leaving_of, progress_after, progress_by_leaving, run_state}
+use Rattle.bus_due.specs.Sights.{answering_of, hearing_of, leaving, offering_of, pace_of, serving_of}
+use Rattle.bus_due.specs.Tasks.{task_of}
+use Rattle.bus_due.proofs.Plains.{run_state_plain}
+use Rattle.progress_laws.specs.bus_books.specs.Knowing.{Knows}
+use Rattle.progress_laws.specs.bus_books.specs.Rows as rows
+use Rattle.progress_laws.specs.bus_books.specs.Rows.{RowKind, reading_in}
+use Rattle.progress_laws.specs.bus_books.specs.Traces.{GoesOn}
+use Rattle.progress_laws.specs.bus_books.proofs.InConnection.{InConnection, in_connection, reading_is}
+use Rattle.bus_due.specs.bus_dialogue.specs.Arrivals.{policy_of}
+use Rattle.bus_due.specs.bus_dialogue.specs.PhaseBytes.{run_length_if}
+use Rattle.progress_laws.specs.bus_books.specs.WrongParity.{is_refusing, is_struck_phase}
+use Rattle.progress_laws.specs.trace_laws.proofs.Crossings.{Goes}
+use Rattle.progress_laws.specs.trace_laws.proofs.RowItems.{over_after}
+use Rattle.progress_laws.specs.trace_laws.proofs.Whole.{Whole}
+use Rattle.measure_laws.specs.Future.{future_left, is_in_data, one_where, open_left, resets_left, serves_item}
+use Rattle.measure_laws.specs.Measure.{measure}
+use Rattle.measure_laws.specs.Turns.{bytes_if_begun, is_asked, phase_left, phases_in, phases_left, requests_by, requests_left, sense_bytes_left, struck_left, under_way, has_next_byte}
+use Rattle.measure_laws.specs.Weights.{for_byte, for_phase, for_reselection}
+use Rattle.measure_laws.proofs.BeginFalls.{calm_resets, few_under_way}
+use Rattle.progress_laws.specs.trace_laws.proofs.CountedRuns.{same_runs}
+use Rattle.progress_laws.specs.trace_laws.proofs.DoneRuns.{done_in_data}
+use Rattle.measure_laws.proofs.Futures.{future_falls, open_of}
+use Rattle.measure_laws.proofs.Lengths.{few_messages, few_words}
+use Rattle.measure_laws.proofs.Lowers.{lowers_same}
+use Rattle.measure_laws.proofs.StillRows.{shape}
+use Rattle.measure_laws.proofs.Table.{left_in, left_of, left_to}
+use Rattle.bus_due.specs.bus_trace.specs.Changes.{rises}
+
+-- A row of a connection that turns to another phase, RST being false before it.
+pub record TurnRow (s : ScenarioValue) (p : List Row) (row : Row) (n : Connection) (c : Change) : Type 0 where
+  pub was : Whole s p
+  pub goes : GoesOn s (run_state s p) row n c
+  pub lines : Goes s p row n
+  pub lines_are : lines.change ≡ c
+  pub turned : changes_phase c ≡ true
+  pub below : row.dev < 8
+  pub off : (bus p).rst ≡ false
+
+pub turn_kind : (row : Row) (n : Connection) (c : Change) → RowKind row n c → changes_phase c ≡ true → (is_fault row.kind ≡ false) × (receiver_in n c ≡ None)
+turn_kind row n c (rows.still f e r) t = wrong (sym t ∙ e)
+turn_kind row n c (rows.strikes f e r) t = wrong (sym t ∙ e)
+turn_kind row n c (rows.crosses d f e r) t = wrong (sym t ∙ e)
+turn_kind row n c (rows.turns f e r) t = (f, r)
+
+pub no_data_in : (l : LineSet) → is_data l ≡ false → phase_of l ≡ phases.DataIn → ⊥
+no_data_in l e f = go l.msg l.cd l.io e f
+  where
+    go : (m d i : Bool) → (not m && not d) ≡ false → (if m then (if i then phases.MessageIn else phases.MessageOut) else if d then (if i then phases.Status else phases.Command) else if i then phases.DataIn else phases.DataOut) ≡ phases.DataIn → ⊥
+    go true d true z f = absurd cc
+    go true d false z f = absurd cc
+    go false true true z f = absurd cc
+    go false true false z f = absurd cc
+    go false false i z f = wrong' (sym z)
+
+pub no_data_out : (l : LineSet) → is_data l ≡ false → phase_of l ≡ phases.DataOut → ⊥
+no_data_out l e f = go l.msg l.cd l.io e f
+  where
+    go : (m d i : Bool) → (not m && not d) ≡ false → (if m then (if i then phases.MessageIn else phases.MessageOut) else if d then (if i then phases.Status else phases.Command) else if i then phases.DataIn else phases.DataOut) ≡ phases.DataOut → ⊥
+    go true d true z f = absurd cc
+    go true d false z f = absurd cc
+    go false true true z f = absurd cc
+    go false true false z f = absurd cc
+    go false false i z f = wrong' (sym z)
+
+-- ---- what a phase may ask for as it begins
+
+at_most_one : (q : Bool) → one_where q ≤ 1
+at_most_one true = omega arith
+at_most_one false = omega arith
+
+pub fresh_way : (pulsed : Bool) (b : LineSet) (h : Handshakes) (t i : LineSet) (g : Offering) (a : Answering) → h ≡ no_handshakes → under_way pulsed b h t i g a ≤ 10
+fresh_way false b h t i g a e = few_under_way false b h t i g a refl
+fresh_way true b h t i g a e = subst (λ (x : Handshakes). under_way true b x t i g a ≤ 10) (sym e)
+    (let w2 = at_most_one t.req in
+    let w3 = at_most_one i.ack in
+    let w4 = at_most_one (not (i.data_bits == 0)) in
+    let w5 = at_most_one i.bsy in
+    let w6 = at_most_one (true && b.io && t.data_bits == 0) in
+    let w7 = at_most_one (has_next_byte true b no_handshakes t g) in
+    omega arith)
+
+few_requests : (struck asked : Bool) (h : Handshakes) (p : Speech) (bytes run : ℕ) (phase : Phase) → h ≡ no_handshakes → length p.words ≤ 8 → bytes ≤ 5 → (phase ≡ phases.DataIn → ⊥) → (phase ≡ phases.DataOut → ⊥) → requests_by struck asked h p bytes run phase ≤ 12
+few_requests struck asked h p bytes run phases.MessageOut e w b fi fo = subst (λ (x : Handshakes). requests_by struck asked x p bytes run phases.MessageOut ≤ 12) (sym e) (omega arith)
+few_requests struck asked h p bytes run phases.MessageIn e w b fi fo = omega arith
+few_requests struck asked h p bytes run phases.Command e w b fi fo = omega arith
+few_requests struck asked h p bytes run phases.Status e w b fi fo = omega arith
+few_requests struck asked h p bytes run phases.DataIn e w b fi fo = absurd (fi refl)
+few_requests struck asked h p bytes run phases.DataOut e w b fi fo = absurd (fo refl)
+
+begun_sum : (b : Bool) (r u : ℕ) → r ≤ 12 → u ≤ 10 → bytes_if_begun b r + u ≤ 106
+begun_sum true r u h g = omega arith
+begun_sum false r u h g = omega arith
+
+-- ---- what the row makes of what is kept
+
+pub turn_in : (s : ScenarioValue) (p : List Row) (row : Row) (n : Connection) (c : Change) → TurnRow s p row n c → InConnection s (run_state s p) row n c true false false
+turn_in s p row n c h =
+    let w = turn_kind row n c h.goes.row_is.kind h.turned in
+    in_connection s (run_state s p) row n c true false false h.goes.row_is h.turned (ap (λ (x : Option ℕ). is_some x) w.1) w.0
+
+pub turn_handshakes : (s : ScenarioValue) (p : List Row) (row : Row) (n : Connection) (c : Change) → TurnRow s p row n c → (run_state s (row ∷ p)).handshakes ≡ no_handshakes
+turn_handshakes s p row n c h =
+    let k = run_state s p in
+    let w = turn_kind row n c h.goes.row_is.kind h.turned in
+    (turn_in s p row n c h).handshakes_is
+    ∙ (λ i. handshakes_after (w.0 i) (Some n) c row.time k.handshakes)
+    ∙ (λ i. if h.turned i then no_handshakes else answered_if (rises c.before.ack c.after.ack) row.time (asked_if (rises c.before.req c.after.req) row.time k.handshakes))
+
+-- What is left of the new phase.
+pub turn_phase : (s : ScenarioValue) (p : List Row) (row : Row) (n : Connection) (c : Change) → TurnRow s p row n c → is_data c.after ≡ false → phase_left s (run_state s (row ∷ p)) n ≤ 106
+turn_phase s p row n c h e =
+    let j = run_state s (row ∷ p) in
+    let on = (turn_in s p row n c h).bus_is in
+    let here : is_data (bus_of j) ≡ false = ap is_data on ∙ e in
+    let none = turn_handshakes s p row n c h in
+    begun_sum j.exchange.begun (requests_left s j n.target)
+    (under_way (pace_of s j n.target).pulsed (bus_of j) j.handshakes (drives_of j n.target) (drives_of j n.initiator) (offering_of s j n.target) (answering_of s j n.initiator))
+    (few_requests j.exchange.plan.struck (is_asked (bus_of j)) j.handshakes j.exchange.speech (length (bytes_of_messages j.exchange.plan.messages)) (run_length_if (policy_of (target_def_of s n.target)) (task_of s j)) (phase_of (bus_of j)) none (few_words s (row ∷ p)) (few_messages s (row ∷ p)) (no_data_in (bus_of j) here) (no_data_out (bus_of j) here))
+    (fresh_way (pace_of s j n.target).pulsed (bus_of j) j.handshakes (drives_of j n.target) (drives_of j n.initiator) (offering_of s j n.target) (answering_of s j n.initiator) none)
+
+entered : (r : Bool) (p : Plan) (l : Leaving) (phase : Phase) → (phase ≡ phases.MessageOut → ⊥) → phases_in r (record (plan_anew p) { messages = l.messages; next = l.next }) phase ≡ left_in l phase
+entered r p l phases.MessageOut z = absurd (z refl)
+entered r p l phases.MessageIn z = refl
+entered r p l phases.Command z = refl
+entered r p l phases.Status z = refl
+entered r p l phases.DataIn z = refl
+entered r p l phases.DataOut z = refl
+
+not_out : (l : LineSet) → is_message_out l ≡ false → (l.msg ≡ true → l.cd ≡ true) → phase_of l ≡ phases.MessageOut → ⊥
+not_out l e known f = go l.msg refl l.cd refl l.io refl
+  where
+    go : (m : Bool) → l.msg ≡ m → (d : Bool) → l.cd ≡ d → (i : Bool) → l.io ≡ i → ⊥
+    go true x true y true z = let w = sym f ∙ (λ t. if x t then (if z t then phases.MessageIn else phases.MessageOut) else if y t then (if z t then phases.Status else phases.Command) else if z t then phases.DataIn else phases.DataOut) in absurd cc
+    go true x true y false z = wrong (sym (λ t. x t && y t && not (z t)) ∙ e)
+    go true x false y i z = wrong (sym (known x) ∙ y)
+    go false x true y true z = let w = sym f ∙ (λ t. if x t then (if z t then phases.MessageIn else phases.MessageOut) else if y t then (if z t then phases.Status else phases.Command) else if z t then phases.DataIn else phases.DataOut) in absurd cc
+    go false x true y false z = let w = sym f ∙ (λ t. if x t then (if z t then phases.MessageIn else phases.MessageOut) else if y t then (if z t then phases.Status else phases.Command) else if z t then phases.DataIn else phases.DataOut) in absurd cc
+    go false x false y true z = let w = sym f ∙ (λ t. if x t then (if z t then phases.MessageIn else phases.MessageOut) else if y t then (if z t then phases.Status else phases.Command) else if z t then phases.DataIn else phases.DataOut) in absurd cc
+    go false x false y false z = let w = sym f ∙ (λ t. if x t then (if z t then phases.MessageIn else phases.MessageOut) else if y t then (if z t then phases.Status else phases.Command) else if z t then phases.DataIn else phases.DataOut) in absurd cc
+
+-- What is left after it, where it is not MESSAGE OUT: by how the phase before it is left.
+pub turn_phases : (s : ScenarioValue) (p : List Row) (row : Row) (n : Connection) (c : Change) → (h : TurnRow s p row n c) → (run_state s p).exchange.begun ≡ true → is_message_out c.after ≡ false → (c.after.msg ≡ true → c.after.cd ≡ true) → (r : Bool)
+    → phases_left r (run_state s (row ∷ p)) ≡ left_of (leaving s (run_state s p) n.target)
+turn_phases s p row n c h begun other known r =
+    let k = run_state s p in
+    let t = turn_in s p row n c h in
+    let l = leaving s k n.target in
+    let w = hearing_of k row (reading_in k.story.bus_state n c false) in
+    let b = (run_state_plain s p h.was.stood.standing.devices).begun in
+    let to : l.to ≡ Some (phase_of c.after) = h.lines.whereto (ap changes_phase h.lines_are ∙ h.turned) (sym b ∙ begun) ∙ ap (λ (x : Change). Some (phase_of x.after)) h.lines_are in
+    (λ i. if (t.exchange_is i).begun then phases_in r (t.exchange_is i).plan (phase_of (t.bus_is i)) else for_reselection + 8 * for_phase)
+    ∙ ap (λ (q : Bool). phases_in r (if not q then record (plan_anew k.exchange.plan) { messages = l.messages; next = l.next } else if k.exchange.begun then plan_in_message_out w k.exchange.plan else plan_anew k.exchange.plan) (phase_of c.after)) other
+    ∙ entered r k.exchange.plan l (phase_of c.after) (not_out c.after other known)
+    ∙ sym (ap (left_to l) to)
+
+-- ---- the runs that are counted
+
+pub not_done : (s : ScenarioValue) (k : RunState) (n : Connection) → is_in_data k ≡ false → k.exchange.begun ≡ true → (leaving s k n.target).done ≡ false
+not_done s k n still_here b = go (leaving s k n.target).done refl
+  where
+    from : is_data (bus_of k) ≡ false
+    from = sym (λ i. b i && is_data (bus_of k)) ∙ still_here
+
+    left : leaving s k n.target ≡ phase_leaving (serving_of s k n.target) (bus_of k).atn (phase_of (bus_of k))
+    left = λ i. if b i then phase_leaving (serving_of s k n.target) (bus_of k).atn (phase_of (bus_of k)) else phase_entry phases.MessageOut
+
+    never : (phase_of (bus_of k) ≡ phases.DataIn) ⊎ (phase_of (bus_of k) ≡ phases.DataOut) → ⊥
+    never (inl e) = no_data_in (bus_of k) from e
+    never (inr e) = no_data_out (bus_of k) from e
+
+    go : (q : Bool) → (leaving s k n.target).done ≡ q → (leaving s k n.target).done ≡ false
+    go false e = e
+    go true e = absurd (never (done_in_data (serving_of s k n.target) (bus_of k).atn (phase_of (bus_of k)) (sym (ap (λ (l : Leaving). l.done) left) ∙ e)))
+
+pub turn_progress : (s : ScenarioValue) (p : List Row) (row : Row) (n : Connection) (c : Change) → TurnRow s p row n c → (run_state s (row ∷ p)).progress ≡ (if (run_state s p).exchange.begun then progress_by_leaving (run_state s p) (process_served s (run_state s p)) (leaving s (run_state s p) n.target) else (run_state s p).progress)
+turn_progress s p row n c h =
+    let k = run_state s p in
+    let g = h.goes in
+    let r = reading_is k row n c false g.row_is (ap (λ (x : Option ℕ). is_some x) (turn_kind row n c g.row_is.kind h.turned).1) in
+    (λ i. progress_after s k (r i) (g.row_is.connection_is i) (r i).next (leaving_of s k (g.row_is.connection_is i)))
+    ∙ (λ i. if h.turned i && k.exchange.begun then progress_by_leaving k (process_served s k) (leaving s k n.target) else k.progress)
+
+pub turn_runs : (s : ScenarioValue) (p : List Row) (row : Row) (n : Connection) (c : Change) → TurnRow s p row n c → is_in_data (run_state s p) ≡ false → (id : ProcId) → (progress_in (run_state s (row ∷ p)).progress id).runs ≡ (progress_in (run_state s p).progress id).runs
+turn_runs s p row n c h from id = ap (λ (m : List ProcessProgress). (progress_in m id).runs) (turn_progress s p row n c h) ∙ go (run_state s p).exchange.begun refl (process_served s (run_state s p))
+  where
+    k : RunState
+    k = run_state s p
+
+    l : Leaving
+    l = leaving s k n.target
+
+    go : (b : Bool) → k.exchange.begun ≡ b → (o : Option Process) → (progress_in (if b then progress_by_leaving k o l else k.progress) id).runs ≡ (progress_in k.progress id).runs
+    go false e o = refl
+    go true e None = refl
+    go true e (Some q) = (λ i. (progress_in (progress_with k.progress q.id (not_done s k n from e i) l.counts) id).runs) ∙ same_runs k.progress q.id l.counts id
+
+-- ---- the measure
+
+sense_kept : (a b : Bool) (x y : List ProcessProgress) (o : Option Item) → a ≡ b → ((id : ProcId) → (progress_in x id).runs ≡ (progress_in y id).runs) → sense_bytes_left a x o ≡ sense_bytes_left b y o
+sense_kept a b x y None e f = refl
+sense_kept a b x y (Some (abort n)) e f = refl
+sense_kept a b x y (Some (process id)) e f = λ i. if id.sense && not (e i) && f id i == 0 then for_byte * 18 else 0
+
+pub turn_struck : (s : ScenarioValue) (p : List Row) (row : Row) (n : Connection) (c : Change) → TurnRow s p row n c → is_struck_phase s (row ∷ p) ≡ false
+turn_struck s p row n c h =
+    let k = run_state s p in
+    let g = h.goes in
+    let r = reading_is k row n c false g.row_is (ap (λ (x : Option ℕ). is_some x) (turn_kind row n c g.row_is.kind h.turned).1) in
+    (λ i. is_some (g.row_is.connection_is i) && is_some (r i).next && not (changes_phase (r i).change) && (is_fault row.kind || is_struck_phase s p)) ∙ (λ i. true && true && not (h.turned i) && (is_fault row.kind || is_struck_phase s p))
+
+zero_more : (a b : ℕ) → a + 64 * 0 ≤ b → a ≤ b
+zero_more a b h = omega arith
+
+turn_sum : (f g a b x w y z u m v : ℕ) → v ≡ f + 40 + (a + x + y + 0) → m ≡ g + 40 + (b + w + z + u) → f ≤ g → a + 128 ≤ b + u → x ≤ 106 → y ≡ z → suc v ≤ m
+turn_sum f g a b x w y z u m v d e h i j k = omega arith
+
+pub turn_falls : (s : ScenarioValue) (p : List Row) (row : Row) (n : Connection) (c : Change) → TurnRow s p row n c → is_in_data (run_state s p) ≡ false → is_data c.after ≡ false
+    → phases_left (is_refusing s (row ∷ p)) (run_state s (row ∷ p)) + 128 ≤ phases_left (is_refusing s p) (run_state s p) + struck_left s (is_struck_phase s p)
+    → suc (measure s (row ∷ p)) ≤ measure s p
+turn_falls s p row n c h from to pays =
+    let k = run_state s p in
+    let q : List Row = row ∷ p in
+    let j = run_state s q in
+    let dv = h.was.stood.standing.devices in
+    let t = turn_in s p row n c h in
+    let g = h.goes in
+    let lines = (turn_kind row n c g.row_is.kind h.turned).0 in
+    let knows : Knows s k n = h.was.stood.books.knows n g.row_is.connection_is g.calm in
+    let sent = (over_after s k row n c false knows.link g.row_is (ap (λ (x : Option ℕ). is_some x) (turn_kind row n c g.row_is.kind h.turned).1) knows.link_is).same (inl h.turned) in
+    let still_after : is_in_data j ≡ false = ap (λ (x : Bool). j.exchange.begun && x) (ap is_data t.bus_is ∙ to) ∙ and_no j.exchange.begun in
+    let moves = still_after ∙ sym from in
+    let runs : (id : ProcId) → (progress_in j.progress id).runs ≡ (progress_in k.progress id).runs = turn_runs s p row n c h from in
+    let pl = run_state_plain s q (h.below, dv) in
+    let off_next : (bus q).rst ≡ false = ap (λ (l : LineSet). l.rst) (sym pl.bus ∙ t.bus_is) ∙ g.row_is.calm in
+    let future = zero_more (future_left s j) (future_left s k) (future_falls s j k 0 (record {
+      sent = lowers_same k.story.sent j.story.sent sent;
+      «open» = λ m d at o. same_less (open_of s j m d) (open_of s k m d) (λ i. open_left s (serves_item (t.served_is i) (command_item m)) (moves i) (runs (command_id m) i) d);
+      resets = same_less (resets_left j s.resets + 0) (resets_left k s.resets) (plus_none (resets_left j s.resets) ∙ calm_resets s p row dv h.below lines h.off off_next);
+      faults = ap (λ (b : Bool). if b then drop 1 k.faults else k.faults) lines;
+    })) in
+    let struck = turn_struck s p row n c h in
+    let before = shape s k (is_struck_phase s p) (is_refusing s p) n g.calm g.row_is.connection_is in
+    let after = shape s j (is_struck_phase s q) (is_refusing s q) n (ap (λ (l : LineSet). l.rst) t.bus_is ∙ g.row_is.calm) t.connection_is
+    ∙ ap (λ (x : Bool). future_left s j + 40 + (phases_left (is_refusing s q) j + phase_left s j n + sense_bytes_left (is_in_data j) j.progress j.served + struck_left s x)) struck in
+    let senses = sense_kept (is_in_data j) (is_in_data k) j.progress k.progress j.served moves runs ∙ ap (λ (o : Option Item). sense_bytes_left (is_in_data k) k.progress o) t.served_is in
+    turn_sum (future_left s j) (future_left s k) (phases_left (is_refusing s q) j) (phases_left (is_refusing s p) k) (phase_left s j n) (phase_left s k n) (sense_bytes_left (is_in_data j) j.progress j.served) (sense_bytes_left (is_in_data k) k.progress k.served) (struck_left s (is_struck_phase s p)) (measure s p) (measure s q)
+    after before future pays (turn_phase s p row n c h to) senses
+  where
+    and_no : (b : Bool) → (b && false) ≡ false
+    and_no true = refl
+    and_no false = refl
+
+    same_less : (a b : ℕ) → a ≡ b → a ≤ b
+    same_less a b e = omega arith
+
+    plus_none : (a : ℕ) → a + 0 ≡ a
+    plus_none a = omega arith
