@@ -23,7 +23,6 @@ use Rattle.bus_due.specs.bus_trace.specs.Trace.{bus, drives}
 use Rattle.bus_due.specs.bus_trace.proofs.Buses.{bus_on}
 use Rattle.bus_due.specs.bus_trace.proofs.OneRow.{drives-other}
 use Rattle.bus_due.specs.bus_rules.specs.Reset.{only_rst}
-use Rattle.bus_due.specs.bus_rules.specs.Rules.{broken_rule}
 use Rattle.bus_due.specs.bus_rules.proofs.First.{row_none}
 use Rattle.bus_due.specs.scenario.specs.declared.value.CmdDef.{CmdDef}
 use Rattle.bus_due.specs.scenario.specs.Lookups.{has_target}
