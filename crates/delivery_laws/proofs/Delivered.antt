@@ -16,7 +16,8 @@ use Rattle.bus_due.specs.scenario.specs.declared.value.TargetDef.{TargetDef}
 use Rattle.bus_due.specs.scenario.specs.Lookups.{has_target}
 use Rattle.bus_due.specs.scenario.specs.Value.{ScenarioValue}
 use Rattle.bus_due.specs.scenario.specs.Writing.{Obeys}
-use Rattle.bus_due.specs.disk_array.specs.ArrayHistory.{array_after}
+use Rattle.bus_due.specs.disk_array.specs.ArrayHistory.{array_after, reply_in}
+use Rattle.bus_due.specs.disk_array.specs.Execution.{Reply}
 use Rattle.bus_due.specs.disk_array.specs.Processes.{Process, command_at, process_by, process_if, process_of, same_id}
 use Rattle.bus_due.specs.disk_array.specs.Units.{Array}
 use Rattle.bus_due.specs.bus_story.specs.Items.{command_id, command_item}
@@ -41,10 +42,8 @@ use Rattle.progress_laws.specs.trace_laws.proofs.Whole.{Whole, whole}
 use Rattle.right_laws.proofs.Right.{all_joined}
 use Rattle.initiator.specs.Causes.{has_status, has_loss, has_bus_reset, has_command_abort, is_bus_reset, is_command_abort, is_loss_of}
 use Rattle.delivery_laws.specs.Delivery.{calling_faults, command_faults, fault_limit, is_calm_event, is_given_up_by, limit_with}
-use Rattle.delivery_laws.proofs.CalmTraces.{calm_history}
-use Rattle.delivery_laws.proofs.Callings.{AreTried, unanswered_struck}
+use Rattle.delivery_laws.proofs.Callings.{AreTried}
 use Rattle.delivery_laws.proofs.EndStatuses.{HasReply, all_ended, end_found, end_reply}
-use Rattle.delivery_laws.proofs.ValidReplies.{valid_replies}
 use Rattle.delivery_laws.proofs.ResetDevices.{any_found}
 
 -- ---- events
@@ -173,6 +172,25 @@ pub some_outcome : (s : ScenarioValue) (b : Story) (n : ℕ) (c : CmdDef) → li
 some_outcome s b zero c e at = absurd (no_command s.commands c at)
 some_outcome s b (suc m) c e at = subst (λ (y : ℕ). is_some (outcome_of s b y) ≡ true) (one_more m) (some_from s b 1 s.commands m c e at)
 
+-- ---- what is known of histories without resets and aborts, and of commands that end unanswered
+
+abbrev pub RunsGood : Type 0
+RunsGood =
+    (s : ScenarioValue) (h : List Event) (a : Array) (n : ℕ) (c : CmdDef) (reply : Reply) → Obeys s → array_after s h ≡ Some a → list_all (λ (e : Event). is_calm_event e) h ≡ true → command_at s.commands n ≡ Some c → is_valid s c ≡ true → reply_in a.replies (command_id n) ≡ Some reply
+    → (reply.status ≡ GOOD) ⊎ (list_any (λ (e : Event). is_given_up_by (command_id n) e) h ≡ true)
+
+abbrev pub IsCalm : Type 0
+IsCalm = (s : ScenarioValue) (rows : List Row) → Obeys s → s.resets ≡ [] → s.aborts ≡ [] → IsPrompt s rows → list_all (λ (e : Event). is_calm_event e) (run_state s rows).story.history ≡ true
+
+abbrev pub AreStruckOut : Type 0
+AreStruckOut =
+    (s : ScenarioValue) (rows : List Row) (n : ℕ) (c : CmdDef) → Obeys s → IsPrompt s rows → command_at s.commands n ≡ Some c → has_target s c.target ≡ true → ending_of (run_state s rows).story.ended n ≡ Some unanswered → nat_lt (retries_of s.hosts c.host) (calling_faults s rows (command_item n)) ≡ true
+
+pub record CalmLaws : Type 0 where
+  pub good : RunsGood
+  pub calm : IsCalm
+  pub struck : AreStruckOut
+
 -- ---- a valid command
 
 record Bears (s : ScenarioValue) (p : List Row) (n : ℕ) (c : CmdDef) : Type 0 where
@@ -208,8 +226,8 @@ not_more s p n c h e =
     not_above (fault_rows s p (command_id n)) (calling_faults s p (command_item n)) (retries_of s.hosts c.host) (fault_limit s c) (recovery_limit (target_def_of s c.target)) (recovery_limit (target_def_of s c.target)) h.bears
     b.own b.other e refl
 
-good_status : (s : ScenarioValue) (p : List Row) (n : ℕ) (c : CmdDef) (status : ℕ) → IsLimited → Bears s p n c → has_status (run_state s p).story.history (command_id n) status ≡ true → status ≡ GOOD
-good_status s p n c status limited h e = by (valid_replies s k.story.history (array_of s k) h.obeys calm plays n c r.reply h.at h.valid r.reply_is)
+good_status : (s : ScenarioValue) (p : List Row) (n : ℕ) (c : CmdDef) (status : ℕ) → CalmLaws → IsLimited → Bears s p n c → has_status (run_state s p).story.history (command_id n) status ≡ true → status ≡ GOOD
+good_status s p n c status laws limited h e = by (laws.good s k.story.history (array_of s k) n c r.reply h.obeys plays calm h.at h.valid r.reply_is)
   where
     k : RunState
     k = run_state s p
@@ -218,7 +236,7 @@ good_status s p n c status limited h e = by (valid_replies s k.story.history (ar
     w = whole s p h.obeys h.prompt
 
     calm : list_all (λ (x : Event). is_calm_event x) k.story.history ≡ true
-    calm = calm_history s p h.obeys h.resets h.aborts h.prompt
+    calm = laws.calm s p h.obeys h.resets h.aborts h.prompt
 
     plays : array_after s k.story.history ≡ Some (array_of s k)
     plays = (λ i. array_after s ((prompt_plain s p h.prompt).story i).history) ∙ sym (prompt_plain s p h.prompt).array ∙ w.places.array_is ∙ ap (λ (a : Array). Some a) (sym (ap (or_start s) w.places.array_is))
@@ -234,26 +252,26 @@ good_status s p n c status limited h e = by (valid_replies s k.story.history (ar
     by (inl z) = r.status_is ∙ z
     by (inr z) = given_up (how_given_up k.story.history (command_id n) z)
 
-good_ending : (s : ScenarioValue) (p : List Row) (n : ℕ) (c : CmdDef) → HaveCauses → IsLimited → IsLostAbove → Bears s p n c → (o : Option Ending) → ending_of (run_state s p).story.ended n ≡ o → is_some (outcome_if s (run_state s p).story.history n o) ≡ true
+good_ending : (s : ScenarioValue) (p : List Row) (n : ℕ) (c : CmdDef) → CalmLaws → HaveCauses → IsLimited → IsLostAbove → Bears s p n c → (o : Option Ending) → ending_of (run_state s p).story.ended n ≡ o → is_some (outcome_if s (run_state s p).story.history n o) ≡ true
     → is_good (outcome_if s (run_state s p).story.history n o) ≡ true
-good_ending s p n c causes limited lost h None e some = wrong' some
-good_ending s p n c causes limited lost h (Some (by_status status)) e some =
-    subst (λ (x : ℕ). is_good (Some (outcome_by_status s (run_state s p).story.history n x)) ≡ true) (sym (good_status s p n c status limited h (causes.status s p n status e))) refl
-good_ending s p n c causes limited lost h (Some by_loss) e some =
+good_ending s p n c laws causes limited lost h None e some = wrong' some
+good_ending s p n c laws causes limited lost h (Some (by_status status)) e some =
+    subst (λ (x : ℕ). is_good (Some (outcome_by_status s (run_state s p).story.history n x)) ≡ true) (sym (good_status s p n c status laws limited h (causes.status s p n status e))) refl
+good_ending s p n c laws causes limited lost h (Some by_loss) e some =
     not_more s p n c h (lost s p (process_by s (command_id n) c) h.obeys h.prompt (ap (process_if s (command_id n)) h.at) (any_to (is_loss_of (command_id n)) (λ x. same_event x (events.Lost (command_id n))) (loss_is_event (command_id n)) (run_state s p).story.history (causes.loss s p n e)))
-good_ending s p n c causes limited lost h (Some by_reset) e some =
-    none_calm is_bus_reset reset_uncalm (run_state s p).story.history (calm_history s p h.obeys h.resets h.aborts h.prompt) (causes.reset s p n e)
-good_ending s p n c causes limited lost h (Some by_abort) e some =
-    none_calm (is_command_abort c) (abort_uncalm c) (run_state s p).story.history (calm_history s p h.obeys h.resets h.aborts h.prompt) (causes.abort s p n c h.at e)
-good_ending s p n c causes limited lost h (Some unanswered) e some =
+good_ending s p n c laws causes limited lost h (Some by_reset) e some =
+    none_calm is_bus_reset reset_uncalm (run_state s p).story.history (laws.calm s p h.obeys h.resets h.aborts h.prompt) (causes.reset s p n e)
+good_ending s p n c laws causes limited lost h (Some by_abort) e some =
+    none_calm (is_command_abort c) (abort_uncalm c) (run_state s p).story.history (laws.calm s p h.obeys h.resets h.aborts h.prompt) (causes.abort s p n c h.at e)
+good_ending s p n c laws causes limited lost h (Some unanswered) e some =
     let b : Borne s c = borne s c h.there in
     not_unheard (fault_rows s p (command_id n)) (calling_faults s p (command_item n)) (retries_of s.hosts c.host) (fault_limit s c) (recovery_limit (target_def_of s c.target)) h.bears b.own b.other
-    (unanswered_struck s p n c causes.tried h.obeys h.prompt h.at h.there e)
+    (laws.struck s p n c h.obeys h.prompt h.at h.there e)
 
-pub delivered : (s : ScenarioValue) (p : List Row) (n : ℕ) (c : CmdDef) → HaveCauses → IsLimited → IsLostAbove → AreOutcomes → Obeys s → s.resets ≡ [] → s.aborts ≡ [] → IsPrompt s p → IsEnded s p → command_at s.commands n ≡ Some c → is_valid s c ≡ true
+pub delivered : (s : ScenarioValue) (p : List Row) (n : ℕ) (c : CmdDef) → CalmLaws → HaveCauses → IsLimited → IsLostAbove → AreOutcomes → Obeys s → s.resets ≡ [] → s.aborts ≡ [] → IsPrompt s p → IsEnded s p → command_at s.commands n ≡ Some c → is_valid s c ≡ true
     → nat_le (command_faults s p n) (fault_limit s c) ≡ true → has_event (run_state s p).story.history (events.Refuse (command_id n)) ≡ false → is_good (outcome_of s (story s p) n) ≡ true
-delivered s p n c causes limited lost all o resets aborts prompt end at valid bears unrefused =
-    subst (λ (b : Story). is_good (outcome_of s b n) ≡ true) pl.story (good_ending s p n c causes limited lost h (ending_of (run_state s p).story.ended n) refl some)
+delivered s p n c laws causes limited lost all o resets aborts prompt end at valid bears unrefused =
+    subst (λ (b : Story). is_good (outcome_of s b n) ≡ true) pl.story (good_ending s p n c laws causes limited lost h (ending_of (run_state s p).story.ended n) refl some)
   where
     pl : IsPlain s p (run_state s p)
     pl = prompt_plain s p prompt

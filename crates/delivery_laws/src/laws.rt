@@ -77,6 +77,9 @@ pub fn unrefused_commands_are_delivered()
         → has_event (run_state s rows).story.history (events.Refuse (command_id n)) ≡ false
         → is_good (outcome_of s (story s rows) n) ≡ true }
 {
+    valid_commands_run_good();
+    calm_scenarios_have_calm_histories();
+    unanswered_commands_were_struck();
     endings_have_causes();
     limits_are_kept();
     ended_traces_have_outcomes();

@@ -1,4 +1,4 @@
-use Rattle.delivery_laws.proofs.Delivered.{HaveCauses, delivered}
+use Rattle.delivery_laws.proofs.Delivered.{CalmLaws, HaveCauses, delivered}
 use Rattle.delivery_laws.proofs.laws.unrefused_commands_are_delivered.Goals as goal
 
 pub returns : goal.returns
@@ -10,4 +10,9 @@ returns c = λ s rows n k o resets aborts prompt end at valid bears unrefused.
       abort = c.endings_have_causes.ensures.abort;
       tried = c.endings_have_causes.ensures.unanswered;
     } in
-    delivered s rows n k causes c.limits_are_kept.ensures.failures c.limits_are_kept.ensures.losses c.ended_traces_have_outcomes.ensures.answered o resets aborts prompt end at valid bears unrefused
+    let laws : CalmLaws = record {
+      good = c.valid_commands_run_good.ensures;
+      calm = c.calm_scenarios_have_calm_histories.ensures;
+      struck = c.unanswered_commands_were_struck.ensures;
+    } in
+    delivered s rows n k laws causes c.limits_are_kept.ensures.failures c.limits_are_kept.ensures.losses c.ended_traces_have_outcomes.ensures.answered o resets aborts prompt end at valid bears unrefused
