@@ -8,3 +8,4 @@ pub mod RunRows
 pub mod RunBytes
 mod Turns
 mod TurnCases
+pub mod ComplaintRows

@@ -7,7 +7,7 @@ use Rattle.bus_due.specs.bus_base.specs.declared.Event.TheVariants as events
 use Rattle.bus_due.specs.bus_base.specs.declared.ProcId.{ProcId}
 use Rattle.bus_due.specs.bus_trace.specs.Changes.{change_of, rises}
 use Rattle.bus_due.specs.bus_trace.specs.LineSet.{LineSet}
-use Rattle.bus_due.specs.bus_trace.specs.Phases.{changes_phase, is_message_out}
+use Rattle.bus_due.specs.bus_trace.specs.Phases.{changes_phase, is_message_in, is_message_out}
 use Rattle.bus_due.specs.bus_trace.specs.Terms.{connection, connection_after, is_fault, receiver_in}
 use Rattle.bus_due.specs.bus_trace.specs.Trace.{bus}
 use Rattle.bus_due.specs.bus_trace.specs.declared.Row.{Row}
@@ -21,9 +21,13 @@ use Rattle.bus_due.specs.bus_dialogue.specs.declared.exchange.Leaving.{Leaving}
 use Rattle.bus_due.specs.bus_dialogue.specs.declared.exchange.Phase.{Phase}
 use Rattle.bus_due.specs.bus_dialogue.specs.declared.exchange.Phase.TheVariants as phases
 use Rattle.bus_due.specs.bus_dialogue.specs.declared.exchange.Plan.{Plan}
-use Rattle.bus_due.specs.bus_dialogue.specs.Exchange.{Exchange, plan_anew}
+use Rattle.bus_due.specs.bus_dialogue.specs.Exchange.{Exchange, plan_anew, speech_of}
 use Rattle.bus_due.specs.bus_dialogue.specs.NextPhase.{Serving, leaving_by, phase_leaving, phase_of}
-use Rattle.bus_due.specs.bus_dialogue.specs.Planning.{plan_in_message_out, plan_in_phase}
+use Rattle.bus_due.specs.bus_dialogue.specs.Planning.{cause_after, plan_in_message_out, plan_in_phase}
+use Rattle.bus_due.specs.bus_trace.specs.declared.agreements.Agreement.{Agreement}
+use Rattle.bus_due.specs.scenario.specs.declared.value.HostDef.{HostDef}
+use Rattle.bus_due.specs.bus_dialogue.specs.Speaking.{words_after}
+use Rattle.bus_due.specs.bus_dialogue.specs.Words.{answer_bytes, detected_error, parity_error}
 use Rattle.bus_due.specs.Defs.{host_of}
 use Rattle.bus_due.specs.Next.{IsPrompt}
 use Rattle.bus_due.specs.Plain.{IsPlain}
@@ -41,13 +45,18 @@ use Rattle.progress_laws.specs.bus_books.proofs.InConnection.{InConnection, in_c
 use Rattle.progress_laws.specs.bus_laws.proofs.Apart.{change_plain}
 use Rattle.progress_laws.specs.bus_laws.proofs.Prompt.{least_is}
 use Rattle.progress_laws.specs.trace_laws.specs.Tells.{IsLeaving}
-use Rattle.progress_laws.specs.trace_laws.proofs.ConnectionRows.{ConnectionRow, connection_row}
+use Rattle.progress_laws.specs.trace_laws.proofs.ConnectionRows.{ConnectionRow, connection_row, stage_of_connection}
 use Rattle.progress_laws.specs.trace_laws.proofs.Crossings.{RowFacts, ends_here, stays}
+use Rattle.progress_laws.specs.trace_laws.proofs.InstructedTurns.{out_is}
 use Rattle.progress_laws.specs.trace_laws.proofs.Impossible.{none_some}
 use Rattle.progress_laws.specs.trace_laws.proofs.Joint.{link_phase}
 use Rattle.progress_laws.specs.trace_laws.proofs.PhaseLines.{out_phase}
 use Rattle.progress_laws.specs.trace_laws.proofs.Whole.{Whole, whole}
 use Rattle.dialogue_laws.specs.Recoveries.{phase_if, present_phase}
+
+-- What the initiator says in MESSAGE OUT after a phase with these lines, the last byte to it struck or not.
+abbrev pub words_by : Option HostDef → LineSet → Bool → Agreement → List ℕ
+words_by h b struck asked = if not (is_message_in b) then detected_error else if struck then parity_error else answer_bytes h asked
 
 -- What is known of the row.
 pub record PhaseEnd (s : ScenarioValue) (p : List Row) (row : Row) (n : Connection) : Type 0 where
@@ -62,6 +71,9 @@ pub record PhaseEnd (s : ScenarioValue) (p : List Row) (row : Row) (n : Connecti
       → (run_state s (row ∷ p)).exchange.plan ≡ record (plan_anew (run_state s p).exchange.plan) { messages = (leaving s (run_state s p) n.target).messages; next = (leaving s (run_state s p) n.target).next }
   pub progress : (next : Phase) → present_phase (row ∷ p) ≡ Some next → (run_state s (row ∷ p)).progress ≡ progress_by_leaving (run_state s p) (process_served s (run_state s p)) (leaving s (run_state s p) n.target)
   pub stands : (next : Phase) → present_phase (row ∷ p) ≡ Some next → (connection (row ∷ p) ≡ Some n) × (changes_phase (change_of p row) ≡ true)
+  pub says : present_phase (row ∷ p) ≡ Some phases.MessageOut
+      → ((run_state s (row ∷ p)).exchange.plan.cause ≡ cause_after (bus_of (run_state s p)))
+      × ((run_state s (row ∷ p)).exchange.speech.words ≡ words_by (host_of s n.initiator) (bus_of (run_state s p)) (run_state s p).handshakes.struck (run_state s p).exchange.speech.asked)
 
 by_turn : (row : Row) (n : Connection) (c : Change) → RowKind row n c → changes_phase c ≡ true → (is_fault row.kind ≡ false) × (receiver_in n c ≡ None)
 by_turn row n c (still g e r) f = wrong (sym f ∙ e)
@@ -148,6 +160,7 @@ phase_end s p row n o prompt w = by r.facts
           plan = λ next e. none_next next (sym free ∙ e);
           progress = λ next e. none_next next (sym free ∙ e);
           stands = λ next e. none_next next (sym free ∙ e);
+          says = λ e. none_next phases.MessageOut (sym free ∙ e);
         }
     by (stays g) = record {
       was = was;
@@ -160,6 +173,7 @@ phase_end s p row n o prompt w = by r.facts
       plan = plan;
       progress = progress;
       stands = λ next e. (sym reads ∙ next_is, ap changes_phase (sym c ∙ g.row_is.change_is) ∙ turned);
+      says = says;
     }
       where
         next_is : d.next ≡ Some n
@@ -207,3 +221,23 @@ phase_end s p row n o prompt w = by r.facts
         progress next e =
             (λ j. progress_after s k (reading_is k row n g.change false g.row_is (ap (λ (x : Option ℕ). is_some x) two.1) j) (standing j) (next_is j) (leaving_of s k (standing j)))
             ∙ (λ j. if turned j && w.begun j then progress_by_leaving k (process_served s k) l else k.progress)
+
+        says : present_phase q ≡ Some phases.MessageOut → ((run_state s q).exchange.plan.cause ≡ cause_after (bus_of k)) × ((run_state s q).exchange.speech.words ≡ words_by (host_of s n.initiator) (bus_of k) k.handshakes.struck k.exchange.speech.asked)
+        says e =
+            (ap (λ (x : Exchange). x.plan.cause) i.exchange_is
+            ∙ (λ j. (if not (out j) then record (plan_anew k.exchange.plan) { messages = l.messages; next = l.next } else if w.begun j then plan_in_message_out hearing k.exchange.plan else plan_anew k.exchange.plan).cause)
+            ∙ ap cause_after (sym g.row_is.bus_is),
+             ap (λ (x : Exchange). x.speech.words) i.exchange_is
+            ∙ (λ j. (if out j && w.begun j then speech_of k.exchange.speech (words_after (host_of s n.initiator) hearing k.exchange.speech.asked) else record k.exchange.speech { place = 0 }).words)
+            ∙ ap (λ (x : LineSet). words_by (host_of s n.initiator) x k.handshakes.struck k.exchange.speech.asked) (sym g.row_is.bus_is))
+          where
+            con : connection q ≡ Some n
+            con = sym reads ∙ next_is
+
+            lines_known : g.change.after.msg ≡ true → g.change.after.cd ≡ true
+            lines_known z =
+                ap (λ (x : LineSet). x.cd) (sym lines)
+                ∙ (link_phase s q n (stage_of_connection s q n now.stood con w.calm_after) (ap (λ (x : LineSet). x.msg) lines ∙ z)).0
+
+            out : is_message_out g.change.after ≡ true
+            out = out_is g.change.after lines_known ∙ ap is_out_phase (same_Some (phase_of g.change.after) phases.MessageOut (sym here ∙ e))

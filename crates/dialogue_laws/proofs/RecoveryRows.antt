@@ -188,7 +188,7 @@ pub record Left (s : ScenarioValue) (p : List Row) (row : Row) (n : Connection) 
 pub left_of : (s : ScenarioValue) (p : List Row) (row : Row) (n : Connection) (q : Process) → Obeys s → IsPrompt s (row ∷ p) → LeavesPhase s p row n q → Left s p row n q
 left_of s p row n q o prompt w = record { end = phase_end s p row n o prompt w.leaving_row; leaving_row = w.leaving_row; served = w.served }
 
-id_served : (s : ScenarioValue) (p : List Row) (row : Row) (n : Connection) (q : Process) → Left s p row n q → (run_state s p).served ≡ Some (process q.id)
+pub id_served : (s : ScenarioValue) (p : List Row) (row : Row) (n : Connection) (q : Process) → Left s p row n q → (run_state s p).served ≡ Some (process q.id)
 id_served s p row n q h = served_item s (run_state s p).served q h.served
 
 -- The target shows what it does as the row turns to another phase, or ends the connection.

@@ -89,3 +89,9 @@ IsAsked s rows cause = (phase_of (bus rows) ≡ phases.MessageOut) × ((run_stat
 pub record HasTakenAll (k : RunState) : Type 0 where
   pub last : k.story.bus_state.dialogue.is_last ≡ true
   pub unstruck : k.exchange.plan.struck ≡ false
+
+-- It follows, asked for so, and the initiator has these bytes to say.
+pub record Complains (s : ScenarioValue) (rows : List Row) (row : Row) (cause : Cause) (words : List ℕ) : Type 0 where
+  pub asked : IsAsked s (row ∷ rows) cause
+  pub stands : present_phase (row ∷ rows) ≡ Some phases.MessageOut
+  pub words_are : (run_state s (row ∷ rows)).exchange.speech.words ≡ words

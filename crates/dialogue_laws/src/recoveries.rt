@@ -1,9 +1,10 @@
-// The law of recoveries, named by the contract of a function that does nothing.
+// The laws of complaints and recoveries, each named by the contract of a function that does nothing.
 
 ghost use Rattle.std.specs.Prelude.{◌≡◌, true, false, List, ◌∷◌, None};
 ghost use Rattle.bus_due.specs.bus_trace.specs.Trace.{bus};
 ghost use Rattle.bus_due.specs.bus_trace.specs.declared.Row.{Row};
 ghost use Rattle.bus_due.specs.bus_trace.specs.declared.connection.Connection.{Connection};
+ghost use Rattle.bus_due.specs.bus_lines.specs.Handshakes.{handshakes};
 ghost use Rattle.bus_due.specs.cdb_codec.specs.declared.sense.TheConstants.{INITIATOR_DETECTED_ERROR, PARITY_ERROR};
 ghost use Rattle.bus_due.specs.msg_grammar.specs.declared.message.MsgIn.TheVariants as to_initiator;
 ghost use Rattle.bus_due.specs.scenario.specs.Value.{ScenarioValue};
@@ -11,14 +12,16 @@ ghost use Rattle.bus_due.specs.scenario.specs.Writing.{Obeys};
 ghost use Rattle.bus_due.specs.disk_array.specs.Processes.{Process};
 ghost use Rattle.bus_due.specs.bus_dialogue.specs.Exchange.{one_message};
 ghost use Rattle.bus_due.specs.bus_dialogue.specs.NextPhase.{phase_of};
-ghost use Rattle.bus_due.specs.bus_dialogue.specs.Words.{is_naming};
+ghost use Rattle.bus_due.specs.bus_dialogue.specs.Words.{detected_error, is_naming, parity_error};
 ghost use Rattle.bus_due.specs.bus_dialogue.specs.declared.exchange.Cause.TheVariants as causes;
 ghost use Rattle.bus_due.specs.bus_dialogue.specs.declared.exchange.Next.TheVariants as nexts;
 ghost use Rattle.bus_due.specs.bus_dialogue.specs.declared.exchange.Phase.TheVariants as phases;
 ghost use Rattle.bus_due.specs.Next.{IsPrompt};
+ghost use Rattle.bus_due.specs.RunState.{carried_here};
 ghost use Rattle.bus_due.specs.RunSteps.{run_state};
 ghost use Rattle.progress_laws.specs.bus_books.specs.WrongParity.{is_struck_phase};
-ghost use Rattle.dialogue_laws.specs.Recoveries.{FailsWith, HasTakenAll, IsAsked, IsLost, LeavesPhase, Recovers, RecoversUnless, Repeats, is_spent};
+ghost use Rattle.progress_laws.specs.trace_laws.specs.Tells.{code_if};
+ghost use Rattle.dialogue_laws.specs.Recoveries.{Complains, FailsWith, HasTakenAll, IsAsked, IsLost, LeavesPhase, Recovers, RecoversUnless, Repeats, is_spent};
 
 /// As the target leaves a phase in which parity was wrong it recovers, or gives up the process, and that exactly where
 /// the recovery would count and as many were counted as its limit; in a connection of an initiator that stands in the
@@ -62,4 +65,24 @@ pub fn wrong_parity_is_recovered()
     ensures out { (s : ScenarioValue) (rows : List Row) (row : Row) (n : Connection) (p : Process) → Obeys s
         → IsPrompt s (row ∷ rows) → LeavesPhase s rows row n p → phase_of (bus rows) ≡ phases.MessageOut
         → HasTakenAll (run_state s rows) }
+{}
+
+/// As the target leaves a phase to the initiator with ATN true MESSAGE OUT follows, and the initiator says what it
+/// complains of: INITIATOR DETECTED ERROR after DATA IN (`data_in`) and after STATUS (`status`), MESSAGE PARITY ERROR
+/// where the last byte of MESSAGE IN was struck (`message`). In DATA IN ATN is true then exactly where a byte of the run
+/// was struck, so that the process would fail (`struck`).
+pub fn complaints_follow()
+    ensures data_in { (s : ScenarioValue) (rows : List Row) (row : Row) (n : Connection) (p : Process) → Obeys s
+        → IsPrompt s (row ∷ rows) → LeavesPhase s rows row n p → phase_of (bus rows) ≡ phases.DataIn
+        → (bus rows).atn ≡ true → Complains s rows row causes.InData detected_error }
+    ensures status { (s : ScenarioValue) (rows : List Row) (row : Row) (n : Connection) (p : Process) → Obeys s
+        → IsPrompt s (row ∷ rows) → LeavesPhase s rows row n p → phase_of (bus rows) ≡ phases.Status
+        → (bus rows).atn ≡ true → Complains s rows row causes.InStatus detected_error }
+    ensures message { (s : ScenarioValue) (rows : List Row) (row : Row) (n : Connection) (p : Process) → Obeys s
+        → IsPrompt s (row ∷ rows) → LeavesPhase s rows row n p → phase_of (bus rows) ≡ phases.MessageIn
+        → (bus rows).atn ≡ true → (handshakes rows).struck ≡ true
+        → Complains s rows row causes.InMessage parity_error }
+    ensures struck { (s : ScenarioValue) (rows : List Row) (row : Row) (n : Connection) (p : Process) → Obeys s
+        → IsPrompt s (row ∷ rows) → LeavesPhase s rows row n p → phase_of (bus rows) ≡ phases.DataIn
+        → (carried_here (run_state s rows) p.id).failure ≡ code_if (bus rows).atn INITIATOR_DETECTED_ERROR }
 {}

@@ -1,0 +1,15 @@
+use Rattle.dialogue_laws.proofs.ComplaintRows.{data_in_attends, data_in_complains, message_complains, status_complains}
+use Rattle.dialogue_laws.proofs.RecoveryRows.{left_of}
+use Rattle.dialogue_laws.proofs.recoveries.complaints_follow.Goals as goal
+
+pub returns-clause-data_in : goal.returns-clause-data_in
+returns-clause-data_in c = λ s rows row n p o prompt w e atn. data_in_complains s rows row n p (left_of s rows row n p o prompt w) e atn
+
+pub returns-clause-status : goal.returns-clause-status
+returns-clause-status c = λ s rows row n p o prompt w e atn. status_complains s rows row n p (left_of s rows row n p o prompt w) e atn
+
+pub returns-clause-message : goal.returns-clause-message
+returns-clause-message c = λ s rows row n p o prompt w e atn struck. message_complains s rows row n p (left_of s rows row n p o prompt w) e atn struck
+
+pub returns-clause-struck : goal.returns-clause-struck
+returns-clause-struck c = λ s rows row n p o prompt w e. data_in_attends s rows row n p o prompt (left_of s rows row n p o prompt w) e
