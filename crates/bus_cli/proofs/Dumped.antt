@@ -17,7 +17,7 @@ use Rattle.bus_cli.specs.Lines.{Writing, writing, SaysLine, trace_line}
 use Rattle.bus_cli.specs.Judging.{verdict_of, verdict_on, TellsVerdict}
 use Rattle.bus_cli.specs.Vcd.{SaysTrace, IsDumpOf, VcdSays, VcdTells}
 use Rattle.bus_cli.specs.declared.status.Status.{Status}
-use Rattle.bus_cli.specs.declared.status.Status.TheVariants.{Done, Words, Refused, Read, Write, Memory, Broken, BadTrace, Unfinished, BadDump}
+use Rattle.bus_cli.specs.declared.status.Status.TheVariants.{Done, Words, Refused, Read, Write, Memory, Broken, BadTrace, BadDump}
 use Rattle.bus_cli.proofs.TooLong.{map_some, IsLong, is_long}
 use Rattle.bus_cli.proofs.Judged.{too_long}
 
@@ -35,7 +35,6 @@ with_memory Write bytes h = h
 with_memory Memory bytes h = tt
 with_memory Broken bytes h = h
 with_memory BadTrace bytes h = h
-with_memory Unfinished bytes h = h
 with_memory BadDump bytes h = h
 
 pub told_of : (status : Status) (bytes : List ℕ) (rows : List Row) (end : ℕ) → trace_of bytes ≡ Ok (rows, end) → TellsVerdict status (Ok (judged_whole (reverse rows) end)) → VcdTells status bytes
@@ -50,7 +49,6 @@ says_of Refused bytes rows end w is tells says = elim says [ ]
 says_of Read bytes rows end w is tells says = elim says [ ]
 says_of Memory bytes rows end w is tells says = elim says [ ]
 says_of BadTrace bytes rows end w is tells says = elim says [ ]
-says_of Unfinished bytes rows end w is tells says = elim says [ ]
 says_of BadDump bytes rows end w is tells says = elim says [ ]
 
 pub said_of : (status : Status) (bytes : List ℕ) (rows : List Row) (end : ℕ) (old written : Option (List ℕ)) (f g : ℕ) → trace_of bytes ≡ Ok (rows, end) → TellsVerdict status (Ok (judged_whole (reverse rows) end)) → IfSome old (λ before. SaysTrace status rows end (writing before written f g)) → IfSome old (λ before. VcdSays status (Some bytes) (writing before written f g))
@@ -87,7 +85,6 @@ of_input Words None bytes w same says = says
 of_input Read None bytes w same says = says
 of_input Memory None bytes w same says = says
 of_input Refused None bytes w same says = elim says [ ]
-of_input Unfinished None bytes w same says = elim says [ ]
 of_input BadDump None bytes w same says = elim says [ ]
 
 pub all_of : (input left : Option (List ℕ)) (v : Vec ℕ Global) (bytes : List ℕ) → bytes ≡ v.items → ReadsAll input left TRACE_LIMIT (Ok v) → IfSome input (λ xs. bytes ≡ xs)

@@ -20,7 +20,7 @@ use Rattle.bus_base.specs.Pieces.{ReadsPiece}
 use Rattle.bus_base.specs.declared.reading.Cut.{Cut}
 use Rattle.bus_base.specs.declared.reading.Cut.TheVariants.{TooLong, Fault}
 use Rattle.bus_cli.specs.declared.status.Status.{Status}
-use Rattle.bus_cli.specs.declared.status.Status.TheVariants.{Done, Words, Refused, Read, Write, Memory, Broken, BadTrace, Unfinished, BadDump}
+use Rattle.bus_cli.specs.declared.status.Status.TheVariants.{Done, Words, Refused, Read, Write, Memory, Broken, BadTrace, BadDump}
 use Rattle.bus_base.proofs.ReadSoFar.{HasRead, told, read_more, beyond}
 use Rattle.bus_cli.proofs.TooLong.{map_some, first_of}
 use Rattle.bus_cli.proofs.Undumped.{not_first}
@@ -72,7 +72,6 @@ of_input Words None v w same says = says
 of_input Read None v w same says = says
 of_input Memory None v w same says = says
 of_input Refused None v w same says = says
-of_input Unfinished None v w same says = says
 of_input BadDump None v w same says = says
 
 verdict_told : (input left : Option (List ℕ)) (v : Result Verdict ℕ) → HearsAll input left (Ok v) → IfSome input (λ xs. verdict_on xs ≡ v)

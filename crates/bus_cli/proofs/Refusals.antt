@@ -16,7 +16,7 @@ use Rattle.bus_cli.specs.Lines.{Writing, writing, SaysLine, refusal_line}
 use Rattle.bus_cli.specs.Running.{RunSays, RunTells, IsReport}
 use Rattle.bus_cli.specs.declared.words.Extent.{Extent}
 use Rattle.bus_cli.specs.declared.status.Status.{Status}
-use Rattle.bus_cli.specs.declared.status.Status.TheVariants.{Done, Words, Refused, Read, Write, Memory, Broken, BadTrace, Unfinished, BadDump}
+use Rattle.bus_cli.specs.declared.status.Status.TheVariants.{Done, Words, Refused, Read, Write, Memory, Broken, BadTrace, BadDump}
 
 -- ---- a text that is too long
 
@@ -68,7 +68,6 @@ of_input extent Refused None bytes w same says = (says.0, says.1, tt, says.3)
 of_input extent Words None bytes w same says = says
 of_input extent Read None bytes w same says = says
 of_input extent Memory None bytes w same says = says
-of_input extent Unfinished None bytes w same says = says
 
 all_of : (input left : Option (List ℕ)) (v : Vec ℕ Global) (bytes : List ℕ) → bytes ≡ v.items → ReadsAll input left SCENARIO_LIMIT (Ok v) → IfSome input (λ xs. bytes ≡ xs)
 all_of None left v bytes same h = tt

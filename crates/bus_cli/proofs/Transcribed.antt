@@ -17,7 +17,7 @@ use Rattle.bus_cli.specs.Vcd.{VcdTells}
 use Rattle.bus_cli.specs.Texts.{SaysText, TellsText}
 use Rattle.bus_cli.specs.Transcripts.{text_of_rows, IsTranscriptOf, SaysTranscript, TranscriptSays, TellsTrace}
 use Rattle.bus_cli.specs.declared.status.Status.{Status}
-use Rattle.bus_cli.specs.declared.status.Status.TheVariants.{Done, Words, Refused, Read, Write, Memory, Broken, BadTrace, Unfinished, BadDump}
+use Rattle.bus_cli.specs.declared.status.Status.TheVariants.{Done, Words, Refused, Read, Write, Memory, Broken, BadTrace, BadDump}
 use Rattle.bus_cli.proofs.TooLong.{map_some, IsLong, is_long}
 use Rattle.bus_cli.proofs.Judged.{too_long}
 use Rattle.bus_cli.proofs.Dumped.{verdict_is, told_of, all_of}
@@ -33,7 +33,6 @@ told_lawful Refused verdict is tells = elim tells [ ]
 told_lawful Read verdict is tells = elim tells [ ]
 told_lawful Broken verdict is tells = elim tells [ ]
 told_lawful BadTrace verdict is tells = elim tells [ ]
-told_lawful Unfinished verdict is tells = elim tells [ ]
 told_lawful BadDump verdict is tells = elim tells [ ]
 
 says_lawful : (status : Status) (rows : List Row) (end : ℕ) (w : Writing) → SaysText status (text_of_rows rows) w → SaysTranscript status rows end w
@@ -45,7 +44,6 @@ says_lawful Refused rows end w says = elim says [ ]
 says_lawful Read rows end w says = elim says [ ]
 says_lawful Broken rows end w says = elim says [ ]
 says_lawful BadTrace rows end w says = elim says [ ]
-says_lawful Unfinished rows end w says = elim says [ ]
 says_lawful BadDump rows end w says = elim says [ ]
 
 pub said_lawful : (status : Status) (rows : List Row) (end : ℕ) (old written : Option (List ℕ)) (f g : ℕ) → IfSome old (λ before. SaysText status (text_of_rows rows) (writing before written f g)) → IfSome old (λ before. SaysTranscript status rows end (writing before written f g))
@@ -63,7 +61,6 @@ told_trace Write bytes rows end is tells = told_of Write bytes rows end is tells
 told_trace Memory bytes rows end is tells = tt
 told_trace Broken bytes rows end is tells = told_of Broken bytes rows end is tells
 told_trace BadTrace bytes rows end is tells = told_of BadTrace bytes rows end is tells
-told_trace Unfinished bytes rows end is tells = elim tells [ ]
 told_trace BadDump bytes rows end is tells = elim tells [ ]
 
 says_of : (status : Status) (bytes : List ℕ) (rows : List Row) (end : ℕ) (w : Writing) → trace_of bytes ≡ Ok (rows, end) → TellsTrace status (Ok (judged_whole (reverse rows) end)) → SaysTranscript status rows end w → TranscriptSays status (Some bytes) w
@@ -75,7 +72,6 @@ says_of Words bytes rows end w is tells says = elim says [ ]
 says_of Refused bytes rows end w is tells says = elim says [ ]
 says_of Read bytes rows end w is tells says = elim says [ ]
 says_of BadTrace bytes rows end w is tells says = elim says [ ]
-says_of Unfinished bytes rows end w is tells says = elim says [ ]
 says_of BadDump bytes rows end w is tells says = elim says [ ]
 
 pub said_of : (status : Status) (bytes : List ℕ) (rows : List Row) (end : ℕ) (old written : Option (List ℕ)) (f g : ℕ) → trace_of bytes ≡ Ok (rows, end) → TellsTrace status (Ok (judged_whole (reverse rows) end)) → IfSome old (λ before. SaysTranscript status rows end (writing before written f g)) → IfSome old (λ before. TranscriptSays status (Some bytes) (writing before written f g))
@@ -106,7 +102,6 @@ of_input Words None bytes w same says = says
 of_input Read None bytes w same says = says
 of_input Memory None bytes w same says = says
 of_input Refused None bytes w same says = elim says [ ]
-of_input Unfinished None bytes w same says = elim says [ ]
 of_input BadDump None bytes w same says = elim says [ ]
 
 pub said_of_all : (status : Status) (input left old written : Option (List ℕ)) (v : Vec ℕ Global) (bytes : List ℕ) (f g : ℕ) → bytes ≡ v.items → ReadsAll input left TRACE_LIMIT (Ok v) → IfSome old (λ before. TranscriptSays status (Some bytes) (writing before written f g)) → IfSome old (λ before. TranscriptSays status input (writing before written f g))

@@ -23,7 +23,7 @@ use Rattle.vcd_text.proofs.ReadAlike.{reads_through, reads_after}
 use Rattle.bus_cli.specs.Lines.{Writing, writing, SaysLine, dump_line}
 use Rattle.bus_cli.specs.Unvcd.{dump_on, SaysRead, UnvcdSays, TellsRead, UnvcdTells, TakesDump}
 use Rattle.bus_cli.specs.declared.status.Status.{Status}
-use Rattle.bus_cli.specs.declared.status.Status.TheVariants.{Done, Words, Refused, Read, Write, Memory, Broken, BadTrace, Unfinished, BadDump}
+use Rattle.bus_cli.specs.declared.status.Status.TheVariants.{Done, Words, Refused, Read, Write, Memory, Broken, BadTrace, BadDump}
 use Rattle.bus_cli.proofs.TooLong.{map_some, first_of}
 
 -- ---- a piece more
@@ -81,7 +81,6 @@ of_any Words read w says = says
 of_any Read read w says = says
 of_any Memory read w says = says
 of_any Refused read w says = elim says [ ]
-of_any Unfinished read w says = elim says [ ]
 of_any Broken read w says = elim says [ ]
 of_any BadTrace read w says = elim says [ ]
 

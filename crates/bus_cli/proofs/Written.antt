@@ -18,7 +18,7 @@ use Rattle.bus_cli.specs.Transcripts.{text_of_rows}
 use Rattle.bus_cli.specs.Running.{run_text, RunSays}
 use Rattle.bus_cli.specs.declared.words.Extent.{Extent}
 use Rattle.bus_cli.specs.declared.status.Status.{Status}
-use Rattle.bus_cli.specs.declared.status.Status.TheVariants.{Done, Words, Refused, Read, Write, Memory, Broken, BadTrace, Unfinished, BadDump}
+use Rattle.bus_cli.specs.declared.status.Status.TheVariants.{Done, Words, Refused, Read, Write, Memory, Broken, BadTrace, BadDump}
 
 says_of : (text : Result (Unit {0}) Failed) (old written : Option (List ℕ)) (bytes : List ℕ) (f g : ℕ) → WritesAll old written bytes text → IfSome old (λ before. SaysText (status_written text) bytes (writing before written f g))
 says_of (Ok x) None written bytes f g all = tt
@@ -45,7 +45,6 @@ says_run_by extent Refused bytes s run w is made says = elim says [ ]
 says_run_by extent Read bytes s run w is made says = elim says [ ]
 says_run_by extent Broken bytes s run w is made says = elim says [ ]
 says_run_by extent BadTrace bytes s run w is made says = elim says [ ]
-says_run_by extent Unfinished bytes s run w is made says = elim says [ ]
 says_run_by extent BadDump bytes s run w is made says = elim says [ ]
 
 pub says_run : (extent : Extent) (status : Status) (bytes : List ℕ) (s : ScenarioValue) (run : RunValue) (old written : Option (List ℕ)) (f g : ℕ) → scenario_of bytes ≡ Ok s → IsRunOf s run → IfSome old (λ before. SaysText status (run_text extent s run) (writing before written f g)) → IfSome old (λ before. RunSays extent status (Some bytes) (writing before written f g))

@@ -13,7 +13,7 @@ use Rattle.bus_cli.specs.Vcd.{VcdSays, VcdTells}
 use Rattle.bus_cli.specs.Transcripts.{TranscriptSays}
 use Rattle.bus_cli.specs.Unvcd.{UnvcdSays, UnvcdTells, dump_on, dump_status}
 use Rattle.bus_cli.specs.declared.status.Status.{Status}
-use Rattle.bus_cli.specs.declared.status.Status.TheVariants.{Done, Words, Refused, Read, Write, Memory, Broken, BadTrace, Unfinished, BadDump}
+use Rattle.bus_cli.specs.declared.status.Status.TheVariants.{Done, Words, Refused, Read, Write, Memory, Broken, BadTrace, BadDump}
 use Rattle.bus_cli.specs.declared.words.Word.{Word}
 use Rattle.bus_cli.specs.declared.words.Word.TheVariants as words
 
@@ -27,7 +27,6 @@ code_of Write = 4
 code_of Memory = 5
 code_of Broken = 6
 code_of BadTrace = 7
-code_of Unfinished = 8
 code_of BadDump = 10
 
 -- what the words of the program ask
@@ -63,7 +62,6 @@ abbrev pub Reads : ℕ → Status → List ℕ → Option (List ℕ) → Type 0
 Reads limit Done bytes left = left ≡ Some []
 Reads limit Write bytes left = left ≡ Some []
 Reads limit Broken bytes left = left ≡ Some []
-Reads limit Unfinished bytes left = left ≡ Some []
 Reads limit Refused bytes left = ReadsOut limit bytes left
 Reads limit BadTrace bytes left = ReadsOut limit bytes left
 Reads limit BadDump bytes left = ReadsOut limit bytes left
@@ -80,11 +78,9 @@ status_of words.Vcd bytes = verdict_status (verdict_on bytes)
 status_of words.Unvcd bytes = dump_status (dump_on bytes)
 status_of words.Transcript bytes = verdict_status (verdict_on bytes)
 
--- The status is the one that is asked for; or memory ran out, or in place of Done a write failed, or a run took all its
--- steps.
+-- The status is the one that is asked for; or memory ran out, or in place of Done a write failed.
 abbrev pub IsMet : Status → Status → Type 0
-IsMet asked status =
-    (status ≡ asked) ⊎ ((status ≡ Memory) ⊎ ((asked ≡ Done) × ((status ≡ Write) ⊎ (status ≡ Unfinished))))
+IsMet asked status = (status ≡ asked) ⊎ ((status ≡ Memory) ⊎ ((asked ≡ Done) × (status ≡ Write)))
 
 -- ---- the same by what the words ask, where this is known, and the bytes that the input had left, where they are told
 
@@ -121,13 +117,13 @@ abbrev pub TellsInput : Option Word → Status → Option (List ℕ) → Type 0
 TellsInput asked status old = IfSome asked (λ word. TellsBy word status old)
 
 -- Only a run takes steps.
-abbrev pub TakesStepsBy : Word → Status → Option (List ℕ) → ℕ → ℕ → Type 0
-TakesStepsBy (words.Run extent) status old before after = IfSome old (λ bytes. StepsBy (scenario_of bytes) status before after)
-TakesStepsBy _ status old before after = after ≡ before
+abbrev pub TakesStepsBy : Word → Option (List ℕ) → ℕ → ℕ → Type 0
+TakesStepsBy (words.Run extent) old before after = IfSome old (λ bytes. StepsBy (scenario_of bytes) before after)
+TakesStepsBy _ old before after = after ≡ before
 
-abbrev pub TakesSteps : Option Word → Status → Option (List ℕ) → ℕ → ℕ → Type 0
-TakesSteps None status old before after = after ≡ before
-TakesSteps (Some word) status old before after = TakesStepsBy word status old before after
+abbrev pub TakesSteps : Option Word → Option (List ℕ) → ℕ → ℕ → Type 0
+TakesSteps None old before after = after ≡ before
+TakesSteps (Some word) old before after = TakesStepsBy word old before after
 
 abbrev pub MeetsBy : Word → Status → Option (List ℕ) → Type 0
 MeetsBy (words.Make seed n) status old = IsMet Done status

@@ -11,7 +11,7 @@ use Rattle.bus_base.specs.declared.reading.Cut.{Cut}
 use Rattle.bus_base.specs.declared.reading.Cut.TheVariants as cuts
 use Rattle.bus_cli.specs.Lines.{usage_line, fault_line, lawful_line, broken_line, trace_line, Writing, Adds, AddsFront, SaysLine}
 use Rattle.bus_cli.specs.declared.status.Status.{Status}
-use Rattle.bus_cli.specs.declared.status.Status.TheVariants.{Done, Words, Refused, Read, Write, Memory, Broken, BadTrace, Unfinished, BadDump}
+use Rattle.bus_cli.specs.declared.status.Status.TheVariants.{Done, Words, Refused, Read, Write, Memory, Broken, BadTrace, BadDump}
 
 -- what is judged of a text that was read
 abbrev pub verdict_of : Result (List Row × ℕ) ℕ → Result Verdict ℕ
@@ -42,7 +42,6 @@ SaysVerdict Words told w = SaysLine usage_line w
 SaysVerdict Read told w = SaysLine fault_line w
 SaysVerdict Memory told w = ⊥
 SaysVerdict Refused told w = ⊥
-SaysVerdict Unfinished told w = ⊥
 SaysVerdict BadDump told w = ⊥
 
 -- the same, by the bytes that the input had left
@@ -60,7 +59,6 @@ TellsVerdict Words verdict = Unit {0}
 TellsVerdict Read verdict = Unit {0}
 TellsVerdict Memory verdict = ⊥
 TellsVerdict Refused verdict = ⊥
-TellsVerdict Unfinished verdict = ⊥
 TellsVerdict BadDump verdict = ⊥
 
 -- what the status says of the input's bytes

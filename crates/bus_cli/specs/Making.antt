@@ -4,7 +4,7 @@ use Rattle.scenario.specs.Writing.{text_of}
 use Rattle.scenario.specs.Making.{made}
 use Rattle.bus_cli.specs.Lines.{memory_line, Writing, Adds, AddsFront, SaysLine}
 use Rattle.bus_cli.specs.declared.status.Status.{Status}
-use Rattle.bus_cli.specs.declared.status.Status.TheVariants.{Done, Words, Refused, Read, Write, Memory, Broken, BadTrace, Unfinished, BadDump}
+use Rattle.bus_cli.specs.declared.status.Status.TheVariants.{Done, Words, Refused, Read, Write, Memory, Broken, BadTrace, BadDump}
 
 -- What was written with this status: the text of the scenario of this number, or with Write a front of it; or the status' own
 -- line.
@@ -17,7 +17,6 @@ MakeSays seed n Refused w = ⊥
 MakeSays seed n Read w = ⊥
 MakeSays seed n Broken w = ⊥
 MakeSays seed n BadTrace w = ⊥
-MakeSays seed n Unfinished w = ⊥
 MakeSays seed n BadDump w = ⊥
 
 -- the statuses with which it ends
@@ -30,5 +29,4 @@ MakeTells Refused = ⊥
 MakeTells Read = ⊥
 MakeTells Broken = ⊥
 MakeTells BadTrace = ⊥
-MakeTells Unfinished = ⊥
 MakeTells BadDump = ⊥

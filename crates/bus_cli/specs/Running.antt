@@ -2,17 +2,17 @@
 use Rattle.std.specs.Prelude.{ℕ, ◌≡◌, ◌≤◌, ◌+◌, List, Option, Some, None, Result, Ok, Err}
 use Rattle.scenario.specs.Value.{ScenarioValue}
 use Rattle.scenario.specs.Reading.{scenario_of}
+use Rattle.bus_story.specs.Budget.{budget}
 use Rattle.run_record.specs.Value.{RunValue}
-use Rattle.bus_engine.specs.Limits.{step_limit}
-use Rattle.bus_engine.specs.Runs.{IsRunOf, IsUnfinished}
+use Rattle.bus_engine.specs.Runs.{IsRunOf}
 use Rattle.trace_text.specs.ReportText.{report_of}
 use Rattle.trace_text.specs.ShortText.{short_text}
 use Rattle.bus_cli.specs.Transcripts.{text_of_rows}
 use Rattle.bus_cli.specs.declared.words.Extent.{Extent}
 use Rattle.bus_cli.specs.declared.words.Extent.TheVariants.{Whole, Short, Transcript}
-use Rattle.bus_cli.specs.Lines.{usage_line, fault_line, memory_line, unfinished_line, refusal_line, Writing, Adds, AddsFront, SaysLine}
+use Rattle.bus_cli.specs.Lines.{usage_line, fault_line, memory_line, refusal_line, Writing, Adds, AddsFront, SaysLine}
 use Rattle.bus_cli.specs.declared.status.Status.{Status}
-use Rattle.bus_cli.specs.declared.status.Status.TheVariants.{Done, Words, Refused, Read, Write, Memory, Broken, BadTrace, Unfinished, BadDump}
+use Rattle.bus_cli.specs.declared.status.Status.TheVariants.{Done, Words, Refused, Read, Write, Memory, Broken, BadTrace, BadDump}
 
 -- the scenario that the input says; where nothing is told of the bytes, any
 abbrev pub IsSaid : Option (List ℕ) → ScenarioValue → Type 0
@@ -45,7 +45,6 @@ RunSays extent Refused input w =
     (line : ℕ) × (reason : ℕ) × IsRefused input line reason × SaysLine (refusal_line line reason) w
 RunSays extent Read input w = SaysLine fault_line w
 RunSays extent Memory input w = SaysLine memory_line w
-RunSays extent Unfinished input w = SaysLine unfinished_line w
 RunSays extent Broken input w = ⊥
 RunSays extent BadTrace input w = ⊥
 RunSays extent BadDump input w = ⊥
@@ -54,7 +53,6 @@ RunSays extent BadDump input w = ⊥
 abbrev pub RunTells : Status → List ℕ → Type 0
 RunTells Done bytes = (s : ScenarioValue) × (scenario_of bytes ≡ Ok s)
 RunTells Write bytes = (s : ScenarioValue) × (scenario_of bytes ≡ Ok s)
-RunTells Unfinished bytes = (s : ScenarioValue) × (scenario_of bytes ≡ Ok s)
 RunTells Refused bytes = (line : ℕ) × (reason : ℕ) × (scenario_of bytes ≡ Err (line, reason))
 RunTells Words bytes = Unit {0}
 RunTells Read bytes = Unit {0}
@@ -68,9 +66,7 @@ abbrev pub scenario_status : Result ScenarioValue (ℕ × ℕ) → Status
 scenario_status (Ok s) = Done
 scenario_status (Err reason) = Refused
 
--- The steps that a run takes: at most those of its budget; and it is unfinished only where it took them all and has not
--- ended. What is no scenario takes none.
-abbrev pub StepsBy : Result ScenarioValue (ℕ × ℕ) → Status → ℕ → ℕ → Type 0
-StepsBy (Ok s) status before after =
-    (after ≤ before + step_limit s) × (status ≡ Unfinished → IsUnfinished s before after)
-StepsBy (Err reason) status before after = after ≡ before
+-- The steps that a run takes: at most those of its budget. What is no scenario takes none.
+abbrev pub StepsBy : Result ScenarioValue (ℕ × ℕ) → ℕ → ℕ → Type 0
+StepsBy (Ok s) before after = after ≤ before + budget s
+StepsBy (Err reason) before after = after ≡ before

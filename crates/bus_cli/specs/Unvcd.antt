@@ -10,7 +10,7 @@ use Rattle.vcd_text.specs.declared.reader.VcdReader.{VcdReader}
 use Rattle.vcd_text.specs.Reading.{read_of, vcd_of}
 use Rattle.bus_cli.specs.Lines.{usage_line, fault_line, memory_line, dump_line, Writing, Adds, AddsFront, SaysLine}
 use Rattle.bus_cli.specs.declared.status.Status.{Status}
-use Rattle.bus_cli.specs.declared.status.Status.TheVariants.{Done, Words, Refused, Read, Write, Memory, Broken, BadTrace, Unfinished, BadDump}
+use Rattle.bus_cli.specs.declared.status.Status.TheVariants.{Done, Words, Refused, Read, Write, Memory, Broken, BadTrace, BadDump}
 
 -- The rows and the end of the dump that these bytes are, or the line of the first token that breaks its form; line 0 where
 -- there are more than 1,073,741,824 bytes.
@@ -35,7 +35,6 @@ SaysRead Memory told w = SaysLine memory_line w
 SaysRead Broken told w = ⊥
 SaysRead BadTrace told w = ⊥
 SaysRead Refused told w = ⊥
-SaysRead Unfinished told w = ⊥
 
 -- the same, by the bytes that the input had left
 abbrev pub UnvcdSays : Status → Option (List ℕ) → Writing → Type 0
@@ -52,7 +51,6 @@ TellsRead Memory read = Unit {0}
 TellsRead Broken read = ⊥
 TellsRead BadTrace read = ⊥
 TellsRead Refused read = ⊥
-TellsRead Unfinished read = ⊥
 
 abbrev pub UnvcdTells : Status → List ℕ → Type 0
 UnvcdTells status bytes = TellsRead status (dump_on bytes)

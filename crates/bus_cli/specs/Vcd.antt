@@ -10,7 +10,7 @@ use Rattle.vcd_text.specs.DumpText.{dump_text}
 use Rattle.bus_cli.specs.Lines.{usage_line, fault_line, memory_line, broken_line, trace_line, Writing, Adds, AddsFront, SaysLine}
 use Rattle.bus_cli.specs.Judging.{verdict_on, IsVerdict, JudgeTells}
 use Rattle.bus_cli.specs.declared.status.Status.{Status}
-use Rattle.bus_cli.specs.declared.status.Status.TheVariants.{Done, Words, Refused, Read, Write, Memory, Broken, BadTrace, Unfinished, BadDump}
+use Rattle.bus_cli.specs.declared.status.Status.TheVariants.{Done, Words, Refused, Read, Write, Memory, Broken, BadTrace, BadDump}
 
 -- these bytes say these rows and this end, and the trace is lawful
 abbrev pub IsLawful : List ℕ → List Row → ℕ → Type 0
@@ -47,7 +47,6 @@ VcdSays Words input w = SaysLine usage_line w
 VcdSays Read input w = SaysLine fault_line w
 VcdSays Memory input w = SaysLine memory_line w
 VcdSays Refused input w = ⊥
-VcdSays Unfinished input w = ⊥
 VcdSays BadDump input w = ⊥
 
 -- what the status says of the input's bytes: what it says with the word `judge`

@@ -18,7 +18,7 @@ use crate::saying::{say, status_written};
 use crate::status::Status;
 use crate::words::Extent;
 use bus_base::{ReadEnd, Sink, Source, Steps, read_all};
-use bus_engine::{Run, RunEnd};
+use bus_engine::Run;
 use bus_transcript::{print_transcript, transcribe_run};
 use scenario::{Bad, LIMIT, Scenario, read};
 use std::alloc::Global;
@@ -78,7 +78,7 @@ fn run_bytes<K: Sink, L: Ledger>(
     ensures form { RunTells result bytes.now }
     ensures said { IfTold K.written K.faults out.old out.new (RunSays extent result (Some bytes.now)) }
     ensures never_falls { K.faults out.old ≤ K.faults out.new }
-    ensures steps { StepsBy (scenario_of bytes.now) result steps.old steps.new }
+    ensures steps { StepsBy (scenario_of bytes.now) steps.old steps.new }
 {
     let scenario = match read(alloc, bytes) {
         Ok(scenario) => scenario,
@@ -91,16 +91,9 @@ fn run_bytes<K: Sink, L: Ledger>(
             return Status::Memory;
         }
     };
-    let run = match bus_engine::run(alloc, &scenario, steps) {
-        Ok(run) => run,
-        Err(RunEnd::Unfinished) => {
-            say(out, b"unfinished\n");
-            return Status::Unfinished;
-        }
-        Err(RunEnd::NoMemory) => {
-            say(out, b"no memory\n");
-            return Status::Memory;
-        }
+    let Ok(run) = bus_engine::run(alloc, &scenario, steps) else {
+        say(out, b"no memory\n");
+        return Status::Memory;
     };
     write_run(alloc, &scenario, &run, extent, out)
 }
@@ -123,7 +116,7 @@ pub fn run<S: Source, K: Sink, L: Ledger>(
     ensures said { IfTold K.written K.faults out.old out.new (RunSays extent result (S.left input.old)) }
     ensures source_falls { S.faults input.old ≤ S.faults input.new }
     ensures sink_falls { K.faults out.old ≤ K.faults out.new }
-    ensures steps { IfSome (S.left input.old) (λ bytes. StepsBy (scenario_of bytes) result steps.old steps.new) }
+    ensures steps { IfSome (S.left input.old) (λ bytes. StepsBy (scenario_of bytes) steps.old steps.new) }
 {
     match read_all(alloc, input, LIMIT) {
         Ok(bytes) => run_bytes(alloc, extent, &bytes, out, steps),

@@ -29,8 +29,7 @@ use std::sync::ledger::Ledger;
 /// reads a value change dump of as many bytes, and writes the text of its trace. A refusal writes its one line to
 /// `out` instead. Where a line cannot be written the status stays; but what was asked for ends with `Write` where
 /// it cannot be written, and so does the answer `lawful`. A run counts in `steps` each time that it asks a device,
-/// and ends as `Unfinished` where it took as
-/// many as its budget has and has not ended.
+/// at most as many as its budget has.
 ///
 /// The words are looked at first, then the input is read, then it is read as a scenario, a trace or a dump, then
 /// the scenario is run, or the trace is judged; the first refusal is the answer. Want of memory can come at any
@@ -56,7 +55,7 @@ pub fn bus_main<S: Source, K: Sink, L: Ledger>(
         → MeetsInput (word_in words.now) result (S.left input.old) }
     ensures source_never_falls { S.faults input.old ≤ S.faults input.new }
     ensures sink_never_falls { K.faults out.old ≤ K.faults out.new }
-    ensures steps { TakesSteps (word_in words.now) result (S.left input.old) steps.old steps.new }
+    ensures steps { TakesSteps (word_in words.now) (S.left input.old) steps.old steps.new }
 {
     match word_of(words) {
         Some(Word::Run(extent)) => run(alloc, extent, input, out, steps),

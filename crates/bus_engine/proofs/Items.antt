@@ -1,15 +1,9 @@
 -- The next item of a list, and those after it.
-use Rattle.std.proofs.Common.{◌≡◌, ℕ, zero, suc, ◌+◌, List, [], ◌∷◌, drop, reverse, subst, ◌*◌, ◌/◌, arith}
-use Rattle.std.specs.Prelude.{max, Result, Ok, Err, IfOk}
+use Rattle.std.proofs.Common.{ℕ, zero, suc, List, [], ◌∷◌, drop, reverse, subst}
+use Rattle.std.specs.Prelude.{Result, Ok, Err, IfOk}
 use Rattle.std.proofs.lemmas.List.{reverse-reverse}
 use Rattle.std.specs.List.{AllByRecursion}
 use Rattle.bus_base.proofs.Tests.{all_reverse}
-
-pub max_moves : (a b c : ℕ) → max (max a b) c ≡ max b (max a c)
-max_moves a b c = omega arith
-
-pub eighth : (b r n : ℕ) → (1024 * b + 32768 * r + 8192 * (1 + n)) / 8 ≡ 128 * b + 4096 * r + 1024 * (1 + n)
-eighth b r n = omega arith
 
 pub all_drop : {A : Type 0} (P : A → Type 0) (xs : List A) (n : ℕ) → AllByRecursion P xs → AllByRecursion P (drop n xs)
 all_drop P [] zero h = tt

@@ -1,6 +1,5 @@
 -- What devices rest on holds of every prompt trace.
-use Rattle.std.proofs.Common.{ℕ, ◌≡◌, ◌<◌, ◌^◌, true, ◌&&◌, List, [], ◌∷◌, length, reverse, Option, Some, None, refl, arith}
-use Rattle.std.proofs.lemmas.List.{length-reverse}
+use Rattle.std.proofs.Common.{◌≡◌, true, ◌&&◌, List, [], ◌∷◌, Option, Some, None, refl}
 use Rattle.bus_trace.specs.declared.Row.{Row}
 use Rattle.bus_trace.specs.declared.connection.Connection.{Connection}
 use Rattle.bus_trace.specs.Terms.{connection}
@@ -48,7 +47,3 @@ seams_hold s proved rows prompt few =
     let w = proved.written_are rows prompt in
     let d = rows_attended s proved.attended_are rows prompt in
     λ i. f i && (t i && (a i && (p i && (h i && (w i && d i)))))
-
--- The rows of a run are few.
-pub all_few : (items : List Row) (most : ℕ) → length items < most → most < 2 ^ 32 → length (reverse items) < 2 ^ 32
-all_few items most less below = let same = length-reverse items in omega (arith, less, below, same)

@@ -1,4 +1,3 @@
-pub mod Limits
 pub mod Disks
 pub mod Runs
 pub mod Members

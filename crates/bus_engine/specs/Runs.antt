@@ -1,5 +1,5 @@
 -- The run of a scenario.
-use Rattle.std.specs.Prelude.{ℕ, ◌≡◌, ◌<◌, ◌+◌, true, List, [], map, length, reverse, Option, Some, is_some}
+use Rattle.std.specs.Prelude.{◌≡◌, ◌<◌, ◌/◌, ◌-◌, ◌^◌, true, List, [], map, length, reverse, Option, Some, is_some}
 use Rattle.std.specs.List.{list_all}
 use Rattle.bus_trace.specs.declared.Row.{Row}
 use Rattle.bus_trace.specs.LineSet.{none}
@@ -7,6 +7,7 @@ use Rattle.bus_trace.specs.Trace.{bus, last_time}
 use Rattle.bus_due.specs.bus_rules.specs.Lawful.{IsLawful}
 use Rattle.scenario.specs.Value.{ScenarioValue}
 use Rattle.disk_array.specs.ArrayHistory.{array_after, disks_of}
+use Rattle.bus_due.specs.bus_story.specs.Budget.{budget}
 use Rattle.bus_due.specs.bus_story.specs.Outcomes as told
 use Rattle.bus_due.specs.bus_story.specs.Outcomes.{outcomes}
 use Rattle.bus_due.specs.bus_story.specs.Right.{all_carried}
@@ -16,13 +17,12 @@ use Rattle.bus_due.specs.Next.{IsPrompt, IsEnded}
 use Rattle.bus_due.specs.Plain.{AreOfDevices}
 use Rattle.run_record.specs.declared.outcome.Outcome.{Outcome}
 use Rattle.initiator.specs.Outcomes.{told_outcome}
-use Rattle.bus_run.specs.Runs.{AreEarly, IsLong}
+use Rattle.bus_run.specs.Runs.{AreEarly}
 use Rattle.run_record.specs.Value.{RunValue}
 use Rattle.transcript_laws.specs.bus_transcript.specs.Events.{TellsHistory}
 use Rattle.delivery_laws.specs.Delivery.{AreAnswered, AreCaused, AreChecked, AreOwnSenses, AreStoppedSenses, HaveStrikes, IsDelivered}
 use Rattle.delivery_laws.specs.Resets.{AreResets}
 use Rattle.delivery_laws.specs.bus_books.specs.WrongParity.{complains_truly}
-use Rattle.bus_engine.specs.Limits.{row_limit, step_limit}
 
 abbrev pub told_reply : Outcome → Option told.Outcome
 told_reply outcome = Some (told_outcome outcome)
@@ -63,18 +63,15 @@ pub record IsPromptRun (s : ScenarioValue) (run : RunValue) : Type 0 where
   pub stopped : AreStoppedSenses s (rows_of run)
   pub resets : AreResets s (rows_of run)
 
--- Each row is of one of the eight devices and comes before 2^62 ns, the end is the time of the last, the rows are fewer than the
--- budget allows, and there are as many replies as commands and as many disks as units.
+-- Each row is of one of the eight devices and comes before 2^62 ns, the end is the time of the last, the rows are fewer than an
+-- eighth of the budget, as each asks the eight devices, and fewer than 2^32 - 1, and there are as many replies as commands and
+-- as many disks as units.
 pub record IsRunOf (s : ScenarioValue) (run : RunValue) : Type 0 where
   pub told : IsPromptRun s run
   pub devices : AreOfDevices run.rows
   pub early : AreEarly run.rows
   pub end : run.end ≡ last_time (rows_of run)
-  pub few : length run.rows < row_limit s
+  pub few : length run.rows < budget s / 8
+  pub small : length run.rows < 2 ^ 32 - 1
   pub answered : length run.replies ≡ length s.commands
   pub stored : length run.disks ≡ length s.units
-
--- The run took all the steps that it may, and has not ended: the prompt trace of the scenario has as many rows, or more.
-pub record IsUnfinished (s : ScenarioValue) (before after : ℕ) : Type 0 where
-  pub long : IsLong s (row_limit s)
-  pub steps : after ≡ before + step_limit s

@@ -1,5 +1,5 @@
 //! The run of a scenario.
-ghost use Rattle.std.specs.Prelude.{ℕ, ◌≡◌, ◌≤◌, ◌+◌, [], true, List, IfOk, Err, map, length, reverse};
+ghost use Rattle.std.specs.Prelude.{ℕ, ◌≡◌, ◌≤◌, ◌+◌, [], true, List, IfOk, map, length, reverse};
 ghost use Rattle.std.specs.List.{AllByRecursion};
 ghost use Rattle.bus_trace.specs.declared.Row.{Row as TraceRow};
 ghost use Rattle.bus_trace.specs.Trace.{last_time};
@@ -7,6 +7,7 @@ ghost use Rattle.scenario.specs.Value.{ScenarioValue};
 ghost use Rattle.scenario.specs.Writing.{Obeys};
 ghost use Rattle.disk_array.specs.ArrayHistory.{array_after, disks_of};
 ghost use Rattle.disk_array.specs.SoundArray.{HasSeats};
+ghost use Rattle.bus_due.specs.bus_story.specs.Budget.{budget};
 ghost use Rattle.bus_due.specs.bus_story.specs.Outcomes.{outcomes};
 ghost use Rattle.bus_due.specs.bus_story.specs.TraceHistory.{trace_history};
 ghost use Rattle.bus_due.specs.Allowed.{allowed};
@@ -14,28 +15,23 @@ ghost use Rattle.bus_due.specs.Plain.{IsPlain};
 ghost use Rattle.bus_due.specs.RunSteps.{run_state};
 ghost use Rattle.delivery_laws.specs.scsi_device.specs.Lines.{FitsBus};
 ghost use Rattle.run_record.specs.Value.{held_by};
-ghost use Rattle.bus_run.specs.declared.running.RunEnd.TheVariants.{Unfinished};
 ghost use Rattle.bus_run.specs.Places.{AreIn};
 ghost use Rattle.bus_engine.specs.Answers.{are_answered};
 ghost use Rattle.bus_engine.specs.Members.{IsMember};
 ghost use Rattle.bus_engine.specs.Over.{AreOver};
 ghost use Rattle.bus_engine.specs.Disks.{IsWithin, have_targets};
-ghost use Rattle.bus_engine.specs.Limits.{step_limit};
-ghost use Rattle.bus_engine.specs.Runs.{told_reply, IsRunOf, IsUnfinished};
+ghost use Rattle.bus_engine.specs.Runs.{told_reply, IsRunOf};
 
-use crate::budget::most_rows;
 use crate::finishing::{disks, end_of, replies, units_by_target};
+use crate::laws::prompt_traces_tie_devices;
 use crate::member::{Member, runs_end};
 use crate::places::member_places;
 use bus_base::{NoMemory, Steps};
 use bus_due::{kept_is_plain, wants_are_items};
-use bus_run::{RunEnd, Trace, rows_tie_devices};
+use bus_run::{Trace, rows_tie_devices};
 use delivery_laws::the_bus_books::failures_have_strikes;
 use delivery_laws::the_right_laws::prompt_traces_are_right;
-use delivery_laws::the_trace_laws::{
-    connections_are_of_the_scenario, ends_know_what_rows_tell, limits_are_kept,
-    prompt_traces_keep_the_books,
-};
+use delivery_laws::the_trace_laws::limits_are_kept;
 use delivery_laws::{
     ended_traces_are_right, invalid_commands_are_checked, outcomes_have_causes, replies_last,
     resets_are_by_lines, senseless_checks_were_stopped, senses_are_their_own,
@@ -46,6 +42,7 @@ use disk_target::the_scsi_device::scenarios_fit_the_bus;
 use disk_target::the_target_units::units_hold_their_blocks;
 use disk_unit::SparseBlocks;
 use initiator::endings_have_causes;
+use measure_laws::runs_stay_within_budget;
 use run_record::Run;
 use scenario::{Scenario, UnitDef};
 use std::alloc::Global;
@@ -115,19 +112,16 @@ fn run_in<L: Ledger>(
     scenario: &Scenario,
     places: &mut [Option<Member>],
     steps: &mut Steps<L>,
-) -> Result<Run, RunEnd>
+) -> Result<Run, NoMemory>
     requires lawful { Obeys scenario.now }
     requires eight { length places.old ≡ 8 }
     ensures exact { AreIn IsMember scenario.now [] places.old → IfOk result (λ run. IsRunOf scenario.now run) }
-    ensures unfinished { AreIn IsMember scenario.now [] places.old
-        → result ≡ Err Unfinished → IsUnfinished scenario.now steps.old steps.new }
-    ensures steps { steps.new ≤ steps.old + step_limit scenario.now }
+    ensures steps { AreIn IsMember scenario.now [] places.old → steps.new ≤ steps.old + budget scenario.now }
 {
     rows_tie_devices();
+    prompt_traces_tie_devices();
+    runs_stay_within_budget();
     kept_is_plain();
-    prompt_traces_keep_the_books();
-    ends_know_what_rows_tell();
-    connections_are_of_the_scenario();
     ended_traces_are_right();
     prompt_traces_are_right();
     transcripts_follow_prompt_traces();
@@ -142,7 +136,7 @@ fn run_in<L: Ledger>(
     senses_are_their_own();
     replies_last();
     resets_are_by_lines();
-    let trace = bus_run::run(alloc, scenario, places, most_rows(scenario), steps)?;
+    let trace = bus_run::run(alloc, scenario, places, steps)?;
     Ok(finish(alloc, scenario, places, trace)?)
 }
 
@@ -151,16 +145,15 @@ fn run_in<L: Ledger>(
 ///
 /// # Errors
 ///
-/// `Unfinished` where it took all these steps and has not ended, `NoMemory` where memory ran out.
+/// Only where memory ran out.
 pub fn run<L: Ledger>(
     alloc: Global,
     scenario: &Scenario,
     steps: &mut Steps<L>,
-) -> Result<Run, RunEnd>
+) -> Result<Run, NoMemory>
     requires { Obeys scenario.now }
     ensures exact { IfOk result (λ run. IsRunOf scenario.now run) }
-    ensures unfinished { result ≡ Err Unfinished → IsUnfinished scenario.now steps.old steps.new }
-    ensures steps { steps.new ≤ steps.old + step_limit scenario.now }
+    ensures steps { steps.new ≤ steps.old + budget scenario.now }
 {
     let mut places = member_places(alloc, scenario)?;
     run_in(alloc, scenario, places.as_mut_slice(), steps)

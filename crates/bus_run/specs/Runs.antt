@@ -1,5 +1,5 @@
 -- What a run says of a prompt trace.
-use Rattle.std.specs.Prelude.{ℕ, ◌≡◌, ◌<◌, ◌^◌, List, length}
+use Rattle.std.specs.Prelude.{ℕ, ◌<◌, ◌^◌, List, length}
 use Rattle.std.specs.List.{AllByRecursion}
 use Rattle.bus_trace.specs.declared.Row.{Row}
 use Rattle.scenario.specs.Value.{ScenarioValue}
@@ -10,11 +10,9 @@ use Rattle.bus_due.specs.Next.{IsPrompt}
 abbrev pub AreEarly : List Row → Type 0
 AreEarly rows = AllByRecursion (λ (row : Row). row.time < 2 ^ 62) rows
 
--- The prompt trace of the scenario has so many rows, or more.
-pub record IsLong (s : ScenarioValue) (most : ℕ) : Type 0 where
-  pub rows : List Row
-  pub prompt : IsPrompt s rows
-  pub count : length rows ≡ most
+-- Every prompt trace of the scenario has fewer rows than this.
+abbrev pub AreFewer : ScenarioValue → ℕ → Type 0
+AreFewer s most = (rows : List Row) → IsPrompt s rows → length rows < most
 
 -- The observer has seen some such rows.
 pub record HasSeenEarly (o : ObserverValue) : Type 0 where

@@ -8,10 +8,10 @@
 //! as a relation between the device and the rows that it was told of (`IsOf`); `specs/Seams.antt` says what it may rest
 //! on beside. Stands on `scsi_device`, `bus_dialogue`, `bus_due` and `bus_laws`.
 //!
-//! Public contract: what [`run`] returns is the prompt trace of the scenario, after which nothing is due, with the
-//! history that its rows tell, where every prompt trace of the scenario ties what devices know to what rows tell
-//! (`SeamsHold`). Without that, each row is of one of the eight devices, the steps are eight for each row and eight
-//! more, and of rows and steps there are no more than were granted.
+//! Public contract: what [`run`] returns is the prompt trace of the scenario, after which nothing is due where it has
+//! fewer than 2^32 - 1 rows, with the history that its rows tell, where every prompt trace of the scenario ties what
+//! devices know to what rows tell (`SeamsHold`); and then it takes eight steps for each of as many rows as a prompt
+//! trace can have, at most. Without that, each row is of one of the eight devices, and the steps are bounded.
 #![tactic(auto)]
 
 mod asking;
@@ -29,6 +29,6 @@ mod trace;
 pub use device::Device;
 pub use faults::Faults;
 pub use laws::rows_tie_devices;
-pub use running::{RunEnd, run};
+pub use running::run;
 pub use shown::Shown;
 pub use trace::Trace;

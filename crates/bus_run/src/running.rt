@@ -1,6 +1,5 @@
 //! The run.
-ghost use Rattle.std.specs.Prelude.{ℕ, ◌≡◌, ◌<◌, ◌≤◌, ◌+◌, ◌*◌, ◌^◌, ◌∷◌, [], List, Err, IfOk, IfErr, reverse, length};
-ghost use Rattle.std.specs.List.{AllByRecursion};
+ghost use Rattle.std.specs.Prelude.{ℕ, ◌≡◌, ◌<◌, ◌≤◌, ◌+◌, ◌*◌, ◌^◌, ◌-◌, ◌∷◌, [], List, IfOk, reverse, length};
 ghost use Rattle.bus_trace.specs.declared.Row.{Row};
 ghost use Rattle.bus_lines.specs.Timely.{IsTimely};
 ghost use Rattle.scenario.specs.Value.{ScenarioValue};
@@ -10,10 +9,9 @@ ghost use Rattle.bus_due.specs.bus_dialogue.specs.Observer.{IsObserverOf};
 ghost use Rattle.bus_due.specs.Next.{next, IsPrompt, IsEnded};
 ghost use Rattle.bus_due.specs.Plain.{AreOfDevices};
 ghost use Rattle.bus_due.specs.RunSteps.{run_state};
-ghost use Rattle.bus_run.specs.declared.running.RunEnd.TheVariants.{NoMemory, Unfinished};
 ghost use Rattle.bus_run.specs.Away.{IsAwayIf};
 ghost use Rattle.bus_run.specs.Places.{AreIn};
-ghost use Rattle.bus_run.specs.Runs.{AreEarly, HasSeenEarly, IsLong};
+ghost use Rattle.bus_run.specs.Runs.{AreEarly, AreFewer, HasSeenEarly};
 ghost use Rattle.bus_run.specs.Seams.{SeamsHold};
 ghost use Rattle.bus_run.specs.Seen.{AreSeen};
 ghost use Rattle.bus_run.specs.Shown.{shown_events, events_shown};
@@ -37,25 +35,11 @@ use scenario::Scenario;
 use std::alloc::Global;
 use std::sync::ledger::Ledger;
 
-/// Why a run has no result.
-#[derive(Clone, Copy, Debug)]
-pub enum RunEnd {
-    /// Memory ran out.
-    NoMemory,
-    /// It made as many rows as it may, and has not ended.
-    Unfinished,
-}
-
-impl From<NoMemory> for RunEnd {
-    ghost from_gives = { λ _ e. e ≡ NoMemory };
-
-    fn from(_error: NoMemory) -> RunEnd {
-        RunEnd::NoMemory
-    }
-}
-
 /// No row comes as late as this, in ns.
 const END: Ns = 1 << 62;
+
+/// No run has more rows.
+const ROW_LIMIT: u64 = 0xffff_ffff;
 
 // The times of an observer of such rows.
 fn observers_are_timely(observer: &Observer)
@@ -94,23 +78,22 @@ fn tell<D: Device>(
     shown
 }
 
-/// The run of a scenario by these devices, each in the place of its ID, until nothing is due, in at most so many rows.
-/// Every place is a step for each row. Only the rows and the history take memory.
+/// The run of a scenario by these devices, each in the place of its ID, until nothing is due or it has 2^32 - 1 rows.
+/// Every place is a step for each row, and once more after the last. Only the rows and the history take memory.
 pub fn run<D: Device, L: Ledger>(
     alloc: Global,
     scenario: &Scenario,
     places: &mut [Option<D>],
-    most: u64,
     steps: &mut Steps<L>,
-) -> Result<Trace, RunEnd>
+) -> Result<Trace, NoMemory>
     requires lawful { Obeys scenario.now }
     requires eight { length places.old ≡ 8 }
-    requires most { most < 2 ^ 32 }
-    // It is the prompt trace of the scenario, whole,
+    // It is the prompt trace of the scenario, whole unless it was cut at that many rows,
     ensures prompt { SeamsHold scenario.now → AreIn D.IsOf scenario.now [] places.old
         → IfOk result (λ trace. IsPrompt scenario.now (reverse trace.rows.items)) }
     ensures ended { SeamsHold scenario.now → AreIn D.IsOf scenario.now [] places.old
-        → IfOk result (λ trace. IsEnded scenario.now (reverse trace.rows.items)) }
+        → IfOk result (λ trace. length trace.rows.items < 2 ^ 32 - 1
+        → IsEnded scenario.now (reverse trace.rows.items)) }
     // with what it tells,
     ensures history { SeamsHold scenario.now → AreIn D.IsOf scenario.now [] places.old
         → IfOk result (λ trace. reverse trace.history.items
@@ -118,15 +101,13 @@ pub fn run<D: Device, L: Ledger>(
     // of which every device was told.
     ensures places { SeamsHold scenario.now → AreIn D.IsOf scenario.now [] places.old
         → IfOk result (λ trace. AreIn D.IsOf scenario.now (reverse trace.rows.items) places.new) }
-    // It is unfinished only where the prompt trace has so many rows, and each took its eight steps.
-    ensures unfinished { SeamsHold scenario.now → AreIn D.IsOf scenario.now [] places.old
-        → result ≡ Err Unfinished → IsLong scenario.now most × (steps.new ≡ steps.old + 8 * most) }
+    // Where every prompt trace has fewer rows than this, so many rows are all that are asked for.
+    ensures within { (most : ℕ) → SeamsHold scenario.now → AreIn D.IsOf scenario.now [] places.old
+        → AreFewer scenario.now most → steps.new ≤ steps.old + 8 * most }
     // Whatever the devices are:
     ensures devices { IfOk result (λ trace. AreOfDevices (reverse trace.rows.items)) }
     ensures early { IfOk result (λ trace. AreEarly (reverse trace.rows.items)) }
-    ensures few { IfOk result (λ trace. length trace.rows.items < most) }
-    ensures counted { IfOk result (λ trace. steps.new ≡ steps.old + 8 * (length trace.rows.items + 1)) }
-    ensures steps { steps.new ≤ steps.old + 8 * most }
+    ensures steps { steps.new ≤ steps.old + 8 * (2 ^ 32 - 1) }
 {
     scenarios_fit_the_bus();
     rows_come_in_time();
@@ -136,7 +117,8 @@ pub fn run<D: Device, L: Ledger>(
     let mut faults = Faults::new(alloc, scenario.faults.as_slice())?;
     let mut away: Option<Away> = None;
     let mut first: Option<Row> = None;
-    for _ in 0..most {
+    // Devices need not ever have nothing due.
+    for _ in 0..ROW_LIMIT {
         observers_are_timely(&observer);
         next(
             &mut first,
@@ -149,12 +131,13 @@ pub fn run<D: Device, L: Ledger>(
         let Some(row) = &first else {
             return Ok(trace);
         };
+        // No row of a prompt trace of so few rows is as late.
         if row.time >= END {
-            return Err(RunEnd::Unfinished);
+            return Ok(trace);
         }
         let shown = tell(places, &mut away, &mut observer, row);
         faults.see(row.kind);
         trace.add(row, shown)?;
     }
-    Err(RunEnd::Unfinished)
+    Ok(trace)
 }

@@ -1,22 +1,22 @@
-use Rattle.std.proofs.Common.{Err, Result, ◌*◌, ◌+◌, ℕ, ◌≡◌, ◌<◌, ◌^◌, ◌∙◌, true, List, length, reverse, sym, ap, subst}
+use Rattle.std.proofs.Common.{◌*◌, ◌+◌, ◌-◌, ◌/◌, ℕ, ◌≡◌, ◌<◌, ◌≤◌, ◌^◌, ◌∙◌, true, List, length, reverse, sym, ap, subst, arith}
 use Rattle.std.specs.Prelude.{is_some, Option}
 use Rattle.std.specs.List.{list_all}
-use Rattle.std.proofs.lemmas.List.{reverse-reverse}
-use Rattle.std.proofs.lemmas.Result.{err_from_is_err_and}
+use Rattle.std.proofs.lemmas.List.{length-reverse, reverse-reverse}
 use Rattle.bus_base.specs.declared.Event.{Event}
 use Rattle.bus_trace.specs.declared.Row.{Row}
 use Rattle.bus_trace.specs.LineSet.{none}
 use Rattle.bus_trace.specs.Trace.{bus, last_time}
 use Rattle.bus_due.specs.bus_rules.specs.Lawful.{IsLawful}
 use Rattle.disk_array.specs.ArrayHistory.{array_after, disks_of}
+use Rattle.scenario.specs.Value.{ScenarioValue}
+use Rattle.bus_due.specs.bus_story.specs.Budget.{budget}
 use Rattle.bus_due.specs.bus_story.specs.Outcomes.{outcomes}
 use Rattle.bus_due.specs.bus_story.specs.Samples.{expected_strikes, row_strikes}
 use Rattle.bus_due.specs.bus_story.specs.Story.{Story}
 use Rattle.bus_due.specs.bus_story.specs.TraceHistory.{story, trace_history}
 use Rattle.bus_due.specs.Next.{IsPrompt, IsEnded}
 use Rattle.bus_due.specs.Plain.{AreOfDevices}
-use Rattle.bus_run.specs.Runs.{AreEarly, IsLong}
-use Rattle.bus_run.specs.declared.running.RunEnd.{RunEnd}
+use Rattle.bus_run.specs.Runs.{AreEarly}
 use Rattle.bus_due.specs.bus_story.specs.Right.{all_carried}
 use Rattle.transcript_laws.specs.bus_transcript.specs.Events.{TellsHistory}
 use Rattle.delivery_laws.specs.progress_laws.proofs.Ended.{joined}
@@ -24,14 +24,12 @@ use Rattle.bus_due.specs.bus_story.specs.Outcomes.{Outcome}
 use Rattle.delivery_laws.specs.Delivery.{AreAnswered, AreCaused, AreChecked, AreOwnSenses, AreStoppedSenses, HaveStrikes, IsDelivered}
 use Rattle.delivery_laws.specs.Resets.{AreResets}
 use Rattle.delivery_laws.specs.bus_books.specs.WrongParity.{complains_truly}
-use Rattle.bus_engine.specs.Limits.{row_limit}
 use Rattle.bus_engine.proofs.Answered.{all_answered}
 use Rattle.bus_engine.proofs.Items.{all_reversed}
-use Rattle.bus_engine.proofs.Seams.{IsProved, all_few, seams_hold}
 use Rattle.bus_engine.proofs.running.run_in.Goals as goal
 
-same_end : {T : Type 0} {x y : RunEnd} → (let r : Result T RunEnd = Err x in r) ≡ Err y → x ≡ y
-same_end e = cc
+within_budget : (s : ScenarioValue) (before after : ℕ) → after ≤ before + 8 * (budget s / 8) → after ≤ before + budget s
+within_budget s before after h = omega (arith, h)
 
 lawful_at : (rows all : List Row) (end time : ℕ) → rows ≡ all → end ≡ time → IsLawful (reverse all) time → IsLawful (reverse rows) end
 lawful_at rows all end time r e h = subst (λ (l : List Row). IsLawful (reverse l) end) (sym r) (subst (λ (n : ℕ). IsLawful (reverse all) n) (sym e) h)
@@ -42,23 +40,15 @@ returns-clause-exact g c = λ at.
     let items = c.in_ok-trace.trace.rows.items in
     let all : List Row = reverse c.in_ok-trace.trace.rows.items in
     let r = c.in_ok-finish.ensures.rows in
-    let proved : IsProved s = record {
-      faithful_are = λ rows p. c.prompt_traces_keep_the_books.ensures.faithful s rows c.requires.lawful p;
-      telling_are = λ rows p. c.ends_know_what_rows_tell.ensures.telling s rows c.requires.lawful p;
-      allowed_are = λ rows p. c.ends_know_what_rows_tell.ensures.allowed s rows c.requires.lawful p;
-      ends_are = λ rows p. c.connections_are_of_the_scenario.ensures.ends s rows c.requires.lawful p;
-      heard_are = λ rows p. c.ends_know_what_rows_tell.ensures.heard s rows c.requires.lawful p;
-      written_are = λ rows p. c.ends_know_what_rows_tell.ensures.written s rows c.requires.lawful p;
-      attended_are = λ rows row p. c.ends_know_what_rows_tell.ensures.attended s rows row c.requires.lawful p;
-    } in
     let plain = c.kept_is_plain.ensures.rows s all c.in_ok-trace.ensures.devices in
+    let h = c.prompt_traces_tie_devices.ensures s c.requires.lawful in
+    let prompt = c.in_ok-trace.ensures.prompt h at in
+    let small : length all < 2 ^ 32 - 1 = c.runs_stay_within_budget.ensures.small s all c.requires.lawful prompt in
     record {
       told =
-          let h = seams_hold s proved in
-          let few = all_few items c.most_rows.result c.in_ok-trace.ensures.few c.most_rows.ensures.few in
-          let prompt = c.in_ok-trace.ensures.prompt h at in
           let places = c.in_ok-trace.ensures.places h at in
-          let ended = c.in_ok-trace.ensures.ended h at in
+          let few : length all < 2 ^ 32 = omega (arith, small) in
+          let ended = c.in_ok-trace.ensures.ended h at (omega (arith, small, length-reverse items)) in
           let right = c.ended_traces_are_right.ensures s all c.requires.lawful prompt ended in
           record {
             prompt = subst (λ (l : List Row). IsPrompt s (reverse l)) (sym r) prompt;
@@ -105,27 +95,26 @@ returns-clause-exact g c = λ at.
       devices = subst (λ (l : List Row). AreOfDevices l) (sym r) (all_reversed (λ (row : Row). row.dev < 8) items c.in_ok-trace.ensures.devices);
       early = subst (λ (l : List Row). AreEarly l) (sym r) (all_reversed (λ (row : Row). row.time < 2 ^ 62) items c.in_ok-trace.ensures.early);
       end = c.in_ok-finish.ensures.end ∙ ap (λ (l : List Row). last_time (reverse l)) (sym r);
-      few = subst (λ (l : List Row). length l < row_limit s) (sym r) (subst (λ (n : ℕ). length c.in_ok-trace.trace.rows.items < n) c.most_rows.ensures.exact c.in_ok-trace.ensures.few);
+      few = subst (λ (l : List Row). length l < budget s / 8) (sym r) (subst (λ (n : ℕ). n < budget s / 8) (length-reverse items) (c.runs_stay_within_budget.ensures.few s all c.requires.lawful prompt));
+      small = subst (λ (l : List Row). length l < 2 ^ 32 - 1) (sym r) (omega (arith, small, length-reverse items));
       answered = c.in_ok-finish.ensures.answered;
       stored = c.in_ok-finish.ensures.stored;
     }
 
-pub returns-in_err-trace-clause-unfinished : goal.returns-in_err-trace-clause-unfinished
-returns-in_err-trace-clause-unfinished g c = λ at e.
+pub returns-clause-steps : goal.returns-clause-steps
+returns-clause-steps g c = λ at.
     let s = c.args.scenario.now in
-    let proved : IsProved s = record {
-      faithful_are = λ rows p. c.prompt_traces_keep_the_books.ensures.faithful s rows c.requires.lawful p;
-      telling_are = λ rows p. c.ends_know_what_rows_tell.ensures.telling s rows c.requires.lawful p;
-      allowed_are = λ rows p. c.ends_know_what_rows_tell.ensures.allowed s rows c.requires.lawful p;
-      ends_are = λ rows p. c.connections_are_of_the_scenario.ensures.ends s rows c.requires.lawful p;
-      heard_are = λ rows p. c.ends_know_what_rows_tell.ensures.heard s rows c.requires.lawful p;
-      written_are = λ rows p. c.ends_know_what_rows_tell.ensures.written s rows c.requires.lawful p;
-      attended_are = λ rows row p. c.ends_know_what_rows_tell.ensures.attended s rows row c.requires.lawful p;
-    } in
-    let p = err_from_is_err_and c.from_residual.result c.from_residual.ensures.1 in
-    let is = sym p.2 ∙ same_end (sym p.1 ∙ e) in
-    let u = c.in_err-trace.ensures.unfinished (seams_hold s proved) at (ap (λ (x : RunEnd). Err x) is) in
-    record {
-      long = subst (λ (n : ℕ). IsLong s n) c.most_rows.ensures.exact u.0;
-      steps = u.1 ∙ ap (λ (n : ℕ). c.args.steps.now + 8 * n) c.most_rows.ensures.exact;
-    }
+    within_budget s c.args.steps.now c.run.new.steps
+    (c.in_ok-trace.ensures.within (budget s / 8) (c.prompt_traces_tie_devices.ensures s c.requires.lawful) at (λ rows p. c.runs_stay_within_budget.ensures.few s rows c.requires.lawful p))
+
+pub returns-in_err-trace-clause-steps : goal.returns-in_err-trace-clause-steps
+returns-in_err-trace-clause-steps g c = λ at.
+    let s = c.args.scenario.now in
+    within_budget s c.args.steps.now c.run.new.steps
+    (c.in_err-trace.ensures.within (budget s / 8) (c.prompt_traces_tie_devices.ensures s c.requires.lawful) at (λ rows p. c.runs_stay_within_budget.ensures.few s rows c.requires.lawful p))
+
+pub returns-in_err-finish-clause-steps : goal.returns-in_err-finish-clause-steps
+returns-in_err-finish-clause-steps g c = λ at.
+    let s = c.args.scenario.now in
+    within_budget s c.args.steps.now c.run.new.steps
+    (c.in_ok-trace.ensures.within (budget s / 8) (c.prompt_traces_tie_devices.ensures s c.requires.lawful) at (λ rows p. c.runs_stay_within_budget.ensures.few s rows c.requires.lawful p))
