@@ -1,7 +1,6 @@
 -- Where a process goes on with its data, where it is disconnected, and where its status follows (6.6.6, 6.6.20).
-use Rattle.std.specs.Prelude.{ℕ, ◌+◌, ◌≡◌, ◌⊎◌, Bool, true, false, not, ◌&&◌, List, [], ◌∷◌, Some, None, nat_lt, if◌then◌else◌}
+use Rattle.std.specs.Prelude.{ℕ, ◌≡◌, ◌⊎◌, Bool, false, not, ◌&&◌, List, ◌∷◌, Some, nat_lt, if◌then◌else◌}
 use Rattle.bus_due.specs.bus_base.specs.declared.Event.{Event}
-use Rattle.bus_due.specs.bus_base.specs.declared.Event.TheVariants as events
 use Rattle.bus_due.specs.bus_trace.specs.Trace.{bus}
 use Rattle.bus_due.specs.bus_trace.specs.declared.Row.{Row}
 use Rattle.bus_due.specs.scenario.specs.Value.{ScenarioValue}
