@@ -67,7 +67,7 @@ pub record Follows (s : ScenarioValue) (rows : List Row) (row : Row) (phase : Ph
 
 -- ---- what is left of the data
 
--- The process, not yet answered, has a data run to make.
+-- The process has no reply, and a data run to make.
 abbrev pub has_run_left : Policy → Task → Bool
 has_run_left policy t = not t.replied && nat_lt t.runs (runs_in_all policy t)
 

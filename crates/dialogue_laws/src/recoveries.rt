@@ -73,8 +73,8 @@ pub fn wrong_parity_is_recovered()
 
 /// As the target leaves a phase to the initiator with ATN true MESSAGE OUT follows, and the initiator says what it
 /// complains of: INITIATOR DETECTED ERROR after DATA IN (`data_in`) and after STATUS (`status`), MESSAGE PARITY ERROR
-/// where the last byte of MESSAGE IN was struck (`message`). In DATA IN ATN is true then exactly where a byte of the run
-/// was struck, so that the process would fail (`struck`).
+/// where the last byte of MESSAGE IN was struck (`message`). In DATA IN ATN is true then exactly where a byte of the
+/// run was struck, so that the process would fail (`struck`).
 pub fn complaints_follow()
     ensures data_in { (s : ScenarioValue) (rows : List Row) (row : Row) (n : Connection) (p : Process) → Obeys s
         → IsPrompt s (row ∷ rows) → LeavesPhase s rows row n p → phase_of (bus rows) ≡ phases.DataIn
