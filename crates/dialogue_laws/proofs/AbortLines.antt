@@ -1,20 +1,18 @@
 -- Row by row of a prompt trace: each abort line is sent, dropped or still to be sent; and at its end none is to be sent.
 use Rattle.std.proofs.Common.{inl, inr, ℕ, zero, suc, ◌≡◌, ◌⊎◌, ◌<◌, ◌≤◌, ◌+◌, Bool, true, false, not, ◌&&◌, ◌||◌, ◌∙◌, List, [], ◌∷◌, ◌++◌, Option, Some, None, refl, sym, ap, subst, arith}
-use Rattle.std.specs.Prelude.{if◌then◌else◌, ◌==◌, is_none, is_some, nat_lt}
+use Rattle.std.specs.Prelude.{if◌then◌else◌, ◌==◌, is_none, nat_lt}
 use Rattle.std.specs.List.{list_any}
-use Rattle.std.proofs.lemmas.Bool.{eqb-true, ltb-true, ltb-false, or_parts}
+use Rattle.std.proofs.lemmas.Bool.{ltb-true, ltb-false}
 use Rattle.std.proofs.lemmas.Option.{same_Some}
-use Rattle.bus_due.specs.bus_base.proofs.Tests.{and_first, and_second, eq_self, wrong, wrong'}
+use Rattle.bus_due.specs.bus_base.proofs.Tests.{eq_self, wrong, wrong'}
 use Rattle.bus_due.specs.bus_base.specs.declared.Event.{Event}
 use Rattle.bus_due.specs.bus_base.specs.declared.Event.TheVariants as events
-use Rattle.bus_due.specs.bus_base.specs.declared.ProcId.{ProcId}
 use Rattle.bus_due.specs.bus_trace.specs.declared.Row.{Row}
 use Rattle.bus_due.specs.bus_trace.specs.declared.changes.Change.{Change}
-use Rattle.bus_due.specs.bus_trace.specs.declared.connection.Connection.{Connection}
 use Rattle.bus_due.specs.bus_trace.specs.declared.selection.Call.{Call}
 use Rattle.bus_due.specs.bus_trace.specs.declared.selection.Calling.{Calling}
 use Rattle.bus_due.specs.bus_trace.specs.Changes.{change_of, falls}
-use Rattle.bus_due.specs.bus_trace.specs.Terms.{call, connection, connection_after}
+use Rattle.bus_due.specs.bus_trace.specs.Terms.{connection, connection_after}
 use Rattle.bus_due.specs.bus_trace.specs.Trace.{bus}
 use Rattle.bus_due.specs.cdb_codec.specs.declared.status.TheConstants.{CHECK_CONDITION}
 use Rattle.bus_due.specs.scenario.specs.declared.value.AbortDef.{AbortDef}
@@ -27,30 +25,28 @@ use Rattle.bus_due.specs.bus_story.specs.Items.{Item, Sent, abort, count_item, h
 use Rattle.bus_due.specs.bus_story.specs.Story.{Ending, Story, by_abort, by_reset, by_status, is_aborted, is_sense_stopped, story_after_event, story_after_events, story_with_end, story_with_end_if, story_with_ends, story_with_over}
 use Rattle.bus_due.specs.bus_story.specs.TraceHistory.{aim_of, is_arbitration_entry, is_counted, retries_of, story_after_calling, story_after_calling_by, story_by_change, story_on_bus, story_on_free_bus, story_with_aim, story_with_try, story_without_answer}
 use Rattle.bus_due.specs.bus_reactions.specs.Reactions.{sooner_time, time_if}
-use Rattle.bus_due.specs.bus_dialogue.specs.Wants.{abort_since, item_since}
-use Rattle.bus_due.specs.Next.{IsEnded, IsPrompt}
+use Rattle.bus_due.specs.bus_dialogue.specs.Wants.{abort_since}
+use Rattle.bus_due.specs.Next.{IsPrompt}
 use Rattle.bus_due.specs.Plain.{IsPlain}
 use Rattle.bus_due.specs.RunState.{RunState}
-use Rattle.bus_due.specs.RunSteps.{run_state, run_state_after}
-use Rattle.bus_due.specs.Wants.{book_of, item_want_time, own_abort, own_aborts, ready_of, ready_time, want_time}
+use Rattle.bus_due.specs.RunSteps.{run_state}
+use Rattle.bus_due.specs.Wants.{item_want_time, own_abort, own_aborts, ready_of, ready_time, want_time}
 use Rattle.bus_due.proofs.Plains.{run_state_plain}
 use Rattle.progress_laws.specs.scsi_device.specs.Lines.{IsAbortLine}
 use Rattle.progress_laws.specs.scsi_device.proofs.FitLines.{abort_fits, obeys_fits}
 use Rattle.progress_laws.specs.bus_books.specs.Items.{IsItem, is_abort, is_process}
 use Rattle.progress_laws.specs.bus_books.specs.Traces.{RowOf, apart as row_apart, begins, goes_on, ends, under_reset}
 use Rattle.progress_laws.specs.bus_books.proofs.Aims.{aims_are}
-use Rattle.progress_laws.specs.bus_laws.specs.Stages.{BusStage}
 use Rattle.progress_laws.specs.bus_laws.proofs.Apart.{change_plain}
 use Rattle.progress_laws.specs.bus_laws.proofs.Prompt.{least_is}
 use Rattle.progress_laws.specs.link_laws.specs.LinkStages.{AnyStage, apart, linked}
-use Rattle.progress_laws.specs.trace_laws.specs.ItemFacts.{ItemFacts}
 use Rattle.progress_laws.specs.trace_laws.proofs.FirstItems.{next_unended, next_unsent}
 use Rattle.progress_laws.specs.trace_laws.proofs.FirstTalks.{first_sent, sent_with}
 use Rattle.progress_laws.specs.trace_laws.proofs.FreshItems.{items_fresh}
 use Rattle.progress_laws.specs.trace_laws.proofs.Impossible.{none_some}
 use Rattle.progress_laws.specs.trace_laws.proofs.ItemFacts.{falls_quiet}
 use Rattle.progress_laws.specs.trace_laws.proofs.ItemSteps.{free_still}
-use Rattle.progress_laws.specs.trace_laws.proofs.Joint.{NextStood, Stood, link_connection}
+use Rattle.progress_laws.specs.trace_laws.proofs.Joint.{NextStood, link_connection}
 use Rattle.progress_laws.specs.trace_laws.proofs.OpenCommands.{item_is}
 use Rattle.progress_laws.specs.trace_laws.proofs.PointerWaits.{connection_sent}
 use Rattle.progress_laws.specs.trace_laws.proofs.Whole.{Whole, standing_next, whole}

@@ -1,7 +1,6 @@
 -- Row by row of a prompt trace: the connection that began for an abort line stands, or its end was told, or RST cut it.
-use Rattle.std.proofs.Common.{inl, inr, ℕ, ◌≡◌, ◌⊎◌, ◌<◌, Bool, true, false, not, ◌&&◌, ◌||◌, ◌∙◌, List, [], ◌∷◌, ◌++◌, Option, Some, None, refl, sym, ap, subst}
-use Rattle.std.specs.Prelude.{if◌then◌else◌, ◌==◌, is_none, is_some}
-use Rattle.std.specs.List.{list_any}
+use Rattle.std.proofs.Common.{inl, inr, ℕ, ◌≡◌, ◌⊎◌, ◌<◌, Bool, true, false, ◌&&◌, ◌||◌, ◌∙◌, List, [], ◌∷◌, ◌++◌, Option, Some, None, refl, sym, ap}
+use Rattle.std.specs.Prelude.{if◌then◌else◌, is_some}
 use Rattle.std.proofs.lemmas.Bool.{or_left, or_right}
 use Rattle.std.proofs.lemmas.Option.{same_Some}
 use Rattle.bus_due.specs.bus_base.proofs.Tests.{eq_self, wrong, wrong'}
@@ -11,7 +10,6 @@ use Rattle.bus_due.specs.bus_base.specs.declared.Event.{Event}
 use Rattle.bus_due.specs.bus_base.specs.declared.Event.TheVariants as events
 use Rattle.bus_due.specs.bus_trace.specs.declared.Row.{Row}
 use Rattle.bus_due.specs.bus_trace.specs.declared.changes.Change.{Change}
-use Rattle.bus_due.specs.bus_trace.specs.declared.connection.Connection.{Connection}
 use Rattle.bus_due.specs.bus_trace.specs.Changes.{change_of, rises}
 use Rattle.bus_due.specs.bus_trace.specs.LineSet.{LineSet}
 use Rattle.bus_due.specs.bus_trace.specs.Terms.{connection, connection_after}
@@ -22,14 +20,13 @@ use Rattle.bus_due.specs.scenario.specs.Writing.{Obeys}
 use Rattle.bus_due.specs.bus_story.specs.BusState.{RowReading, row_reading}
 use Rattle.bus_due.specs.bus_story.specs.HistoryEvents.{abort_line_at, abort_line_events, bus_free_events, connection_events, item_abort_events, link_events, row_events_by}
 use Rattle.bus_due.specs.bus_story.specs.Items.{Item, Sent, abort, has_item, process, same_item}
-use Rattle.bus_due.specs.bus_story.specs.Links.{LastMessage, Link, abortive}
-use Rattle.bus_due.specs.bus_story.specs.Story.{Story, story_after_events}
+use Rattle.bus_due.specs.bus_story.specs.Links.{abortive}
 use Rattle.bus_due.specs.bus_story.specs.TraceHistory.{aim_of, story_by_change, story_on_bus}
 use Rattle.bus_due.specs.bus_story.proofs.StorySteps.{events_sent}
 use Rattle.bus_due.specs.Next.{IsPrompt}
 use Rattle.bus_due.specs.Plain.{IsPlain}
 use Rattle.bus_due.specs.RunState.{RunState, bus_of}
-use Rattle.bus_due.specs.RunSteps.{run_state, run_state_after, served_after, item_if}
+use Rattle.bus_due.specs.RunSteps.{run_state, served_after, item_if}
 use Rattle.bus_due.specs.Telling.{same_event, same_kind}
 use Rattle.bus_due.specs.Wants.{ready_of}
 use Rattle.bus_due.proofs.Plains.{run_state_plain}

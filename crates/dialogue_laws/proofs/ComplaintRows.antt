@@ -1,10 +1,9 @@
 -- As the target leaves a phase to the initiator with ATN true MESSAGE OUT follows, and the initiator says what it complains of.
-use Rattle.std.proofs.Common.{ℕ, ◌≡◌, Bool, true, false, not, ◌∙◌, List, [], ◌∷◌, Option, Some, None, refl, sym, ap}
+use Rattle.std.proofs.Common.{ℕ, ◌≡◌, Bool, true, false, not, ◌∙◌, List, ◌∷◌, Option, Some, refl, sym, ap}
 use Rattle.std.specs.Prelude.{if◌then◌else◌, ◌&&◌}
 use Rattle.std.proofs.lemmas.Option.{same_Some}
 use Rattle.bus_due.specs.bus_trace.specs.LineSet.{LineSet}
 use Rattle.bus_due.specs.bus_trace.specs.Phases.{is_message_in}
-use Rattle.bus_due.specs.bus_trace.specs.Terms.{connection}
 use Rattle.bus_due.specs.bus_trace.specs.Trace.{bus}
 use Rattle.bus_due.specs.bus_trace.specs.declared.Row.{Row}
 use Rattle.bus_due.specs.bus_trace.specs.declared.connection.Connection.{Connection}
@@ -13,7 +12,6 @@ use Rattle.bus_due.specs.cdb_codec.specs.declared.sense.TheConstants.{INITIATOR_
 use Rattle.bus_due.specs.scenario.specs.Value.{ScenarioValue}
 use Rattle.bus_due.specs.scenario.specs.Writing.{Obeys}
 use Rattle.bus_due.specs.disk_array.specs.Processes.{Process}
-use Rattle.bus_due.specs.bus_story.specs.CarriedBytes.{CarriedBytes}
 use Rattle.bus_due.specs.bus_dialogue.specs.NextPhase.{phase_of}
 use Rattle.bus_due.specs.bus_dialogue.specs.Planning.{cause_after}
 use Rattle.bus_due.specs.bus_dialogue.specs.Words.{answer_bytes, detected_error, parity_error}
@@ -27,13 +25,13 @@ use Rattle.bus_due.specs.Plain.{IsPlain}
 use Rattle.bus_due.specs.RunState.{RunState, bus_of, carried_here}
 use Rattle.bus_due.specs.RunSteps.{run_state}
 use Rattle.bus_due.proofs.Plains.{run_state_plain}
-use Rattle.bus_due.specs.bus_base.proofs.Tests.{wrong, wrong'}
+use Rattle.bus_due.specs.bus_base.proofs.Tests.{wrong'}
 use Rattle.progress_laws.specs.trace_laws.specs.Tells.{code_if}
 use Rattle.progress_laws.specs.trace_laws.proofs.ComplaintTurns.{left_for_out}
 use Rattle.progress_laws.specs.trace_laws.proofs.PointerLeavings.{is_attended}
 use Rattle.progress_laws.specs.trace_laws.proofs.SentFailures.{sent_asks}
 use Rattle.dialogue_laws.specs.Recoveries.{Complains, present_phase}
-use Rattle.dialogue_laws.proofs.PhaseEnds.{PhaseEnd, words_by}
+use Rattle.dialogue_laws.proofs.PhaseEnds.{words_by}
 use Rattle.dialogue_laws.proofs.RecoveryRows.{Left, id_served, phase_is}
 
 -- ---- lines of a phase

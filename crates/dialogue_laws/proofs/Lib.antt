@@ -9,3 +9,4 @@ pub mod RunBytes
 mod Turns
 mod TurnCases
 pub mod ComplaintRows
+pub mod GiveUpRows

@@ -1,10 +1,9 @@
 -- A row of a prompt trace with which a phase that has begun is left: for the phase, or for BUS FREE, that the target is due to go to.
-use Rattle.std.proofs.Common.{inl, inr, ℕ, ◌≡◌, ◌⊎◌, ◌+◌, Bool, true, false, not, ◌&&◌, ◌||◌, ◌∙◌, List, [], ◌∷◌, Option, Some, None, refl, sym, ap, subst}
+use Rattle.std.proofs.Common.{inl, inr, ℕ, ◌≡◌, ◌⊎◌, Bool, true, false, not, ◌&&◌, ◌||◌, ◌∙◌, List, [], ◌∷◌, Option, Some, None, refl, sym, ap}
 use Rattle.std.specs.Prelude.{if◌then◌else◌, is_some}
-use Rattle.bus_due.specs.bus_base.proofs.Tests.{wrong, wrong'}
+use Rattle.bus_due.specs.bus_base.proofs.Tests.{wrong}
 use Rattle.bus_due.specs.bus_base.specs.declared.Event.{Event}
 use Rattle.bus_due.specs.bus_base.specs.declared.Event.TheVariants as events
-use Rattle.bus_due.specs.bus_base.specs.declared.ProcId.{ProcId}
 use Rattle.bus_due.specs.bus_trace.specs.Changes.{change_of, rises}
 use Rattle.bus_due.specs.bus_trace.specs.LineSet.{LineSet}
 use Rattle.bus_due.specs.bus_trace.specs.Phases.{changes_phase, is_message_in, is_message_out}
@@ -20,10 +19,9 @@ use Rattle.bus_due.specs.bus_dialogue.specs.declared.exchange.Hearing.{Hearing}
 use Rattle.bus_due.specs.bus_dialogue.specs.declared.exchange.Leaving.{Leaving}
 use Rattle.bus_due.specs.bus_dialogue.specs.declared.exchange.Phase.{Phase}
 use Rattle.bus_due.specs.bus_dialogue.specs.declared.exchange.Phase.TheVariants as phases
-use Rattle.bus_due.specs.bus_dialogue.specs.declared.exchange.Plan.{Plan}
 use Rattle.bus_due.specs.bus_dialogue.specs.Exchange.{Exchange, plan_anew, speech_of}
-use Rattle.bus_due.specs.bus_dialogue.specs.NextPhase.{Serving, leaving_by, phase_leaving, phase_of}
-use Rattle.bus_due.specs.bus_dialogue.specs.Planning.{cause_after, plan_in_message_out, plan_in_phase}
+use Rattle.bus_due.specs.bus_dialogue.specs.NextPhase.{leaving_by, phase_leaving, phase_of}
+use Rattle.bus_due.specs.bus_dialogue.specs.Planning.{cause_after, plan_in_message_out}
 use Rattle.bus_due.specs.bus_trace.specs.declared.agreements.Agreement.{Agreement}
 use Rattle.bus_due.specs.scenario.specs.declared.value.HostDef.{HostDef}
 use Rattle.bus_due.specs.bus_dialogue.specs.Speaking.{words_after}
@@ -223,13 +221,14 @@ phase_end s p row n o prompt w = by r.facts
             ∙ (λ j. if turned j && w.begun j then progress_by_leaving k (process_served s k) l else k.progress)
 
         says : present_phase q ≡ Some phases.MessageOut → ((run_state s q).exchange.plan.cause ≡ cause_after (bus_of k)) × ((run_state s q).exchange.speech.words ≡ words_by (host_of s n.initiator) (bus_of k) k.handshakes.struck k.exchange.speech.asked)
-        says e =
-            (ap (λ (x : Exchange). x.plan.cause) i.exchange_is
-            ∙ (λ j. (if not (out j) then record (plan_anew k.exchange.plan) { messages = l.messages; next = l.next } else if w.begun j then plan_in_message_out hearing k.exchange.plan else plan_anew k.exchange.plan).cause)
-            ∙ ap cause_after (sym g.row_is.bus_is),
-             ap (λ (x : Exchange). x.speech.words) i.exchange_is
-            ∙ (λ j. (if out j && w.begun j then speech_of k.exchange.speech (words_after (host_of s n.initiator) hearing k.exchange.speech.asked) else record k.exchange.speech { place = 0 }).words)
-            ∙ ap (λ (x : LineSet). words_by (host_of s n.initiator) x k.handshakes.struck k.exchange.speech.asked) (sym g.row_is.bus_is))
+        says e = (
+          ap (λ (x : Exchange). x.plan.cause) i.exchange_is
+              ∙ (λ j. (if not (out j) then record (plan_anew k.exchange.plan) { messages = l.messages; next = l.next } else if w.begun j then plan_in_message_out hearing k.exchange.plan else plan_anew k.exchange.plan).cause)
+              ∙ ap cause_after (sym g.row_is.bus_is),
+          ap (λ (x : Exchange). x.speech.words) i.exchange_is
+              ∙ (λ j. (if out j && w.begun j then speech_of k.exchange.speech (words_after (host_of s n.initiator) hearing k.exchange.speech.asked) else record k.exchange.speech { place = 0 }).words)
+              ∙ ap (λ (x : LineSet). words_by (host_of s n.initiator) x k.handshakes.struck k.exchange.speech.asked) (sym g.row_is.bus_is),
+        )
           where
             con : connection q ≡ Some n
             con = sym reads ∙ next_is

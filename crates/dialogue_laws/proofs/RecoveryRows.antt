@@ -1,8 +1,7 @@
 -- As the target leaves a phase in which parity was wrong it recovers, or gives up where the limit is spent.
-use Rattle.std.proofs.Common.{inl, inr, ℕ, ◌≡◌, ◌⊎◌, ◌+◌, Bool, true, false, not, ◌&&◌, ◌||◌, ◌∙◌, List, [], ◌∷◌, Option, Some, None, refl, sym, ap, subst, arith}
-use Rattle.std.specs.Prelude.{if◌then◌else◌, ◌==◌, is_none, is_some, nat_lt}
+use Rattle.std.proofs.Common.{inl, inr, ℕ, ◌≡◌, ◌⊎◌, ◌+◌, Bool, true, false, not, ◌&&◌, ◌∙◌, List, [], ◌∷◌, Option, Some, None, refl, sym, ap, subst, arith}
+use Rattle.std.specs.Prelude.{if◌then◌else◌, ◌==◌, is_some, nat_lt}
 use Rattle.std.proofs.lemmas.Bool.{and_parts, eqb-true}
-use Rattle.std.proofs.lemmas.Option.{same_Some}
 use Rattle.bus_due.specs.bus_base.proofs.Tests.{wrong, wrong'}
 use Rattle.bus_due.specs.bus_base.specs.declared.Event.{Event}
 use Rattle.bus_due.specs.bus_base.specs.declared.Event.TheVariants as events
@@ -18,12 +17,11 @@ use Rattle.bus_due.specs.scenario.specs.Writing.{Obeys}
 use Rattle.bus_due.specs.scenario.specs.declared.value.TargetDef.{TargetDef}
 use Rattle.bus_due.specs.disk_array.specs.ArrayHistory.{reply_in}
 use Rattle.bus_due.specs.disk_array.specs.Processes.{Process, process_of, same_id}
-use Rattle.bus_due.specs.disk_array.specs.Units.{Array}
 use Rattle.bus_due.specs.disk_array.proofs.SeatReplies.{id_self}
 use Rattle.bus_due.specs.disk_array.proofs.SeatLookups.{same_id_is}
-use Rattle.bus_due.specs.bus_story.specs.Items.{Item, process, abort}
+use Rattle.bus_due.specs.bus_story.specs.Items.{process}
 use Rattle.bus_due.specs.bus_dialogue.specs.Events.{arrival_events, after_opening_events, connection_end_events, detected_events, has_replied, is_status_next, newest_with, reply_events, turn_events, turn_events_if}
-use Rattle.bus_due.specs.bus_dialogue.specs.Exchange.{Exchange, one_message, plan_anew}
+use Rattle.bus_due.specs.bus_dialogue.specs.Exchange.{one_message}
 use Rattle.bus_due.specs.bus_dialogue.specs.NextPhase.{Serving, bus_free, command_leaving, data_out_leaving, message_in_entry, message_out_leaving, message_repetition, phase_entry, phase_leaving, phase_of, pointer_restoration, recovery, recovery_limit, with_task}
 use Rattle.bus_due.specs.bus_dialogue.specs.PhaseBytes.{one_if}
 use Rattle.bus_due.specs.bus_dialogue.specs.Words.{is_naming}
@@ -37,28 +35,25 @@ use Rattle.bus_due.specs.bus_dialogue.specs.declared.exchange.Phase.{Phase}
 use Rattle.bus_due.specs.bus_dialogue.specs.declared.exchange.Phase.TheVariants as phases
 use Rattle.bus_due.specs.bus_dialogue.specs.declared.exchange.Plan.{Plan}
 use Rattle.bus_due.specs.bus_dialogue.specs.declared.exchange.Task.{Task}
-use Rattle.bus_due.specs.Defs.{target_def_of}
 use Rattle.bus_due.specs.LastingState.{ProcessProgress, progress_in, progress_with}
 use Rattle.bus_due.specs.Next.{IsPrompt}
 use Rattle.bus_due.specs.Plain.{IsPlain}
-use Rattle.bus_due.specs.RunState.{RunState, array_of, bus_of, or_start, process_item, process_served}
+use Rattle.bus_due.specs.RunState.{RunState, bus_of, or_start, process_item, process_served}
 use Rattle.bus_due.specs.RunSteps.{events_of_row, progress_by_leaving, run_state}
 use Rattle.bus_due.specs.Sights.{leaving, serving_of}
 use Rattle.bus_due.specs.Tasks.{task_if, task_of}
-use Rattle.bus_due.specs.Telling.{id_of, same_event, same_events, target_events}
+use Rattle.bus_due.specs.Telling.{id_of, same_event, same_events}
 use Rattle.bus_due.proofs.Plains.{run_state_plain}
 use Rattle.progress_laws.specs.scsi_device.proofs.FitLines.{obeys_fits, units_are}
 use Rattle.progress_laws.specs.bus_books.specs.WrongParity.{is_struck_phase}
-use Rattle.progress_laws.specs.bus_books.proofs.CarriedRows.{process_id}
 use Rattle.progress_laws.specs.trace_laws.specs.Places.{PlacedAsked, PlacedIf, PlacedIn}
 use Rattle.progress_laws.specs.trace_laws.specs.Tells.{IsLeaving}
 use Rattle.progress_laws.specs.trace_laws.proofs.CommandNext.{out_unstruck}
-use Rattle.progress_laws.specs.trace_laws.proofs.Impossible.{none_some}
 use Rattle.progress_laws.specs.trace_laws.proofs.ItemRows.{served_item}
 use Rattle.progress_laws.specs.trace_laws.proofs.RunFacts.{task_here}
 use Rattle.progress_laws.specs.trace_laws.proofs.TellEnds.{none_heard}
 use Rattle.progress_laws.specs.trace_laws.proofs.TellRows.{IsHeard, is_heard}
-use Rattle.dialogue_laws.specs.Recoveries.{FailsWith, HasTakenAll, IsAsked, IsLost, LeavesPhase, Recovers, RecoversUnless, Repeats, is_spent, is_uncounted, present_phase, recoveries_of}
+use Rattle.dialogue_laws.specs.Recoveries.{FailsWith, HasTakenAll, IsAsked, IsLost, LeavesPhase, Recovers, RecoversUnless, Repeats, is_spent, present_phase}
 use Rattle.dialogue_laws.proofs.PhaseEnds.{PhaseEnd, phase_end}
 use Rattle.dialogue_laws.proofs.StruckPlans.{struck_known}
 

@@ -1,8 +1,7 @@
 -- As a data run is done all its bytes have crossed, and no more.
-use Rattle.std.proofs.Common.{inl, inr, ℕ, ◌≡◌, ◌≤◌, ◌⊎◌, Bool, true, false, ◌&&◌, ◌∙◌, List, [], ◌∷◌, Option, Some, None, refl, sym, ap, subst, arith}
-use Rattle.std.specs.Prelude.{if◌then◌else◌, nat_le, nat_lt}
+use Rattle.std.proofs.Common.{inl, inr, ℕ, ◌≡◌, ◌≤◌, ◌⊎◌, Bool, true, false, ◌∙◌, List, ◌∷◌, Some, refl, sym, ap, subst, arith}
+use Rattle.std.specs.Prelude.{nat_lt}
 use Rattle.std.proofs.lemmas.Bool.{leb-true, ltb-false}
-use Rattle.bus_due.specs.bus_base.proofs.Tests.{wrong, wrong'}
 use Rattle.bus_due.specs.bus_trace.specs.LineSet.{LineSet}
 use Rattle.bus_due.specs.bus_trace.specs.Phases.{is_data}
 use Rattle.bus_due.specs.bus_trace.specs.Trace.{bus}

@@ -1,6 +1,6 @@
 -- Data runs and disconnections follow the policy of the target.
-use Rattle.std.proofs.Common.{inl, inr, ℕ, ◌≡◌, ◌⊎◌, ◌+◌, Bool, true, false, not, ◌&&◌, ◌||◌, ◌∙◌, List, [], ◌∷◌, Option, Some, None, refl, sym, ap, subst, arith}
-use Rattle.std.specs.Prelude.{if◌then◌else◌, is_some, nat_lt}
+use Rattle.std.proofs.Common.{inl, inr, ◌≡◌, ◌+◌, Bool, true, false, not, ◌&&◌, ◌∙◌, List, [], ◌∷◌, Option, Some, None, refl, sym, ap}
+use Rattle.std.specs.Prelude.{if◌then◌else◌, nat_lt}
 use Rattle.bus_due.specs.bus_base.proofs.Tests.{wrong, wrong'}
 use Rattle.bus_due.specs.bus_base.specs.declared.Event.{Event}
 use Rattle.bus_due.specs.bus_base.specs.declared.Event.TheVariants as events
@@ -12,13 +12,13 @@ use Rattle.bus_due.specs.bus_trace.specs.declared.connection.Connection.{Connect
 use Rattle.bus_due.specs.msg_grammar.specs.declared.message.MsgIn.TheVariants as to_initiator
 use Rattle.bus_due.specs.scenario.specs.Value.{ScenarioValue}
 use Rattle.bus_due.specs.scenario.specs.declared.value.Policy.{Policy}
-use Rattle.bus_due.specs.disk_array.specs.Processes.{Process, same_id}
+use Rattle.bus_due.specs.disk_array.specs.Processes.{Process}
 use Rattle.bus_due.specs.disk_array.proofs.SeatReplies.{id_self}
 use Rattle.bus_due.specs.bus_dialogue.specs.Arrivals.{policy_of}
 use Rattle.bus_due.specs.bus_dialogue.specs.DataRuns.{runs_in_all}
-use Rattle.bus_due.specs.bus_dialogue.specs.Events.{arrival_event, arrival_events, arrival_run_events, has_replied, is_status_next, newest_with, reply_events, turn_events}
-use Rattle.bus_due.specs.bus_dialogue.specs.Exchange.{Exchange, one_message}
-use Rattle.bus_due.specs.bus_dialogue.specs.NextPhase.{Serving, after_arrival, after_messages, after_run, command_leaving, data_out_leaving, disconnect_messages, disconnection, next_data_phase, phase_entry, phase_leaving, phase_of, pointer_restoration, recovery, unless_attention, with_task}
+use Rattle.bus_due.specs.bus_dialogue.specs.Events.{arrival_event, arrival_events, arrival_run_events, has_replied, is_status_next, newest_with, reply_events}
+use Rattle.bus_due.specs.bus_dialogue.specs.Exchange.{one_message}
+use Rattle.bus_due.specs.bus_dialogue.specs.NextPhase.{Serving, after_arrival, after_messages, after_run, disconnect_messages, disconnection, next_data_phase, phase_entry, phase_leaving, phase_of, pointer_restoration, recovery, unless_attention, with_task}
 use Rattle.bus_due.specs.bus_dialogue.specs.declared.exchange.Arrival.{Arrival}
 use Rattle.bus_due.specs.bus_dialogue.specs.declared.exchange.Arrival.TheVariants as arrivals
 use Rattle.bus_due.specs.bus_dialogue.specs.declared.exchange.Leaving.{Leaving}
@@ -31,17 +31,15 @@ use Rattle.bus_due.specs.bus_dialogue.specs.declared.exchange.Plan.{Plan}
 use Rattle.bus_due.specs.bus_dialogue.specs.declared.exchange.Task.{Task}
 use Rattle.bus_due.specs.Defs.{target_def_of}
 use Rattle.bus_due.specs.LastingState.{ProcessProgress, progress_in, progress_with}
-use Rattle.bus_due.specs.RunState.{RunState, bus_of, process_served}
+use Rattle.bus_due.specs.RunState.{RunState, bus_of}
 use Rattle.bus_due.specs.RunSteps.{events_of_row, progress_by_leaving, run_state}
 use Rattle.bus_due.specs.Sights.{arrival_at, leaving, serving_of}
-use Rattle.bus_due.specs.Tasks.{arrival_of, task_of}
 use Rattle.bus_due.proofs.Plains.{run_state_plain}
 use Rattle.progress_laws.specs.bus_books.specs.WrongParity.{is_struck_phase}
 use Rattle.progress_laws.specs.bus_books.proofs.Counts.{struck_is}
 use Rattle.progress_laws.specs.trace_laws.proofs.RunFacts.{task_here}
 use Rattle.dialogue_laws.specs.Recoveries.{present_phase}
 use Rattle.dialogue_laws.specs.Runs.{Arrives, Disconnects, EndsRun, Follows, GoesOnAtOnce, HasSaid, data_phase, has_run_left, policy_at, runs_of}
-use Rattle.dialogue_laws.proofs.PhaseEnds.{PhaseEnd}
 use Rattle.dialogue_laws.proofs.RecoveryRows.{Left, all_name, open_if, phase_is, placed_is, same_events_are, shows_turn, task_is, turn_is}
 
 -- ---- what a row shows

@@ -4,7 +4,7 @@ use Rattle.std.specs.Prelude.{ℕ, if◌then◌else◌, is_some}
 use Rattle.bus_due.specs.bus_base.proofs.Tests.{wrong, wrong'}
 use Rattle.bus_due.specs.bus_trace.specs.LineSet.{LineSet}
 use Rattle.bus_due.specs.bus_trace.specs.Phases.{changes_phase, is_message_out}
-use Rattle.bus_due.specs.bus_trace.specs.Terms.{connection_after, is_fault, receiver_in, receiver_of}
+use Rattle.bus_due.specs.bus_trace.specs.Terms.{is_fault, receiver_in, receiver_of}
 use Rattle.bus_due.specs.bus_trace.specs.declared.Row.{Row}
 use Rattle.bus_due.specs.bus_trace.specs.declared.changes.Change.{Change}
 use Rattle.bus_due.specs.bus_trace.specs.declared.connection.Connection.{Connection}

@@ -1,7 +1,6 @@
 -- Where a process goes on with its data, where it is disconnected, and where its status follows (6.6.6, 6.6.20).
-use Rattle.std.specs.Prelude.{ℕ, ◌+◌, ◌≡◌, ◌⊎◌, Bool, true, false, not, ◌&&◌, List, [], ◌∷◌, Some, None, nat_lt, if◌then◌else◌}
+use Rattle.std.specs.Prelude.{ℕ, ◌≡◌, ◌⊎◌, Bool, false, not, ◌&&◌, List, ◌∷◌, Some, nat_lt, if◌then◌else◌}
 use Rattle.bus_due.specs.bus_base.specs.declared.Event.{Event}
-use Rattle.bus_due.specs.bus_base.specs.declared.Event.TheVariants as events
 use Rattle.bus_due.specs.bus_trace.specs.Trace.{bus}
 use Rattle.bus_due.specs.bus_trace.specs.declared.Row.{Row}
 use Rattle.bus_due.specs.scenario.specs.Value.{ScenarioValue}
@@ -68,7 +67,7 @@ pub record Follows (s : ScenarioValue) (rows : List Row) (row : Row) (phase : Ph
 
 -- ---- what is left of the data
 
--- The process, not yet answered, has a data run to make.
+-- The process has no reply, and a data run to make.
 abbrev pub has_run_left : Policy → Task → Bool
 has_run_left policy t = not t.replied && nat_lt t.runs (runs_in_all policy t)
 

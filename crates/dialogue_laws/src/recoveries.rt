@@ -1,6 +1,9 @@
 // The laws of complaints and recoveries, each named by the contract of a function that does nothing.
 
-ghost use Rattle.std.specs.Prelude.{◌≡◌, true, false, List, ◌∷◌, None};
+ghost use Rattle.std.specs.Prelude.{ℕ, ◌≡◌, ◌&&◌, true, false, List, ◌∷◌, Some, None};
+ghost use Rattle.bus_due.specs.bus_base.specs.declared.Event.TheVariants as events;
+ghost use Rattle.bus_due.specs.bus_base.specs.declared.ProcId.{ProcId};
+ghost use Rattle.bus_due.specs.bus_trace.specs.Terms.{connection};
 ghost use Rattle.bus_due.specs.bus_trace.specs.Trace.{bus};
 ghost use Rattle.bus_due.specs.bus_trace.specs.declared.Row.{Row};
 ghost use Rattle.bus_due.specs.bus_trace.specs.declared.connection.Connection.{Connection};
@@ -9,7 +12,7 @@ ghost use Rattle.bus_due.specs.cdb_codec.specs.declared.sense.TheConstants.{INIT
 ghost use Rattle.bus_due.specs.msg_grammar.specs.declared.message.MsgIn.TheVariants as to_initiator;
 ghost use Rattle.bus_due.specs.scenario.specs.Value.{ScenarioValue};
 ghost use Rattle.bus_due.specs.scenario.specs.Writing.{Obeys};
-ghost use Rattle.bus_due.specs.disk_array.specs.Processes.{Process};
+ghost use Rattle.bus_due.specs.disk_array.specs.Processes.{Process, process_of};
 ghost use Rattle.bus_due.specs.bus_dialogue.specs.Exchange.{one_message};
 ghost use Rattle.bus_due.specs.bus_dialogue.specs.NextPhase.{phase_of};
 ghost use Rattle.bus_due.specs.bus_dialogue.specs.Words.{detected_error, is_naming, parity_error};
@@ -17,9 +20,10 @@ ghost use Rattle.bus_due.specs.bus_dialogue.specs.declared.exchange.Cause.TheVar
 ghost use Rattle.bus_due.specs.bus_dialogue.specs.declared.exchange.Next.TheVariants as nexts;
 ghost use Rattle.bus_due.specs.bus_dialogue.specs.declared.exchange.Phase.TheVariants as phases;
 ghost use Rattle.bus_due.specs.Next.{IsPrompt};
-ghost use Rattle.bus_due.specs.RunState.{carried_here};
-ghost use Rattle.bus_due.specs.RunSteps.{run_state};
-ghost use Rattle.progress_laws.specs.bus_books.specs.WrongParity.{is_struck_phase};
+ghost use Rattle.bus_due.specs.RunState.{bus_of, carried_here};
+ghost use Rattle.bus_due.specs.RunSteps.{events_of_row, run_state};
+ghost use Rattle.progress_laws.specs.bus_books.specs.FullQueues.{has_event};
+ghost use Rattle.progress_laws.specs.bus_books.specs.WrongParity.{gives_up, is_failure, is_loss, is_struck_phase};
 ghost use Rattle.progress_laws.specs.trace_laws.specs.Tells.{code_if};
 ghost use Rattle.dialogue_laws.specs.Recoveries.{Complains, FailsWith, HasTakenAll, IsAsked, IsLost, LeavesPhase, Recovers, RecoversUnless, Repeats, is_spent};
 
@@ -69,8 +73,8 @@ pub fn wrong_parity_is_recovered()
 
 /// As the target leaves a phase to the initiator with ATN true MESSAGE OUT follows, and the initiator says what it
 /// complains of: INITIATOR DETECTED ERROR after DATA IN (`data_in`) and after STATUS (`status`), MESSAGE PARITY ERROR
-/// where the last byte of MESSAGE IN was struck (`message`). In DATA IN ATN is true then exactly where a byte of the run
-/// was struck, so that the process would fail (`struck`).
+/// where the last byte of MESSAGE IN was struck (`message`). In DATA IN ATN is true then exactly where a byte of the
+/// run was struck, so that the process would fail (`struck`).
 pub fn complaints_follow()
     ensures data_in { (s : ScenarioValue) (rows : List Row) (row : Row) (n : Connection) (p : Process) → Obeys s
         → IsPrompt s (row ∷ rows) → LeavesPhase s rows row n p → phase_of (bus rows) ≡ phases.DataIn
@@ -85,4 +89,20 @@ pub fn complaints_follow()
     ensures struck { (s : ScenarioValue) (rows : List Row) (row : Row) (n : Connection) (p : Process) → Obeys s
         → IsPrompt s (row ∷ rows) → LeavesPhase s rows row n p → phase_of (bus rows) ≡ phases.DataIn
         → (carried_here (run_state s rows) p.id).failure ≡ code_if (bus rows).atn INITIATOR_DETECTED_ERROR }
+{}
+
+/// Nothing else gives up a process: with a row of a connection it fails (`fails`), or is lost (`lost`), only where its
+/// target leaves a phase with wrong parity after which it gives up so (`is_failure`, `is_loss`), the limit being spent,
+/// and where more such phases than the limit were left in its connections (`gives_up`).
+pub fn nothing_else_is_given_up()
+    ensures fails { (s : ScenarioValue) (rows : List Row) (row : Row) (n : Connection) (id : ProcId) (code : ℕ)
+        → Obeys s → IsPrompt s (row ∷ rows) → connection rows ≡ Some n
+        → has_event (events_of_row s rows row) (events.Fail id code) ≡ true
+        → (is_failure (run_state s rows).exchange.plan.cause code (phase_of (bus_of (run_state s rows)))
+        && gives_up s rows row n id) ≡ true }
+    ensures lost { (s : ScenarioValue) (rows : List Row) (row : Row) (n : Connection) (p : Process) → Obeys s
+        → IsPrompt s (row ∷ rows) → connection rows ≡ Some n → process_of s p.id ≡ Some p
+        → has_event (events_of_row s rows row) (events.Lost p.id) ≡ true
+        → (is_loss (run_state s rows).exchange.plan.cause (phase_of (bus_of (run_state s rows)))
+        && gives_up s rows row n p.id) ≡ true }
 {}
