@@ -37,7 +37,8 @@ use delivery_laws::the_trace_laws::{
     prompt_traces_keep_the_books,
 };
 use delivery_laws::{
-    ended_traces_are_right, invalid_commands_are_checked, outcomes_have_causes, replies_last,
+    arrivals_are_by_room, ended_traces_are_right, invalid_commands_are_checked, openings_are_said,
+    outcomes_are_exact, outcomes_have_causes, recoveries_are_due, replies_last,
     resets_are_by_lines, senseless_checks_were_stopped, senses_are_their_own,
     valid_commands_are_delivered,
 };
@@ -142,6 +143,10 @@ fn run_in<L: Ledger>(
     senses_are_their_own();
     replies_last();
     resets_are_by_lines();
+    outcomes_are_exact();
+    arrivals_are_by_room();
+    recoveries_are_due();
+    openings_are_said();
     let trace = bus_run::run(alloc, scenario, places, most_rows(scenario), steps)?;
     Ok(finish(alloc, scenario, places, trace)?)
 }
