@@ -21,6 +21,9 @@ use Rattle.bus_run.specs.Runs.{AreEarly}
 use Rattle.run_record.specs.Value.{RunValue}
 use Rattle.transcript_laws.specs.bus_transcript.specs.Events.{TellsHistory}
 use Rattle.delivery_laws.specs.Delivery.{AreAnswered, AreCaused, AreChecked, AreOwnSenses, AreStoppedSenses, HaveStrikes, IsDelivered}
+use Rattle.delivery_laws.specs.Endings.{AreExact, arrive_by_room}
+use Rattle.delivery_laws.specs.Openings.{AreAnsweredOffers, AreOfferReplies, AreOpenings}
+use Rattle.delivery_laws.specs.Recoveries.{AreRecoveries}
 use Rattle.delivery_laws.specs.Resets.{AreResets}
 use Rattle.delivery_laws.specs.bus_books.specs.WrongParity.{complains_truly}
 
@@ -39,7 +42,9 @@ rows_of run = reverse run.rows
 -- command that no more faults struck than it bears ended GOOD, and each that is not valid with the sense of what is wrong with it first; every other
 -- outcome has its cause, each failure the fault row of a byte, and each complaint of an initiator a struck byte of that phase; the sense with
 -- which a command ended is that of its own reply, and only where its automatic REQUEST SENSE was stopped is it without; and RST began by the
--- reset lines alone.
+-- reset lines alone. Each outcome is exactly that of the first row that ended the command, and of its reply; each command was refused exactly
+-- where it found a full queue; each phase with wrong parity was left to try again, or to give up, by the target's limit; what an initiator said first was its
+-- opening, an offer was answered, and no request for synchronous transfer was open in COMMAND, data and STATUS.
 pub record IsPromptRun (s : ScenarioValue) (run : RunValue) : Type 0 where
   pub prompt : IsPrompt s (rows_of run)
   pub lawful : IsLawful (rows_of run) run.end
@@ -62,6 +67,12 @@ pub record IsPromptRun (s : ScenarioValue) (run : RunValue) : Type 0 where
   pub lasting : AreAnswered s (rows_of run)
   pub stopped : AreStoppedSenses s (rows_of run)
   pub resets : AreResets s (rows_of run)
+  pub exact : AreExact s (rows_of run)
+  pub arrivals : arrive_by_room s (trace_history s (rows_of run)) ≡ true
+  pub recoveries : AreRecoveries s (rows_of run)
+  pub openings : AreOpenings s (rows_of run)
+  pub offered : AreOfferReplies s (rows_of run)
+  pub offers : AreAnsweredOffers (rows_of run)
 
 -- Each row is of one of the eight devices and comes before 2^62 ns, the end is the time of the last, the rows are fewer than an
 -- eighth of the budget, as each asks the eight devices, and fewer than 2^32 - 1, and there are as many replies as commands and

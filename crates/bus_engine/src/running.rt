@@ -33,7 +33,8 @@ use delivery_laws::the_bus_books::failures_have_strikes;
 use delivery_laws::the_right_laws::prompt_traces_are_right;
 use delivery_laws::the_trace_laws::limits_are_kept;
 use delivery_laws::{
-    ended_traces_are_right, invalid_commands_are_checked, outcomes_have_causes, replies_last,
+    arrivals_are_by_room, ended_traces_are_right, invalid_commands_are_checked, openings_are_said,
+    outcomes_are_exact, outcomes_have_causes, recoveries_are_due, replies_last,
     resets_are_by_lines, senseless_checks_were_stopped, senses_are_their_own,
     valid_commands_are_delivered,
 };
@@ -136,6 +137,10 @@ fn run_in<L: Ledger>(
     senses_are_their_own();
     replies_last();
     resets_are_by_lines();
+    outcomes_are_exact();
+    arrivals_are_by_room();
+    recoveries_are_due();
+    openings_are_said();
     let trace = bus_run::run(alloc, scenario, places, steps)?;
     Ok(finish(alloc, scenario, places, trace)?)
 }

@@ -22,6 +22,9 @@ use Rattle.transcript_laws.specs.bus_transcript.specs.Events.{TellsHistory}
 use Rattle.delivery_laws.specs.progress_laws.proofs.Ended.{joined}
 use Rattle.bus_due.specs.bus_story.specs.Outcomes.{Outcome}
 use Rattle.delivery_laws.specs.Delivery.{AreAnswered, AreCaused, AreChecked, AreOwnSenses, AreStoppedSenses, HaveStrikes, IsDelivered}
+use Rattle.delivery_laws.specs.Endings.{AreExact, arrive_by_room}
+use Rattle.delivery_laws.specs.Openings.{AreAnsweredOffers, AreOfferReplies, AreOpenings}
+use Rattle.delivery_laws.specs.Recoveries.{AreRecoveries}
 use Rattle.delivery_laws.specs.Resets.{AreResets}
 use Rattle.delivery_laws.specs.bus_books.specs.WrongParity.{complains_truly}
 use Rattle.bus_engine.proofs.Answered.{all_answered}
@@ -91,6 +94,12 @@ returns-clause-exact g c = λ at.
                   ends = c.resets_are_by_lines.ensures.ends s all c.requires.lawful prompt;
                   lines = c.resets_are_by_lines.ensures.lines s all c.requires.lawful prompt ended;
                 });
+            exact = subst (λ (l : List Row). AreExact s (reverse l)) (sym r) (c.outcomes_are_exact.ensures s all c.requires.lawful prompt ended);
+            arrivals = subst (λ (l : List Row). arrive_by_room s (trace_history s (reverse l)) ≡ true) (sym r) (c.arrivals_are_by_room.ensures s all c.requires.lawful prompt);
+            recoveries = subst (λ (l : List Row). AreRecoveries s (reverse l)) (sym r) (c.recoveries_are_due.ensures s all c.requires.lawful prompt);
+            openings = subst (λ (l : List Row). AreOpenings s (reverse l)) (sym r) (c.openings_are_said.ensures.said s all c.requires.lawful prompt);
+            offered = subst (λ (l : List Row). AreOfferReplies s (reverse l)) (sym r) (c.openings_are_said.ensures.replied s all c.requires.lawful prompt);
+            offers = subst (λ (l : List Row). AreAnsweredOffers (reverse l)) (sym r) (c.openings_are_said.ensures.answered s all c.requires.lawful prompt);
           };
       devices = subst (λ (l : List Row). AreOfDevices l) (sym r) (all_reversed (λ (row : Row). row.dev < 8) items c.in_ok-trace.ensures.devices);
       early = subst (λ (l : List Row). AreEarly l) (sym r) (all_reversed (λ (row : Row). row.time < 2 ^ 62) items c.in_ok-trace.ensures.early);
