@@ -70,7 +70,7 @@ class Picture {
   // Shows this window, within the trace and not too narrow.
   show(from, to) {
     // A little room behind the last row, so that what stands there is seen.
-    const last = this.last() * 1.015, span = Math.max(this.byRows ? 4 : 20, Math.min(to - from, last));
+    const last = this.last() * 1.03, span = Math.max(this.byRows ? 4 : 20, Math.min(to - from, last));
     const start = Math.max(0, Math.min((from + to - span) / 2, last - span));
     this.from = start;
     this.to = start + span;

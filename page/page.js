@@ -53,6 +53,7 @@ async function load(bytes, name) {
   $("broken").hidden = true;
   $("told").replaceChildren(element("p", "Click into the picture for what a row does, what it keeps and what it breaks. Paste a trace or a report, or drop a file.", "hint"));
   delete $("told").dataset.row;
+  $("row").value = "";
   if (!(name in DATA_OF_PAGE.examples)) $("examples").selectedIndex = -1;
   $("between").textContent = "";
   listRules();
@@ -117,12 +118,13 @@ async function loadFile(file) {
 }
 
 async function toBroken() {
-  const near = 40;
+  const before = 10, after = 5;
   if (picture.byRows) {
-    picture.show(verdict.row - near, verdict.row + near);
+    picture.show(verdict.row - 4 * before, verdict.row + 4 * before);
   } else {
-    const from = picture.axisOf(Math.max(0, verdict.row - near)), to = picture.axisOf(Math.min(trace.count, verdict.row + near / 2));
-    picture.show(from, Math.max(to, from + 20));
+    const from = picture.axisOf(Math.max(0, verdict.row - before)), to = picture.axisOf(Math.min(trace.count + 1, verdict.row + after));
+    const room = Math.max(20, (to - from) / 10);
+    picture.show(from - room, to + room);
   }
   await select(verdict.row);
 }
