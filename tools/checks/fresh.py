@@ -87,6 +87,7 @@ MADE = {
     "crates/right_laws/proofs/Cases.antt": (["tools/makers/books_case.py", "--reads"] + READS, None),
     "crates/right_laws/proofs/GivenCases.antt": (["tools/makers/books_case.py", "--given"] + READS, None),
     "crates/progress_laws/proofs/DebtCases.antt": (["tools/makers/books_case.py", "--debts"] + DEBTS, None),
+    "crates/measure_laws/proofs/MeasureCases.antt": (["tools/makers/books_case.py", "--measure"] + RUNS, None),
     "crates/bus_laws/proofs/WrittenCases.antt": (["tools/makers/written_case.py", "Cases"] + RUNS, None),
     "crates/disk_target/proofs/AttendedCases.antt": (["tools/makers/attended_case.py", "Cases"] + RUNS, None),
     "crates/bus_books/proofs/CauseRunCases.antt": (["tools/makers/cause_case.py", "Cases"] + RUNS, None),
