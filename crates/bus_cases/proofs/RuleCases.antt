@@ -3,14 +3,14 @@
 -- tools/rule_cases.txt, whose verdicts come from an independent judge.
 use Rattle.std.proofs.Common.{ℕ, ◌≡◌, [], ◌∷◌, reverse, refl}
 use lib.Count.{ones}
-use Rattle.bus_due.specs.bus_trace.specs.LineSet.{set_of, line_of}
-use Rattle.bus_due.specs.bus_trace.specs.View.{union_below}
-use Rattle.bus_due.specs.bus_trace.specs.declared.Row.{Row}
-use Rattle.bus_due.specs.bus_trace.specs.declared.Kind.TheVariants.{Drives, Fault}
-use Rattle.bus_due.specs.msg_grammar.specs.Messages.{form_out, form_in}
-use Rattle.bus_due.specs.bus_rules.specs.Seen.{seen_with}
-use Rattle.bus_due.specs.bus_rules.specs.Rules.{judged_whole}
-use Rattle.bus_due.specs.bus_rules.specs.declared.verdict.Verdict.TheVariants.{Lawful, Broken}
+use Rattle.bus_trace.specs.LineSet.{set_of, line_of}
+use Rattle.bus_trace.specs.View.{union_below}
+use Rattle.bus_trace.specs.declared.Row.{Row}
+use Rattle.bus_trace.specs.declared.Kind.TheVariants.{Drives, Fault}
+use Rattle.msg_grammar.specs.Messages.{form_out, form_in}
+use Rattle.bus_rules.specs.Seen.{seen_with}
+use Rattle.bus_rules.specs.Rules.{judged_whole}
+use Rattle.bus_rules.specs.declared.verdict.Verdict.TheVariants.{Lawful, Broken}
 
 abbrev drive : ℕ → ℕ → ℕ → Row
 drive time dev lines = record { time = time; dev = dev; kind = Drives (set_of lines) }
@@ -1169,3 +1169,7 @@ read_6 = refl
 times_out : judged_whole (reverse (drive 1200 7 0x00280 ∷ drive 3600 7 0x00680 ∷ drive 4800 7 0x10788 ∷ drive 4890 7 0x10588 ∷ drive 250004890 7 0x10400 ∷ drive 250204980 7 0x00000 ∷ [])) 250204980 ≡ Lawful
 unfolding union_below seen_with line_of ones form_out form_in
 times_out = refl
+
+reselection_times_out : judged_whole (reverse (drive 1200 0 0x00201 ∷ drive 3600 0 0x00601 ∷ drive 4800 0 0x01781 ∷ drive 4890 0 0x01581 ∷ drive 250004890 0 0x01400 ∷ drive 250204980 0 0x00000 ∷ [])) 250204980 ≡ Lawful
+unfolding union_below seen_with line_of ones form_out form_in
+reselection_times_out = refl
