@@ -3,18 +3,24 @@
 use Rattle.bus_due.specs.bus_trace.specs.LineSet.{set_of}
 use Rattle.bus_due.specs.bus_trace.specs.declared.Row.{Row}
 use Rattle.bus_due.specs.bus_trace.specs.declared.Kind.TheVariants.{Drives, Fault}
-use Rattle.std.proofs.Common.{ℕ, ◌≡◌, true, false, List, [], ◌∷◌, reverse, refl}
+use Rattle.std.proofs.Common.{ℕ, ◌≡◌, Bool, true, false, List, [], ◌∷◌, reverse, refl}
+use Rattle.std.specs.Prelude.{Option, Some, None}
 use lib.Count.{ones}
 use Rattle.bus_due.specs.bus_base.specs.declared.ProcId.{ProcId}
 use Rattle.bus_due.specs.bus_base.specs.declared.AbortKind.TheVariants as aborts
 use Rattle.bus_due.specs.bus_base.specs.declared.Event.{Event}
 use Rattle.bus_due.specs.bus_base.specs.declared.Event.TheVariants as events
 use Rattle.bus_due.specs.bus_base.specs.declared.events.Pick.TheVariants as picks
+use Rattle.bus_due.specs.scenario.specs.declared.value.FillDef.{FillDef}
+use Rattle.bus_due.specs.scenario.specs.declared.value.UnitDef.{UnitDef}
 use Rattle.bus_due.specs.scenario.specs.declared.value.Policy.TheVariants as policies
 use Rattle.bus_due.specs.scenario.specs.declared.value.Tag.TheVariants as tags
 use Rattle.bus_due.specs.scenario.specs.declared.value.Payload.TheVariants as payloads
 use Rattle.bus_due.specs.scenario.specs.Value.{ScenarioValue}
 use Rattle.bus_due.specs.scenario.specs.Needs.{need_of, sent_of}
+use Rattle.bus_due.specs.disk_array.specs.Contents.{Contents, starting_contents, printed_blocks}
+use Rattle.bus_due.specs.disk_array.specs.Execution.{Reply, good, check_condition, queue_full, sense_of}
+use Rattle.bus_due.specs.disk_array.specs.ArrayHistory.{array_after, disks_of, reply_of}
 use Rattle.bus_due.specs.bus_trace.specs.LineSet.{line_of}
 use Rattle.bus_due.specs.bus_trace.specs.View.{union_below}
 use Rattle.bus_due.specs.msg_grammar.specs.Messages.{form_out, form_in}
@@ -117,6 +123,62 @@ calling_in_vain_leaves_the_offer_guard_shown = record { rows = reverse calling_i
 calling_in_vain_leaves_the_offer_guard_run : shows (run_by_due calling_in_vain_leaves_the_offer_guard 176) ≡ calling_in_vain_leaves_the_offer_guard_shown
 unfolding need_of sent_of ones union_below line_of form_out form_in least run_from
 calling_in_vain_leaves_the_offer_guard_run = refl
+
+-- ---- device_ends_the_hold_of_another_guard
+
+abbrev pub device_ends_the_hold_of_another_guard : ScenarioValue
+device_ends_the_hold_of_another_guard = record {
+  version = 1;
+  hosts = record { dev = 7; latency = 0; most = 4; retries = 2; period = 0; offset = 0; lag = 0; offers = true } ∷ record { dev = 6; latency = 0; most = 4; retries = 2; period = 0; offset = 0; lag = 0; offers = true } ∷ [];
+  targets = record { dev = 0; latency = 0; retries = 2; disc = policies.Never; pick = picks.First; seek = 0; period = 0; offset = 0; begins = false } ∷ [];
+  units = record { target = 0; unit = 0; blocks = 1; size = 16; depth = 4 } ∷ [];
+  fills = [];
+  commands = record { host = 6; target = 0; unit = 0; at = 0; tag = tags.Untagged; cdb = (8 ∷ 0 ∷ 0 ∷ 1 ∷ 1 ∷ 0 ∷ []); payload = payloads.Nothing } ∷ record { host = 7; target = 0; unit = 0; at = 30000; tag = tags.Untagged; cdb = (0 ∷ 0 ∷ 0 ∷ 0 ∷ 0 ∷ 0 ∷ []); payload = payloads.Nothing } ∷ record { host = 6; target = 0; unit = 0; at = 60000; tag = tags.Untagged; cdb = (3 ∷ 0 ∷ 0 ∷ 0 ∷ 18 ∷ 0 ∷ []); payload = payloads.Nothing } ∷ [];
+  aborts = record { host = 7; target = 0; unit = 0; at = 5000; what = aborts.Device } ∷ [];
+  resets = [];
+  faults = [];
+}
+
+abbrev pub device_ends_the_hold_of_another_guard_rows : List Row
+device_ends_the_hold_of_another_guard_rows = drive 1200 6 0x00240 ∷ drive 3600 6 0x00640 ∷ drive 4800 6 0x10741 ∷ drive 4890 6 0x10541 ∷ drive 5290 0 0x00200 ∷ drive 5380 6 0x10000 ∷ drive 5380 0 0x02a00 ∷ drive 5780 0 0x06a00 ∷ drive 5780 6 0x001c0 ∷ drive 5870 6 0x081c0 ∷ drive 5870 0 0x02a00 ∷ drive 5870 6 0x00000 ∷ drive 5870 0 0x00a00 ∷ drive 6270 0 0x04a00 ∷ drive 6270 6 0x00008 ∷ drive 6325 6 0x08008 ∷ drive 6325 0 0x00a00 ∷ drive 6325 6 0x00000 ∷ drive 6325 0 0x04a00 ∷ drive 6325 6 0x00100 ∷ drive 6380 6 0x08100 ∷ drive 6380 0 0x00a00 ∷ drive 6380 6 0x00000 ∷ drive 6380 0 0x04a00 ∷ drive 6380 6 0x00100 ∷ drive 6435 6 0x08100 ∷ drive 6435 0 0x00a00 ∷ drive 6435 6 0x00000 ∷ drive 6435 0 0x04a00 ∷ drive 6435 6 0x00001 ∷ drive 6490 6 0x08001 ∷ drive 6490 0 0x00a00 ∷ drive 6490 6 0x00000 ∷ drive 6490 0 0x04a00 ∷ drive 6490 6 0x00001 ∷ drive 6545 6 0x08001 ∷ drive 6545 0 0x00a00 ∷ drive 6545 6 0x00000 ∷ drive 6545 0 0x04a00 ∷ drive 6545 6 0x00100 ∷ drive 6600 6 0x08100 ∷ drive 6600 0 0x00a00 ∷ drive 6600 6 0x00000 ∷ drive 6600 0 0x01a00 ∷ drive 7400 0 0x01a02 ∷ drive 7455 0 0x05a02 ∷ drive 7455 6 0x08000 ∷ drive 7455 0 0x01a00 ∷ drive 7455 6 0x00000 ∷ drive 7455 0 0x03b00 ∷ drive 7855 0 0x07b00 ∷ drive 7855 6 0x08000 ∷ drive 7855 0 0x03a00 ∷ drive 7855 6 0x00000 ∷ drive 7855 0 0x00000 ∷ drive 9055 7 0x00280 ∷ drive 9055 6 0x00240 ∷ drive 11455 7 0x00680 ∷ drive 11455 6 0x00000 ∷ drive 12655 7 0x10781 ∷ drive 12745 7 0x10581 ∷ drive 13145 0 0x00200 ∷ drive 13235 7 0x10000 ∷ drive 13235 0 0x02a00 ∷ drive 13635 0 0x06a00 ∷ drive 13635 7 0x10080 ∷ drive 13690 7 0x18080 ∷ drive 13690 0 0x02a00 ∷ drive 13690 7 0x10000 ∷ drive 13690 0 0x06a00 ∷ drive 13690 7 0x0010c ∷ drive 13780 7 0x0810c ∷ drive 13780 0 0x02a00 ∷ drive 13780 7 0x00000 ∷ drive 13780 0 0x00000 ∷ drive 30000 7 0x00280 ∷ drive 32400 7 0x00680 ∷ drive 33600 7 0x10781 ∷ drive 33690 7 0x10581 ∷ drive 34090 0 0x00200 ∷ drive 34180 7 0x10000 ∷ drive 34180 0 0x02a00 ∷ drive 34580 0 0x06a00 ∷ drive 34580 7 0x001c0 ∷ drive 34670 7 0x081c0 ∷ drive 34670 0 0x02a00 ∷ drive 34670 7 0x00000 ∷ drive 34670 0 0x00a00 ∷ drive 35070 0 0x04a00 ∷ drive 35070 7 0x00100 ∷ drive 35125 7 0x08100 ∷ drive 35125 0 0x00a00 ∷ drive 35125 7 0x00000 ∷ drive 35125 0 0x04a00 ∷ drive 35125 7 0x00100 ∷ drive 35180 7 0x08100 ∷ drive 35180 0 0x00a00 ∷ drive 35180 7 0x00000 ∷ drive 35180 0 0x04a00 ∷ drive 35180 7 0x00100 ∷ drive 35235 7 0x08100 ∷ drive 35235 0 0x00a00 ∷ drive 35235 7 0x00000 ∷ drive 35235 0 0x04a00 ∷ drive 35235 7 0x00100 ∷ drive 35290 7 0x08100 ∷ drive 35290 0 0x00a00 ∷ drive 35290 7 0x00000 ∷ drive 35290 0 0x04a00 ∷ drive 35290 7 0x00100 ∷ drive 35345 7 0x08100 ∷ drive 35345 0 0x00a00 ∷ drive 35345 7 0x00000 ∷ drive 35345 0 0x04a00 ∷ drive 35345 7 0x00100 ∷ drive 35400 7 0x08100 ∷ drive 35400 0 0x00a00 ∷ drive 35400 7 0x00000 ∷ drive 35400 0 0x01a00 ∷ drive 36200 0 0x01a02 ∷ drive 36255 0 0x05a02 ∷ drive 36255 7 0x08000 ∷ drive 36255 0 0x01a00 ∷ drive 36255 7 0x00000 ∷ drive 36255 0 0x03b00 ∷ drive 36655 0 0x07b00 ∷ drive 36655 7 0x08000 ∷ drive 36655 0 0x03a00 ∷ drive 36655 7 0x00000 ∷ drive 36655 0 0x00000 ∷ drive 37855 7 0x00280 ∷ drive 40255 7 0x00680 ∷ drive 41455 7 0x10781 ∷ drive 41545 7 0x10581 ∷ drive 41945 0 0x00200 ∷ drive 42035 7 0x10000 ∷ drive 42035 0 0x02a00 ∷ drive 42435 0 0x06a00 ∷ drive 42435 7 0x00080 ∷ drive 42525 7 0x08080 ∷ drive 42525 0 0x02a00 ∷ drive 42525 7 0x00000 ∷ drive 42525 0 0x00a00 ∷ drive 42925 0 0x04a00 ∷ drive 42925 7 0x00103 ∷ drive 42980 7 0x08103 ∷ drive 42980 0 0x00a00 ∷ drive 42980 7 0x00000 ∷ drive 42980 0 0x04a00 ∷ drive 42980 7 0x00100 ∷ drive 43035 7 0x08100 ∷ drive 43035 0 0x00a00 ∷ drive 43035 7 0x00000 ∷ drive 43035 0 0x04a00 ∷ drive 43035 7 0x00100 ∷ drive 43090 7 0x08100 ∷ drive 43090 0 0x00a00 ∷ drive 43090 7 0x00000 ∷ drive 43090 0 0x04a00 ∷ drive 43090 7 0x00100 ∷ drive 43145 7 0x08100 ∷ drive 43145 0 0x00a00 ∷ drive 43145 7 0x00000 ∷ drive 43145 0 0x04a00 ∷ drive 43145 7 0x00112 ∷ drive 43200 7 0x08112 ∷ drive 43200 0 0x00a00 ∷ drive 43200 7 0x00000 ∷ drive 43200 0 0x04a00 ∷ drive 43200 7 0x00100 ∷ drive 43255 7 0x08100 ∷ drive 43255 0 0x00a00 ∷ drive 43255 7 0x00000 ∷ drive 43255 0 0x01200 ∷ drive 44055 0 0x01270 ∷ drive 44110 0 0x05270 ∷ drive 44110 7 0x08000 ∷ drive 44110 0 0x01300 ∷ drive 44110 7 0x00000 ∷ drive 44165 0 0x05300 ∷ drive 44165 7 0x08000 ∷ drive 44165 0 0x01306 ∷ drive 44165 7 0x00000 ∷ drive 44220 0 0x05306 ∷ drive 44220 7 0x08000 ∷ drive 44220 0 0x01300 ∷ drive 44220 7 0x00000 ∷ drive 44275 0 0x05300 ∷ drive 44275 7 0x08000 ∷ drive 44275 0 0x01300 ∷ drive 44275 7 0x00000 ∷ drive 44330 0 0x05300 ∷ drive 44330 7 0x08000 ∷ drive 44330 0 0x01300 ∷ drive 44330 7 0x00000 ∷ drive 44385 0 0x05300 ∷ drive 44385 7 0x08000 ∷ drive 44385 0 0x01300 ∷ drive 44385 7 0x00000 ∷ drive 44440 0 0x05300 ∷ drive 44440 7 0x08000 ∷ drive 44440 0 0x0130a ∷ drive 44440 7 0x00000 ∷ drive 44495 0 0x0530a ∷ drive 44495 7 0x08000 ∷ drive 44495 0 0x01300 ∷ drive 44495 7 0x00000 ∷ drive 44550 0 0x05300 ∷ drive 44550 7 0x08000 ∷ drive 44550 0 0x01300 ∷ drive 44550 7 0x00000 ∷ drive 44605 0 0x05300 ∷ drive 44605 7 0x08000 ∷ drive 44605 0 0x01300 ∷ drive 44605 7 0x00000 ∷ drive 44660 0 0x05300 ∷ drive 44660 7 0x08000 ∷ drive 44660 0 0x01300 ∷ drive 44660 7 0x00000 ∷ drive 44715 0 0x05300 ∷ drive 44715 7 0x08000 ∷ drive 44715 0 0x01229 ∷ drive 44715 7 0x00000 ∷ drive 44770 0 0x05229 ∷ drive 44770 7 0x08000 ∷ drive 44770 0 0x01300 ∷ drive 44770 7 0x00000 ∷ drive 44825 0 0x05300 ∷ drive 44825 7 0x08000 ∷ drive 44825 0 0x01300 ∷ drive 44825 7 0x00000 ∷ drive 44880 0 0x05300 ∷ drive 44880 7 0x08000 ∷ drive 44880 0 0x01300 ∷ drive 44880 7 0x00000 ∷ drive 44935 0 0x05300 ∷ drive 44935 7 0x08000 ∷ drive 44935 0 0x01300 ∷ drive 44935 7 0x00000 ∷ drive 44990 0 0x05300 ∷ drive 44990 7 0x08000 ∷ drive 44990 0 0x01300 ∷ drive 44990 7 0x00000 ∷ drive 45045 0 0x05300 ∷ drive 45045 7 0x08000 ∷ drive 45045 0 0x01200 ∷ drive 45045 7 0x00000 ∷ drive 45045 0 0x01b00 ∷ drive 45445 0 0x05b00 ∷ drive 45445 7 0x08000 ∷ drive 45445 0 0x01a00 ∷ drive 45445 7 0x00000 ∷ drive 45445 0 0x03b00 ∷ drive 45845 0 0x07b00 ∷ drive 45845 7 0x08000 ∷ drive 45845 0 0x03a00 ∷ drive 45845 7 0x00000 ∷ drive 45845 0 0x00000 ∷ drive 60000 6 0x00240 ∷ drive 62400 6 0x00640 ∷ drive 63600 6 0x10741 ∷ drive 63690 6 0x10541 ∷ drive 64090 0 0x00200 ∷ drive 64180 6 0x10000 ∷ drive 64180 0 0x02a00 ∷ drive 64580 0 0x06a00 ∷ drive 64580 6 0x001c0 ∷ drive 64670 6 0x081c0 ∷ drive 64670 0 0x02a00 ∷ drive 64670 6 0x00000 ∷ drive 64670 0 0x00a00 ∷ drive 65070 0 0x04a00 ∷ drive 65070 6 0x00103 ∷ drive 65125 6 0x08103 ∷ drive 65125 0 0x00a00 ∷ drive 65125 6 0x00000 ∷ drive 65125 0 0x04a00 ∷ drive 65125 6 0x00100 ∷ drive 65180 6 0x08100 ∷ drive 65180 0 0x00a00 ∷ drive 65180 6 0x00000 ∷ drive 65180 0 0x04a00 ∷ drive 65180 6 0x00100 ∷ drive 65235 6 0x08100 ∷ drive 65235 0 0x00a00 ∷ drive 65235 6 0x00000 ∷ drive 65235 0 0x04a00 ∷ drive 65235 6 0x00100 ∷ drive 65290 6 0x08100 ∷ drive 65290 0 0x00a00 ∷ drive 65290 6 0x00000 ∷ drive 65290 0 0x04a00 ∷ drive 65290 6 0x00112 ∷ drive 65345 6 0x08112 ∷ drive 65345 0 0x00a00 ∷ drive 65345 6 0x00000 ∷ drive 65345 0 0x04a00 ∷ drive 65345 6 0x00100 ∷ drive 65400 6 0x08100 ∷ drive 65400 0 0x00a00 ∷ drive 65400 6 0x00000 ∷ drive 65400 0 0x01200 ∷ drive 66200 0 0x01270 ∷ drive 66255 0 0x05270 ∷ drive 66255 6 0x08000 ∷ drive 66255 0 0x01300 ∷ drive 66255 6 0x00000 ∷ drive 66310 0 0x05300 ∷ drive 66310 6 0x08000 ∷ drive 66310 0 0x01300 ∷ drive 66310 6 0x00000 ∷ drive 66365 0 0x05300 ∷ drive 66365 6 0x08000 ∷ drive 66365 0 0x01300 ∷ drive 66365 6 0x00000 ∷ drive 66420 0 0x05300 ∷ drive 66420 6 0x08000 ∷ drive 66420 0 0x01300 ∷ drive 66420 6 0x00000 ∷ drive 66475 0 0x05300 ∷ drive 66475 6 0x08000 ∷ drive 66475 0 0x01300 ∷ drive 66475 6 0x00000 ∷ drive 66530 0 0x05300 ∷ drive 66530 6 0x08000 ∷ drive 66530 0 0x01300 ∷ drive 66530 6 0x00000 ∷ drive 66585 0 0x05300 ∷ drive 66585 6 0x08000 ∷ drive 66585 0 0x0130a ∷ drive 66585 6 0x00000 ∷ drive 66640 0 0x0530a ∷ drive 66640 6 0x08000 ∷ drive 66640 0 0x01300 ∷ drive 66640 6 0x00000 ∷ drive 66695 0 0x05300 ∷ drive 66695 6 0x08000 ∷ drive 66695 0 0x01300 ∷ drive 66695 6 0x00000 ∷ drive 66750 0 0x05300 ∷ drive 66750 6 0x08000 ∷ drive 66750 0 0x01300 ∷ drive 66750 6 0x00000 ∷ drive 66805 0 0x05300 ∷ drive 66805 6 0x08000 ∷ drive 66805 0 0x01300 ∷ drive 66805 6 0x00000 ∷ drive 66860 0 0x05300 ∷ drive 66860 6 0x08000 ∷ drive 66860 0 0x01300 ∷ drive 66860 6 0x00000 ∷ drive 66915 0 0x05300 ∷ drive 66915 6 0x08000 ∷ drive 66915 0 0x01300 ∷ drive 66915 6 0x00000 ∷ drive 66970 0 0x05300 ∷ drive 66970 6 0x08000 ∷ drive 66970 0 0x01300 ∷ drive 66970 6 0x00000 ∷ drive 67025 0 0x05300 ∷ drive 67025 6 0x08000 ∷ drive 67025 0 0x01300 ∷ drive 67025 6 0x00000 ∷ drive 67080 0 0x05300 ∷ drive 67080 6 0x08000 ∷ drive 67080 0 0x01300 ∷ drive 67080 6 0x00000 ∷ drive 67135 0 0x05300 ∷ drive 67135 6 0x08000 ∷ drive 67135 0 0x01300 ∷ drive 67135 6 0x00000 ∷ drive 67190 0 0x05300 ∷ drive 67190 6 0x08000 ∷ drive 67190 0 0x01200 ∷ drive 67190 6 0x00000 ∷ drive 67190 0 0x01b00 ∷ drive 67590 0 0x05b00 ∷ drive 67590 6 0x08000 ∷ drive 67590 0 0x01a00 ∷ drive 67590 6 0x00000 ∷ drive 67590 0 0x03b00 ∷ drive 67990 0 0x07b00 ∷ drive 67990 6 0x08000 ∷ drive 67990 0 0x03a00 ∷ drive 67990 6 0x00000 ∷ drive 67990 0 0x00000 ∷ []
+
+abbrev device_ends_the_hold_of_another_guard_events : List Event
+device_ends_the_hold_of_another_guard_events = events.Accept (command 1) ∷ events.Run (command 1) ∷ events.End (command 1) 2 ∷ events.Aborted 7 0 0 aborts.Device ∷ events.Accept (command 2) ∷ events.Run (command 2) ∷ events.End (command 2) 2 ∷ events.Accept (sense 2) ∷ events.Run (sense 2) ∷ events.End (sense 2) 0 ∷ events.Accept (command 3) ∷ events.Run (command 3) ∷ events.End (command 3) 0 ∷ []
+
+abbrev pub device_ends_the_hold_of_another_guard_shown : Shows
+device_ends_the_hold_of_another_guard_shown = record { rows = reverse device_ends_the_hold_of_another_guard_rows; history = reverse device_ends_the_hold_of_another_guard_events; ended = true }
+
+device_ends_the_hold_of_another_guard_run : shows (run_by_due device_ends_the_hold_of_another_guard 387) ≡ device_ends_the_hold_of_another_guard_shown
+unfolding need_of sent_of ones union_below line_of form_out form_in least run_from
+device_ends_the_hold_of_another_guard_run = refl
+
+-- ---- device_leaves_another_target_guard
+
+abbrev pub device_leaves_another_target_guard : ScenarioValue
+device_leaves_another_target_guard = record {
+  version = 1;
+  hosts = record { dev = 7; latency = 0; most = 4; retries = 2; period = 0; offset = 0; lag = 0; offers = true } ∷ record { dev = 6; latency = 0; most = 4; retries = 2; period = 0; offset = 0; lag = 0; offers = true } ∷ [];
+  targets = record { dev = 0; latency = 0; retries = 2; disc = policies.Never; pick = picks.First; seek = 0; period = 0; offset = 0; begins = false } ∷ record { dev = 1; latency = 0; retries = 2; disc = policies.Never; pick = picks.First; seek = 0; period = 0; offset = 0; begins = false } ∷ [];
+  units = record { target = 0; unit = 0; blocks = 1; size = 16; depth = 4 } ∷ record { target = 1; unit = 0; blocks = 1; size = 16; depth = 4 } ∷ [];
+  fills = [];
+  commands = record { host = 6; target = 1; unit = 0; at = 0; tag = tags.Untagged; cdb = (8 ∷ 0 ∷ 0 ∷ 1 ∷ 1 ∷ 0 ∷ []); payload = payloads.Nothing } ∷ record { host = 7; target = 1; unit = 0; at = 6000; tag = tags.Untagged; cdb = (0 ∷ 0 ∷ 0 ∷ 0 ∷ 0 ∷ 0 ∷ []); payload = payloads.Nothing } ∷ [];
+  aborts = record { host = 7; target = 0; unit = 0; at = 5000; what = aborts.Device } ∷ [];
+  resets = [];
+  faults = [];
+}
+
+abbrev pub device_leaves_another_target_guard_rows : List Row
+device_leaves_another_target_guard_rows = drive 1200 6 0x00240 ∷ drive 3600 6 0x00640 ∷ drive 4800 6 0x10742 ∷ drive 4890 6 0x10542 ∷ drive 5290 1 0x00200 ∷ drive 5380 6 0x10000 ∷ drive 5380 1 0x02a00 ∷ drive 5780 1 0x06a00 ∷ drive 5780 6 0x001c0 ∷ drive 5870 6 0x081c0 ∷ drive 5870 1 0x02a00 ∷ drive 5870 6 0x00000 ∷ drive 5870 1 0x00a00 ∷ drive 6270 1 0x04a00 ∷ drive 6270 6 0x00008 ∷ drive 6325 6 0x08008 ∷ drive 6325 1 0x00a00 ∷ drive 6325 6 0x00000 ∷ drive 6325 1 0x04a00 ∷ drive 6325 6 0x00100 ∷ drive 6380 6 0x08100 ∷ drive 6380 1 0x00a00 ∷ drive 6380 6 0x00000 ∷ drive 6380 1 0x04a00 ∷ drive 6380 6 0x00100 ∷ drive 6435 6 0x08100 ∷ drive 6435 1 0x00a00 ∷ drive 6435 6 0x00000 ∷ drive 6435 1 0x04a00 ∷ drive 6435 6 0x00001 ∷ drive 6490 6 0x08001 ∷ drive 6490 1 0x00a00 ∷ drive 6490 6 0x00000 ∷ drive 6490 1 0x04a00 ∷ drive 6490 6 0x00001 ∷ drive 6545 6 0x08001 ∷ drive 6545 1 0x00a00 ∷ drive 6545 6 0x00000 ∷ drive 6545 1 0x04a00 ∷ drive 6545 6 0x00100 ∷ drive 6600 6 0x08100 ∷ drive 6600 1 0x00a00 ∷ drive 6600 6 0x00000 ∷ drive 6600 1 0x01a00 ∷ drive 7400 1 0x01a02 ∷ drive 7455 1 0x05a02 ∷ drive 7455 6 0x08000 ∷ drive 7455 1 0x01a00 ∷ drive 7455 6 0x00000 ∷ drive 7455 1 0x03b00 ∷ drive 7855 1 0x07b00 ∷ drive 7855 6 0x08000 ∷ drive 7855 1 0x03a00 ∷ drive 7855 6 0x00000 ∷ drive 7855 1 0x00000 ∷ drive 9055 7 0x00280 ∷ drive 9055 6 0x00240 ∷ drive 11455 7 0x00680 ∷ drive 11455 6 0x00000 ∷ drive 12655 7 0x10781 ∷ drive 12745 7 0x10581 ∷ drive 13145 0 0x00200 ∷ drive 13235 7 0x10000 ∷ drive 13235 0 0x02a00 ∷ drive 13635 0 0x06a00 ∷ drive 13635 7 0x10080 ∷ drive 13690 7 0x18080 ∷ drive 13690 0 0x02a00 ∷ drive 13690 7 0x10000 ∷ drive 13690 0 0x06a00 ∷ drive 13690 7 0x0010c ∷ drive 13780 7 0x0810c ∷ drive 13780 0 0x02a00 ∷ drive 13780 7 0x00000 ∷ drive 13780 0 0x00000 ∷ drive 14980 7 0x00280 ∷ drive 14980 6 0x00240 ∷ drive 17380 7 0x00680 ∷ drive 17380 6 0x00000 ∷ drive 18580 7 0x10782 ∷ drive 18670 7 0x10582 ∷ drive 19070 1 0x00200 ∷ drive 19160 7 0x10000 ∷ drive 19160 1 0x02a00 ∷ drive 19560 1 0x06a00 ∷ drive 19560 7 0x001c0 ∷ drive 19650 7 0x081c0 ∷ drive 19650 1 0x02a00 ∷ drive 19650 7 0x00000 ∷ drive 19650 1 0x00a00 ∷ drive 20050 1 0x04a00 ∷ drive 20050 7 0x00100 ∷ drive 20105 7 0x08100 ∷ drive 20105 1 0x00a00 ∷ drive 20105 7 0x00000 ∷ drive 20105 1 0x04a00 ∷ drive 20105 7 0x00100 ∷ drive 20160 7 0x08100 ∷ drive 20160 1 0x00a00 ∷ drive 20160 7 0x00000 ∷ drive 20160 1 0x04a00 ∷ drive 20160 7 0x00100 ∷ drive 20215 7 0x08100 ∷ drive 20215 1 0x00a00 ∷ drive 20215 7 0x00000 ∷ drive 20215 1 0x04a00 ∷ drive 20215 7 0x00100 ∷ drive 20270 7 0x08100 ∷ drive 20270 1 0x00a00 ∷ drive 20270 7 0x00000 ∷ drive 20270 1 0x04a00 ∷ drive 20270 7 0x00100 ∷ drive 20325 7 0x08100 ∷ drive 20325 1 0x00a00 ∷ drive 20325 7 0x00000 ∷ drive 20325 1 0x04a00 ∷ drive 20325 7 0x00100 ∷ drive 20380 7 0x08100 ∷ drive 20380 1 0x00a00 ∷ drive 20380 7 0x00000 ∷ drive 20380 1 0x03a00 ∷ drive 21180 1 0x03a04 ∷ drive 21235 1 0x07a04 ∷ drive 21235 7 0x08000 ∷ drive 21235 1 0x03a00 ∷ drive 21235 7 0x00000 ∷ drive 21235 1 0x00000 ∷ drive 22435 6 0x00240 ∷ drive 24835 6 0x00640 ∷ drive 26035 6 0x10742 ∷ drive 26125 6 0x10542 ∷ drive 26525 1 0x00200 ∷ drive 26615 6 0x10000 ∷ drive 26615 1 0x02a00 ∷ drive 27015 1 0x06a00 ∷ drive 27015 6 0x00080 ∷ drive 27105 6 0x08080 ∷ drive 27105 1 0x02a00 ∷ drive 27105 6 0x00000 ∷ drive 27105 1 0x00a00 ∷ drive 27505 1 0x04a00 ∷ drive 27505 6 0x00103 ∷ drive 27560 6 0x08103 ∷ drive 27560 1 0x00a00 ∷ drive 27560 6 0x00000 ∷ drive 27560 1 0x04a00 ∷ drive 27560 6 0x00100 ∷ drive 27615 6 0x08100 ∷ drive 27615 1 0x00a00 ∷ drive 27615 6 0x00000 ∷ drive 27615 1 0x04a00 ∷ drive 27615 6 0x00100 ∷ drive 27670 6 0x08100 ∷ drive 27670 1 0x00a00 ∷ drive 27670 6 0x00000 ∷ drive 27670 1 0x04a00 ∷ drive 27670 6 0x00100 ∷ drive 27725 6 0x08100 ∷ drive 27725 1 0x00a00 ∷ drive 27725 6 0x00000 ∷ drive 27725 1 0x04a00 ∷ drive 27725 6 0x00112 ∷ drive 27780 6 0x08112 ∷ drive 27780 1 0x00a00 ∷ drive 27780 6 0x00000 ∷ drive 27780 1 0x04a00 ∷ drive 27780 6 0x00100 ∷ drive 27835 6 0x08100 ∷ drive 27835 1 0x00a00 ∷ drive 27835 6 0x00000 ∷ drive 27835 1 0x01200 ∷ drive 28635 1 0x01270 ∷ drive 28690 1 0x05270 ∷ drive 28690 6 0x08000 ∷ drive 28690 1 0x01300 ∷ drive 28690 6 0x00000 ∷ drive 28745 1 0x05300 ∷ drive 28745 6 0x08000 ∷ drive 28745 1 0x01305 ∷ drive 28745 6 0x00000 ∷ drive 28800 1 0x05305 ∷ drive 28800 6 0x08000 ∷ drive 28800 1 0x01300 ∷ drive 28800 6 0x00000 ∷ drive 28855 1 0x05300 ∷ drive 28855 6 0x08000 ∷ drive 28855 1 0x01300 ∷ drive 28855 6 0x00000 ∷ drive 28910 1 0x05300 ∷ drive 28910 6 0x08000 ∷ drive 28910 1 0x01300 ∷ drive 28910 6 0x00000 ∷ drive 28965 1 0x05300 ∷ drive 28965 6 0x08000 ∷ drive 28965 1 0x01300 ∷ drive 28965 6 0x00000 ∷ drive 29020 1 0x05300 ∷ drive 29020 6 0x08000 ∷ drive 29020 1 0x0130a ∷ drive 29020 6 0x00000 ∷ drive 29075 1 0x0530a ∷ drive 29075 6 0x08000 ∷ drive 29075 1 0x01300 ∷ drive 29075 6 0x00000 ∷ drive 29130 1 0x05300 ∷ drive 29130 6 0x08000 ∷ drive 29130 1 0x01300 ∷ drive 29130 6 0x00000 ∷ drive 29185 1 0x05300 ∷ drive 29185 6 0x08000 ∷ drive 29185 1 0x01300 ∷ drive 29185 6 0x00000 ∷ drive 29240 1 0x05300 ∷ drive 29240 6 0x08000 ∷ drive 29240 1 0x01300 ∷ drive 29240 6 0x00000 ∷ drive 29295 1 0x05300 ∷ drive 29295 6 0x08000 ∷ drive 29295 1 0x01321 ∷ drive 29295 6 0x00000 ∷ drive 29350 1 0x05321 ∷ drive 29350 6 0x08000 ∷ drive 29350 1 0x01300 ∷ drive 29350 6 0x00000 ∷ drive 29405 1 0x05300 ∷ drive 29405 6 0x08000 ∷ drive 29405 1 0x01300 ∷ drive 29405 6 0x00000 ∷ drive 29460 1 0x05300 ∷ drive 29460 6 0x08000 ∷ drive 29460 1 0x01300 ∷ drive 29460 6 0x00000 ∷ drive 29515 1 0x05300 ∷ drive 29515 6 0x08000 ∷ drive 29515 1 0x01300 ∷ drive 29515 6 0x00000 ∷ drive 29570 1 0x05300 ∷ drive 29570 6 0x08000 ∷ drive 29570 1 0x01300 ∷ drive 29570 6 0x00000 ∷ drive 29625 1 0x05300 ∷ drive 29625 6 0x08000 ∷ drive 29625 1 0x01200 ∷ drive 29625 6 0x00000 ∷ drive 29625 1 0x01b00 ∷ drive 30025 1 0x05b00 ∷ drive 30025 6 0x08000 ∷ drive 30025 1 0x01a00 ∷ drive 30025 6 0x00000 ∷ drive 30025 1 0x03b00 ∷ drive 30425 1 0x07b00 ∷ drive 30425 6 0x08000 ∷ drive 30425 1 0x03a00 ∷ drive 30425 6 0x00000 ∷ drive 30425 1 0x00000 ∷ drive 31625 1 0x00202 ∷ drive 34025 1 0x00602 ∷ drive 35225 1 0x01782 ∷ drive 35315 1 0x01582 ∷ drive 35715 7 0x00200 ∷ drive 35715 1 0x01782 ∷ drive 35805 1 0x03a80 ∷ drive 35805 7 0x00000 ∷ drive 36205 1 0x07a80 ∷ drive 36205 7 0x08000 ∷ drive 36205 1 0x03a00 ∷ drive 36205 7 0x00000 ∷ drive 36205 1 0x01b00 ∷ drive 36605 1 0x05b00 ∷ drive 36605 7 0x08000 ∷ drive 36605 1 0x01a00 ∷ drive 36605 7 0x00000 ∷ drive 36605 1 0x03b00 ∷ drive 37005 1 0x07b00 ∷ drive 37005 7 0x08000 ∷ drive 37005 1 0x03a00 ∷ drive 37005 7 0x00000 ∷ drive 37005 1 0x00000 ∷ []
+
+abbrev device_leaves_another_target_guard_events : List Event
+device_leaves_another_target_guard_events = events.Accept (command 1) ∷ events.Run (command 1) ∷ events.End (command 1) 2 ∷ events.Aborted 7 0 0 aborts.Device ∷ events.Accept (command 2) ∷ events.Accept (sense 1) ∷ events.Run (sense 1) ∷ events.End (sense 1) 0 ∷ events.Run (command 2) ∷ events.End (command 2) 0 ∷ []
+
+abbrev pub device_leaves_another_target_guard_shown : Shows
+device_leaves_another_target_guard_shown = record { rows = reverse device_leaves_another_target_guard_rows; history = reverse device_leaves_another_target_guard_events; ended = true }
+
+device_leaves_another_target_guard_run : shows (run_by_due device_leaves_another_target_guard 279) ≡ device_leaves_another_target_guard_shown
+unfolding need_of sent_of ones union_below line_of form_out form_in least run_from
+device_leaves_another_target_guard_run = refl
 
 -- ---- disconnect_struck_is_counted_guard
 
@@ -257,6 +319,34 @@ own_sense_and_queue_guard_shown = record { rows = reverse own_sense_and_queue_gu
 own_sense_and_queue_guard_run : shows (run_by_due own_sense_and_queue_guard 202) ≡ own_sense_and_queue_guard_shown
 unfolding need_of sent_of ones union_below line_of form_out form_in least run_from
 own_sense_and_queue_guard_run = refl
+
+-- ---- pick_of_each_target_guard
+
+abbrev pub pick_of_each_target_guard : ScenarioValue
+pick_of_each_target_guard = record {
+  version = 1;
+  hosts = record { dev = 7; latency = 0; most = 8; retries = 2; period = 0; offset = 0; lag = 0; offers = true } ∷ [];
+  targets = record { dev = 0; latency = 0; retries = 2; disc = policies.Command; pick = picks.First; seek = 20000; period = 0; offset = 0; begins = false } ∷ record { dev = 1; latency = 0; retries = 2; disc = policies.Command; pick = picks.Last; seek = 60000; period = 0; offset = 0; begins = false } ∷ [];
+  units = record { target = 1; unit = 0; blocks = 1; size = 16; depth = 8 } ∷ [];
+  fills = [];
+  commands = record { host = 7; target = 1; unit = 0; at = 0; tag = tags.Simple 1; cdb = (0 ∷ 0 ∷ 0 ∷ 0 ∷ 0 ∷ 0 ∷ []); payload = payloads.Nothing } ∷ record { host = 7; target = 1; unit = 0; at = 0; tag = tags.Simple 2; cdb = (0 ∷ 0 ∷ 0 ∷ 0 ∷ 0 ∷ 0 ∷ []); payload = payloads.Nothing } ∷ record { host = 7; target = 1; unit = 0; at = 0; tag = tags.Simple 3; cdb = (0 ∷ 0 ∷ 0 ∷ 0 ∷ 0 ∷ 0 ∷ []); payload = payloads.Nothing } ∷ [];
+  aborts = [];
+  resets = [];
+  faults = [];
+}
+
+abbrev pub pick_of_each_target_guard_rows : List Row
+pick_of_each_target_guard_rows = drive 1200 7 0x00280 ∷ drive 3600 7 0x00680 ∷ drive 4800 7 0x10782 ∷ drive 4890 7 0x10582 ∷ drive 5290 1 0x00200 ∷ drive 5380 7 0x10000 ∷ drive 5380 1 0x02a00 ∷ drive 5780 1 0x06a00 ∷ drive 5780 7 0x101c0 ∷ drive 5835 7 0x181c0 ∷ drive 5835 1 0x02a00 ∷ drive 5835 7 0x10000 ∷ drive 5835 1 0x06a00 ∷ drive 5835 7 0x10020 ∷ drive 5890 7 0x18020 ∷ drive 5890 1 0x02a00 ∷ drive 5890 7 0x10000 ∷ drive 5890 1 0x06a00 ∷ drive 5890 7 0x00001 ∷ drive 5980 7 0x08001 ∷ drive 5980 1 0x02a00 ∷ drive 5980 7 0x00000 ∷ drive 5980 1 0x00a00 ∷ drive 6380 1 0x04a00 ∷ drive 6380 7 0x00100 ∷ drive 6435 7 0x08100 ∷ drive 6435 1 0x00a00 ∷ drive 6435 7 0x00000 ∷ drive 6435 1 0x04a00 ∷ drive 6435 7 0x00100 ∷ drive 6490 7 0x08100 ∷ drive 6490 1 0x00a00 ∷ drive 6490 7 0x00000 ∷ drive 6490 1 0x04a00 ∷ drive 6490 7 0x00100 ∷ drive 6545 7 0x08100 ∷ drive 6545 1 0x00a00 ∷ drive 6545 7 0x00000 ∷ drive 6545 1 0x04a00 ∷ drive 6545 7 0x00100 ∷ drive 6600 7 0x08100 ∷ drive 6600 1 0x00a00 ∷ drive 6600 7 0x00000 ∷ drive 6600 1 0x04a00 ∷ drive 6600 7 0x00100 ∷ drive 6655 7 0x08100 ∷ drive 6655 1 0x00a00 ∷ drive 6655 7 0x00000 ∷ drive 6655 1 0x04a00 ∷ drive 6655 7 0x00100 ∷ drive 6710 7 0x08100 ∷ drive 6710 1 0x00a00 ∷ drive 6710 7 0x00000 ∷ drive 6710 1 0x03a00 ∷ drive 7510 1 0x03a04 ∷ drive 7565 1 0x07a04 ∷ drive 7565 7 0x08000 ∷ drive 7565 1 0x03a00 ∷ drive 7565 7 0x00000 ∷ drive 7565 1 0x00000 ∷ drive 8765 7 0x00280 ∷ drive 11165 7 0x00680 ∷ drive 12365 7 0x10782 ∷ drive 12455 7 0x10582 ∷ drive 12855 1 0x00200 ∷ drive 12945 7 0x10000 ∷ drive 12945 1 0x02a00 ∷ drive 13345 1 0x06a00 ∷ drive 13345 7 0x101c0 ∷ drive 13400 7 0x181c0 ∷ drive 13400 1 0x02a00 ∷ drive 13400 7 0x10000 ∷ drive 13400 1 0x06a00 ∷ drive 13400 7 0x10020 ∷ drive 13455 7 0x18020 ∷ drive 13455 1 0x02a00 ∷ drive 13455 7 0x10000 ∷ drive 13455 1 0x06a00 ∷ drive 13455 7 0x00002 ∷ drive 13545 7 0x08002 ∷ drive 13545 1 0x02a00 ∷ drive 13545 7 0x00000 ∷ drive 13545 1 0x00a00 ∷ drive 13945 1 0x04a00 ∷ drive 13945 7 0x00100 ∷ drive 14000 7 0x08100 ∷ drive 14000 1 0x00a00 ∷ drive 14000 7 0x00000 ∷ drive 14000 1 0x04a00 ∷ drive 14000 7 0x00100 ∷ drive 14055 7 0x08100 ∷ drive 14055 1 0x00a00 ∷ drive 14055 7 0x00000 ∷ drive 14055 1 0x04a00 ∷ drive 14055 7 0x00100 ∷ drive 14110 7 0x08100 ∷ drive 14110 1 0x00a00 ∷ drive 14110 7 0x00000 ∷ drive 14110 1 0x04a00 ∷ drive 14110 7 0x00100 ∷ drive 14165 7 0x08100 ∷ drive 14165 1 0x00a00 ∷ drive 14165 7 0x00000 ∷ drive 14165 1 0x04a00 ∷ drive 14165 7 0x00100 ∷ drive 14220 7 0x08100 ∷ drive 14220 1 0x00a00 ∷ drive 14220 7 0x00000 ∷ drive 14220 1 0x04a00 ∷ drive 14220 7 0x00100 ∷ drive 14275 7 0x08100 ∷ drive 14275 1 0x00a00 ∷ drive 14275 7 0x00000 ∷ drive 14275 1 0x03a00 ∷ drive 15075 1 0x03a04 ∷ drive 15130 1 0x07a04 ∷ drive 15130 7 0x08000 ∷ drive 15130 1 0x03a00 ∷ drive 15130 7 0x00000 ∷ drive 15130 1 0x00000 ∷ drive 16330 7 0x00280 ∷ drive 18730 7 0x00680 ∷ drive 19930 7 0x10782 ∷ drive 20020 7 0x10582 ∷ drive 20420 1 0x00200 ∷ drive 20510 7 0x10000 ∷ drive 20510 1 0x02a00 ∷ drive 20910 1 0x06a00 ∷ drive 20910 7 0x101c0 ∷ drive 20965 7 0x181c0 ∷ drive 20965 1 0x02a00 ∷ drive 20965 7 0x10000 ∷ drive 20965 1 0x06a00 ∷ drive 20965 7 0x10020 ∷ drive 21020 7 0x18020 ∷ drive 21020 1 0x02a00 ∷ drive 21020 7 0x10000 ∷ drive 21020 1 0x06a00 ∷ drive 21020 7 0x00103 ∷ drive 21110 7 0x08103 ∷ drive 21110 1 0x02a00 ∷ drive 21110 7 0x00000 ∷ drive 21110 1 0x00a00 ∷ drive 21510 1 0x04a00 ∷ drive 21510 7 0x00100 ∷ drive 21565 7 0x08100 ∷ drive 21565 1 0x00a00 ∷ drive 21565 7 0x00000 ∷ drive 21565 1 0x04a00 ∷ drive 21565 7 0x00100 ∷ drive 21620 7 0x08100 ∷ drive 21620 1 0x00a00 ∷ drive 21620 7 0x00000 ∷ drive 21620 1 0x04a00 ∷ drive 21620 7 0x00100 ∷ drive 21675 7 0x08100 ∷ drive 21675 1 0x00a00 ∷ drive 21675 7 0x00000 ∷ drive 21675 1 0x04a00 ∷ drive 21675 7 0x00100 ∷ drive 21730 7 0x08100 ∷ drive 21730 1 0x00a00 ∷ drive 21730 7 0x00000 ∷ drive 21730 1 0x04a00 ∷ drive 21730 7 0x00100 ∷ drive 21785 7 0x08100 ∷ drive 21785 1 0x00a00 ∷ drive 21785 7 0x00000 ∷ drive 21785 1 0x04a00 ∷ drive 21785 7 0x00100 ∷ drive 21840 7 0x08100 ∷ drive 21840 1 0x00a00 ∷ drive 21840 7 0x00000 ∷ drive 21840 1 0x03a00 ∷ drive 22640 1 0x03a04 ∷ drive 22695 1 0x07a04 ∷ drive 22695 7 0x08000 ∷ drive 22695 1 0x03a00 ∷ drive 22695 7 0x00000 ∷ drive 22695 1 0x00000 ∷ drive 66710 1 0x00202 ∷ drive 69110 1 0x00602 ∷ drive 70310 1 0x01782 ∷ drive 70400 1 0x01582 ∷ drive 70800 7 0x00200 ∷ drive 70800 1 0x01782 ∷ drive 70890 1 0x03a80 ∷ drive 70890 7 0x00000 ∷ drive 71290 1 0x07a80 ∷ drive 71290 7 0x08000 ∷ drive 71290 1 0x03a20 ∷ drive 71290 7 0x00000 ∷ drive 71345 1 0x07a20 ∷ drive 71345 7 0x08000 ∷ drive 71345 1 0x03a01 ∷ drive 71345 7 0x00000 ∷ drive 71400 1 0x07a01 ∷ drive 71400 7 0x08000 ∷ drive 71400 1 0x03a00 ∷ drive 71400 7 0x00000 ∷ drive 71400 1 0x01b00 ∷ drive 71800 1 0x05b00 ∷ drive 71800 7 0x08000 ∷ drive 71800 1 0x01a00 ∷ drive 71800 7 0x00000 ∷ drive 71800 1 0x03b00 ∷ drive 72200 1 0x07b00 ∷ drive 72200 7 0x08000 ∷ drive 72200 1 0x03a00 ∷ drive 72200 7 0x00000 ∷ drive 72200 1 0x00000 ∷ drive 132200 1 0x00202 ∷ drive 134600 1 0x00602 ∷ drive 135800 1 0x01782 ∷ drive 135890 1 0x01582 ∷ drive 136290 7 0x00200 ∷ drive 136290 1 0x01782 ∷ drive 136380 1 0x03a80 ∷ drive 136380 7 0x00000 ∷ drive 136780 1 0x07a80 ∷ drive 136780 7 0x08000 ∷ drive 136780 1 0x03a20 ∷ drive 136780 7 0x00000 ∷ drive 136835 1 0x07a20 ∷ drive 136835 7 0x08000 ∷ drive 136835 1 0x03b03 ∷ drive 136835 7 0x00000 ∷ drive 136890 1 0x07b03 ∷ drive 136890 7 0x08000 ∷ drive 136890 1 0x03a00 ∷ drive 136890 7 0x00000 ∷ drive 136890 1 0x01b00 ∷ drive 137290 1 0x05b00 ∷ drive 137290 7 0x08000 ∷ drive 137290 1 0x01a00 ∷ drive 137290 7 0x00000 ∷ drive 137290 1 0x03b00 ∷ drive 137690 1 0x07b00 ∷ drive 137690 7 0x08000 ∷ drive 137690 1 0x03a00 ∷ drive 137690 7 0x00000 ∷ drive 137690 1 0x00000 ∷ drive 197690 1 0x00202 ∷ drive 200090 1 0x00602 ∷ drive 201290 1 0x01782 ∷ drive 201380 1 0x01582 ∷ drive 201780 7 0x00200 ∷ drive 201780 1 0x01782 ∷ drive 201870 1 0x03a80 ∷ drive 201870 7 0x00000 ∷ drive 202270 1 0x07a80 ∷ drive 202270 7 0x08000 ∷ drive 202270 1 0x03a20 ∷ drive 202270 7 0x00000 ∷ drive 202325 1 0x07a20 ∷ drive 202325 7 0x08000 ∷ drive 202325 1 0x03a02 ∷ drive 202325 7 0x00000 ∷ drive 202380 1 0x07a02 ∷ drive 202380 7 0x08000 ∷ drive 202380 1 0x03a00 ∷ drive 202380 7 0x00000 ∷ drive 202380 1 0x01b00 ∷ drive 202780 1 0x05b00 ∷ drive 202780 7 0x08000 ∷ drive 202780 1 0x01a00 ∷ drive 202780 7 0x00000 ∷ drive 202780 1 0x03b00 ∷ drive 203180 1 0x07b00 ∷ drive 203180 7 0x08000 ∷ drive 203180 1 0x03a00 ∷ drive 203180 7 0x00000 ∷ drive 203180 1 0x00000 ∷ []
+
+abbrev pick_of_each_target_guard_events : List Event
+pick_of_each_target_guard_events = events.Accept (command 1) ∷ events.Accept (command 2) ∷ events.Accept (command 3) ∷ events.Run (command 1) ∷ events.End (command 1) 0 ∷ events.Run (command 3) ∷ events.End (command 3) 0 ∷ events.Run (command 2) ∷ events.End (command 2) 0 ∷ []
+
+abbrev pub pick_of_each_target_guard_shown : Shows
+pick_of_each_target_guard_shown = record { rows = reverse pick_of_each_target_guard_rows; history = reverse pick_of_each_target_guard_events; ended = true }
+
+pick_of_each_target_guard_run : shows (run_by_due pick_of_each_target_guard 274) ≡ pick_of_each_target_guard_shown
+unfolding need_of sent_of ones union_below line_of form_out form_in least run_from
+pick_of_each_target_guard_run = refl
 
 -- ---- queue_of_another_keeps_the_agreement_guard
 

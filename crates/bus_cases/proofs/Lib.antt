@@ -1,3 +1,4 @@
+mod ArrayCases
 mod GuardCases
 mod RuleCases
 mod RunCases

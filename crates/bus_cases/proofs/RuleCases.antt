@@ -3,14 +3,14 @@
 -- tools/rule_cases.txt, whose verdicts come from an independent judge.
 use Rattle.std.proofs.Common.{ℕ, ◌≡◌, [], ◌∷◌, reverse, refl}
 use lib.Count.{ones}
-use Rattle.bus_due.specs.bus_trace.specs.LineSet.{set_of, line_of}
-use Rattle.bus_due.specs.bus_trace.specs.View.{union_below}
-use Rattle.bus_due.specs.bus_trace.specs.declared.Row.{Row}
-use Rattle.bus_due.specs.bus_trace.specs.declared.Kind.TheVariants.{Drives, Fault}
-use Rattle.bus_due.specs.msg_grammar.specs.Messages.{form_out, form_in}
-use Rattle.bus_due.specs.bus_rules.specs.Seen.{seen_with}
-use Rattle.bus_due.specs.bus_rules.specs.Rules.{judged_whole}
-use Rattle.bus_due.specs.bus_rules.specs.declared.verdict.Verdict.TheVariants.{Lawful, Broken}
+use Rattle.bus_trace.specs.LineSet.{set_of, line_of}
+use Rattle.bus_trace.specs.View.{union_below}
+use Rattle.bus_trace.specs.declared.Row.{Row}
+use Rattle.bus_trace.specs.declared.Kind.TheVariants.{Drives, Fault}
+use Rattle.msg_grammar.specs.Messages.{form_out, form_in}
+use Rattle.bus_rules.specs.Seen.{seen_with}
+use Rattle.bus_rules.specs.Rules.{judged_whole}
+use Rattle.bus_rules.specs.declared.verdict.Verdict.TheVariants.{Lawful, Broken}
 
 abbrev drive : ℕ → ℕ → ℕ → Row
 drive time dev lines = record { time = time; dev = dev; kind = Drives (set_of lines) }
@@ -29,6 +29,10 @@ same_time = refl
 earlier_end : judged_whole (reverse (drive 1200 7 0x00280 ∷ [])) 1199 ≡ Broken 2 1
 unfolding union_below seen_with line_of ones form_out form_in
 earlier_end = refl
+
+earlier_row_in_reset : judged_whole (reverse (drive 1200 7 0x00280 ∷ drive 2000 3 0x20000 ∷ drive 1999 7 0x00000 ∷ [])) 1999 ≡ Broken 3 1
+unfolding union_below seen_with line_of ones form_out form_in
+earlier_row_in_reset = refl
 
 nothing_new : judged_whole (reverse (drive 1200 7 0x00280 ∷ drive 1300 7 0x00280 ∷ [])) 1300 ≡ Broken 2 2
 unfolding union_below seen_with line_of ones form_out form_in
@@ -65,6 +69,26 @@ byte_struck_late = refl
 byte_of_another : judged_whole (reverse (drive 1200 7 0x00280 ∷ drive 3600 7 0x00680 ∷ drive 4800 7 0x10781 ∷ drive 4890 7 0x10581 ∷ drive 5290 0 0x00200 ∷ drive 5380 7 0x10000 ∷ drive 5380 0 0x02a00 ∷ drive 5780 0 0x06a00 ∷ drive 5780 7 0x001c0 ∷ drive 5870 7 0x081c0 ∷ strike 5870 7 1 ∷ [])) 5870 ≡ Broken 11 2
 unfolding union_below seen_with line_of ones form_out form_in
 byte_of_another = refl
+
+ids_struck_before_the_calling : judged_whole (reverse (drive 1200 7 0x00280 ∷ drive 3600 7 0x00680 ∷ strike 4000 0 3 ∷ [])) 4000 ≡ Broken 3 2
+unfolding union_below seen_with line_of ones form_out form_in
+ids_struck_before_the_calling = refl
+
+ids_struck_after_a_withdrawal : judged_whole (reverse (drive 1200 7 0x00280 ∷ drive 3600 7 0x00680 ∷ drive 4800 7 0x10781 ∷ drive 4890 7 0x10581 ∷ drive 250004890 7 0x10400 ∷ strike 250005000 0 3 ∷ [])) 250005000 ≡ Broken 6 2
+unfolding union_below seen_with line_of ones form_out form_in
+ids_struck_after_a_withdrawal = refl
+
+ids_struck_after_an_answer_taken_back : judged_whole (reverse (drive 1200 7 0x00280 ∷ drive 3600 7 0x00680 ∷ drive 4800 7 0x10781 ∷ drive 4890 7 0x10581 ∷ drive 5290 0 0x00200 ∷ drive 5300 0 0x00000 ∷ strike 5700 0 3 ∷ [])) 5700 ≡ Broken 7 2
+unfolding union_below seen_with line_of ones form_out form_in
+ids_struck_after_an_answer_taken_back = refl
+
+no_byte_struck : judged_whole (reverse (drive 1200 7 0x00280 ∷ drive 3600 7 0x00680 ∷ drive 4800 7 0x10781 ∷ drive 4890 7 0x10581 ∷ drive 5290 0 0x00200 ∷ drive 5380 7 0x10000 ∷ drive 5380 0 0x02a00 ∷ strike 5380 0 1 ∷ [])) 5380 ≡ Broken 8 2
+unfolding union_below seen_with line_of ones form_out form_in
+no_byte_struck = refl
+
+nothing_new_in_reset : judged_whole (reverse (drive 1200 7 0x00280 ∷ drive 2000 3 0x20000 ∷ drive 2100 7 0x00280 ∷ [])) 2100 ≡ Broken 3 2
+unfolding union_below seen_with line_of ones form_out form_in
+nothing_new_in_reset = refl
 
 raises_without_bsy : judged_whole (reverse (drive 1200 7 0x00080 ∷ [])) 1200 ≡ Broken 1 3
 unfolding union_below seen_with line_of ones form_out form_in
@@ -174,6 +198,38 @@ loser_raises : judged_whole (reverse (drive 1200 7 0x00280 ∷ drive 1200 6 0x00
 unfolding union_below seen_with line_of ones form_out form_in
 loser_raises = refl
 
+loser_0_late : judged_whole (reverse (drive 1200 7 0x00280 ∷ drive 1200 0 0x00201 ∷ drive 3600 7 0x00680 ∷ drive 4401 0 0x00000 ∷ [])) 4401 ≡ Broken 4 7
+unfolding union_below seen_with line_of ones form_out form_in
+loser_0_late = refl
+
+loser_1_late : judged_whole (reverse (drive 1200 7 0x00280 ∷ drive 1200 1 0x00202 ∷ drive 3600 7 0x00680 ∷ drive 4401 1 0x00000 ∷ [])) 4401 ≡ Broken 4 7
+unfolding union_below seen_with line_of ones form_out form_in
+loser_1_late = refl
+
+loser_2_late : judged_whole (reverse (drive 1200 7 0x00280 ∷ drive 1200 2 0x00204 ∷ drive 3600 7 0x00680 ∷ drive 4401 2 0x00000 ∷ [])) 4401 ≡ Broken 4 7
+unfolding union_below seen_with line_of ones form_out form_in
+loser_2_late = refl
+
+loser_3_late : judged_whole (reverse (drive 1200 7 0x00280 ∷ drive 1200 3 0x00208 ∷ drive 3600 7 0x00680 ∷ drive 4401 3 0x00000 ∷ [])) 4401 ≡ Broken 4 7
+unfolding union_below seen_with line_of ones form_out form_in
+loser_3_late = refl
+
+loser_4_late : judged_whole (reverse (drive 1200 7 0x00280 ∷ drive 1200 4 0x00210 ∷ drive 3600 7 0x00680 ∷ drive 4401 4 0x00000 ∷ [])) 4401 ≡ Broken 4 7
+unfolding union_below seen_with line_of ones form_out form_in
+loser_4_late = refl
+
+loser_5_late : judged_whole (reverse (drive 1200 7 0x00280 ∷ drive 1200 5 0x00220 ∷ drive 3600 7 0x00680 ∷ drive 4401 5 0x00000 ∷ [])) 4401 ≡ Broken 4 7
+unfolding union_below seen_with line_of ones form_out form_in
+loser_5_late = refl
+
+device_7_late : judged_whole (reverse (drive 1200 6 0x00240 ∷ drive 1300 7 0x00800 ∷ drive 3600 6 0x00640 ∷ drive 4401 7 0x00000 ∷ [])) 4401 ≡ Broken 4 7
+unfolding union_below seen_with line_of ones form_out form_in
+device_7_late = refl
+
+third_raises_before_the_answer : judged_whole (reverse (drive 1200 7 0x00280 ∷ drive 3600 7 0x00680 ∷ drive 4800 7 0x10781 ∷ drive 4890 7 0x10581 ∷ drive 5000 3 0x00008 ∷ [])) 5000 ≡ Broken 5 7
+unfolding union_below seen_with line_of ones form_out form_in
+third_raises_before_the_answer = refl
+
 calls_early : judged_whole (reverse (drive 1200 7 0x00280 ∷ drive 3600 7 0x00680 ∷ drive 4799 7 0x10781 ∷ [])) 4799 ≡ Broken 3 8
 unfolding union_below seen_with line_of ones form_out form_in
 calls_early = refl
@@ -225,6 +281,26 @@ releases_bsy_in_time = refl
 releases_bsy_and_atn : judged_whole (reverse (drive 1200 7 0x00280 ∷ drive 3600 7 0x00680 ∷ drive 4800 7 0x10781 ∷ drive 4890 7 0x00581 ∷ [])) 4890 ≡ Broken 4 9
 unfolding union_below seen_with line_of ones form_out form_in
 releases_bsy_and_atn = refl
+
+calls_without_bsy : judged_whole (reverse (drive 1200 7 0x00280 ∷ drive 3600 7 0x00680 ∷ drive 4800 7 0x10581 ∷ [])) 4800 ≡ Broken 3 9
+unfolding union_below seen_with line_of ones form_out form_in
+calls_without_bsy = refl
+
+calls_without_sel : judged_whole (reverse (drive 1200 7 0x00280 ∷ drive 3600 7 0x00680 ∷ drive 4800 7 0x10381 ∷ [])) 4800 ≡ Broken 3 9
+unfolding union_below seen_with line_of ones form_out form_in
+calls_without_sel = refl
+
+calls_with_cd : judged_whole (reverse (drive 1200 7 0x00280 ∷ drive 3600 7 0x00680 ∷ drive 4800 7 0x10f81 ∷ [])) 4800 ≡ Broken 3 9
+unfolding union_below seen_with line_of ones form_out form_in
+calls_with_cd = refl
+
+calls_with_msg : judged_whole (reverse (drive 1200 7 0x00280 ∷ drive 3600 7 0x00680 ∷ drive 4800 7 0x12781 ∷ [])) 4800 ≡ Broken 3 9
+unfolding union_below seen_with line_of ones form_out form_in
+calls_with_msg = refl
+
+calls_with_ack : judged_whole (reverse (drive 1200 7 0x00280 ∷ drive 3600 7 0x00680 ∷ drive 4800 7 0x18781 ∷ [])) 4800 ≡ Broken 3 9
+unfolding union_below seen_with line_of ones form_out form_in
+calls_with_ack = refl
 
 answers_early : judged_whole (reverse (drive 1200 7 0x00280 ∷ drive 3600 7 0x00680 ∷ drive 4800 7 0x10781 ∷ drive 4890 7 0x10581 ∷ drive 5289 0 0x00200 ∷ [])) 5289 ≡ Broken 5 10
 unfolding union_below seen_with line_of ones form_out form_in
@@ -282,6 +358,30 @@ third_raises_atn : judged_whole (reverse (drive 1200 0 0x00201 ∷ drive 3600 0 
 unfolding union_below seen_with line_of ones form_out form_in
 third_raises_atn = refl
 
+answers_after_a_withdrawal : judged_whole (reverse (drive 1200 7 0x00280 ∷ drive 3600 7 0x00680 ∷ drive 4800 7 0x10781 ∷ drive 4890 7 0x10581 ∷ drive 250004890 7 0x10400 ∷ drive 250005290 0 0x00200 ∷ [])) 250005290 ≡ Broken 6 10
+unfolding union_below seen_with line_of ones form_out form_in
+answers_after_a_withdrawal = refl
+
+answers_a_reselection_with_more : judged_whole (reverse (drive 1200 0 0x00201 ∷ drive 3600 0 0x00601 ∷ drive 4800 0 0x01781 ∷ drive 4890 0 0x01581 ∷ drive 5290 7 0x00a00 ∷ [])) 5290 ≡ Broken 5 10
+unfolding union_below seen_with line_of ones form_out form_in
+answers_a_reselection_with_more = refl
+
+answers_before_the_release : judged_whole (reverse (drive 1200 7 0x00280 ∷ drive 3600 7 0x00680 ∷ drive 4800 7 0x10781 ∷ drive 5290 0 0x00200 ∷ [])) 5290 ≡ Broken 4 10
+unfolding union_below seen_with line_of ones form_out form_in
+answers_before_the_release = refl
+
+caller_raises_bsy_in_a_selection : judged_whole (reverse (drive 1200 7 0x00280 ∷ drive 3600 7 0x00680 ∷ drive 4800 7 0x10781 ∷ drive 4890 7 0x10581 ∷ drive 5290 0 0x00200 ∷ drive 5300 7 0x10781 ∷ [])) 5300 ≡ Broken 6 10
+unfolding union_below seen_with line_of ones form_out form_in
+caller_raises_bsy_in_a_selection = refl
+
+called_raises_atn_in_a_selection : judged_whole (reverse (drive 1200 7 0x00280 ∷ drive 3600 7 0x00680 ∷ drive 4800 7 0x10781 ∷ drive 4890 7 0x10581 ∷ drive 5290 0 0x00200 ∷ drive 5300 0 0x10200 ∷ [])) 5300 ≡ Broken 6 10
+unfolding union_below seen_with line_of ones form_out form_in
+called_raises_atn_in_a_selection = refl
+
+caller_raises_cd_in_a_reselection : judged_whole (reverse (drive 1200 0 0x00201 ∷ drive 3600 0 0x00601 ∷ drive 4800 0 0x01781 ∷ drive 4890 0 0x01581 ∷ drive 5290 7 0x00200 ∷ drive 5300 0 0x01d81 ∷ [])) 5300 ≡ Broken 6 10
+unfolding union_below seen_with line_of ones form_out form_in
+caller_raises_cd_in_a_reselection = refl
+
 releases_sel_early : judged_whole (reverse (drive 1200 7 0x00280 ∷ drive 3600 7 0x00680 ∷ drive 4800 7 0x10781 ∷ drive 4890 7 0x10581 ∷ drive 5290 0 0x00200 ∷ drive 5379 7 0x10000 ∷ [])) 5379 ≡ Broken 6 11
 unfolding union_below seen_with line_of ones form_out form_in
 releases_sel_early = refl
@@ -309,6 +409,26 @@ reselects_in_time = refl
 reselects_without_bsy : judged_whole (reverse (drive 1200 0 0x00201 ∷ drive 3600 0 0x00601 ∷ drive 4800 0 0x01781 ∷ drive 4890 0 0x01581 ∷ drive 5290 7 0x00200 ∷ drive 5380 0 0x01000 ∷ [])) 5380 ≡ Broken 6 11
 unfolding union_below seen_with line_of ones form_out form_in
 reselects_without_bsy = refl
+
+releases_sel_with_bsy : judged_whole (reverse (drive 1200 7 0x00280 ∷ drive 3600 7 0x00680 ∷ drive 4800 7 0x10781 ∷ drive 4890 7 0x10581 ∷ drive 5290 0 0x00200 ∷ drive 5380 7 0x10200 ∷ [])) 5380 ≡ Broken 6 11
+unfolding union_below seen_with line_of ones form_out form_in
+releases_sel_with_bsy = refl
+
+releases_sel_with_cd : judged_whole (reverse (drive 1200 7 0x00280 ∷ drive 3600 7 0x00680 ∷ drive 4800 7 0x10781 ∷ drive 4890 7 0x10581 ∷ drive 5290 0 0x00200 ∷ drive 5380 7 0x10800 ∷ [])) 5380 ≡ Broken 6 11
+unfolding union_below seen_with line_of ones form_out form_in
+releases_sel_with_cd = refl
+
+releases_sel_with_io : judged_whole (reverse (drive 1200 7 0x00280 ∷ drive 3600 7 0x00680 ∷ drive 4800 7 0x10781 ∷ drive 4890 7 0x10581 ∷ drive 5290 0 0x00200 ∷ drive 5380 7 0x11000 ∷ [])) 5380 ≡ Broken 6 11
+unfolding union_below seen_with line_of ones form_out form_in
+releases_sel_with_io = refl
+
+releases_sel_with_msg : judged_whole (reverse (drive 1200 7 0x00280 ∷ drive 3600 7 0x00680 ∷ drive 4800 7 0x10781 ∷ drive 4890 7 0x10581 ∷ drive 5290 0 0x00200 ∷ drive 5380 7 0x12000 ∷ [])) 5380 ≡ Broken 6 11
+unfolding union_below seen_with line_of ones form_out form_in
+releases_sel_with_msg = refl
+
+releases_sel_with_req : judged_whole (reverse (drive 1200 7 0x00280 ∷ drive 3600 7 0x00680 ∷ drive 4800 7 0x10781 ∷ drive 4890 7 0x10581 ∷ drive 5290 0 0x00200 ∷ drive 5380 7 0x14000 ∷ [])) 5380 ≡ Broken 6 11
+unfolding union_below seen_with line_of ones form_out form_in
+releases_sel_with_req = refl
 
 gives_up_early : judged_whole (reverse (drive 1200 7 0x00280 ∷ drive 3600 7 0x00680 ∷ drive 4800 7 0x10781 ∷ drive 4890 7 0x10581 ∷ drive 250004889 7 0x10400 ∷ [])) 250004889 ≡ Broken 5 12
 unfolding union_below seen_with line_of ones form_out form_in
@@ -358,6 +478,30 @@ asks_too_soon : judged_whole (reverse (drive 1200 0 0x00201 ∷ drive 3600 0 0x0
 unfolding union_below seen_with line_of ones form_out form_in
 asks_too_soon = refl
 
+keeps_bsy_in_a_selection : judged_whole (reverse (drive 1200 7 0x00280 ∷ drive 3600 7 0x00680 ∷ drive 4800 7 0x10781 ∷ drive 4890 7 0x10581 ∷ drive 5290 0 0x00200 ∷ drive 5380 7 0x10000 ∷ drive 5400 7 0x10200 ∷ drive 5500 7 0x103c0 ∷ drive 5600 7 0x101c0 ∷ [])) 5600 ≡ Lawful
+unfolding union_below seen_with line_of ones form_out form_in
+keeps_bsy_in_a_selection = refl
+
+target_frees_a_reselection_slowly : judged_whole (reverse (drive 1200 0 0x00201 ∷ drive 3600 0 0x00601 ∷ drive 4800 0 0x01781 ∷ drive 4890 0 0x01581 ∷ drive 5290 7 0x00200 ∷ drive 5290 0 0x01781 ∷ drive 5380 0 0x01200 ∷ drive 5380 7 0x00000 ∷ drive 5780 0 0x01000 ∷ [])) 5780 ≡ Lawful
+unfolding union_below seen_with line_of ones form_out form_in
+target_frees_a_reselection_slowly = refl
+
+hands_over_without_io_before : judged_whole (reverse (drive 1200 0 0x00201 ∷ drive 3600 0 0x00601 ∷ drive 4800 0 0x01781 ∷ drive 4890 0 0x01581 ∷ drive 5290 7 0x00200 ∷ drive 5290 0 0x01781 ∷ drive 5300 0 0x00781 ∷ drive 5380 0 0x01200 ∷ [])) 5380 ≡ Broken 8 13
+unfolding union_below seen_with line_of ones form_out form_in
+hands_over_without_io_before = refl
+
+hands_over_without_bsy_before : judged_whole (reverse (drive 1200 0 0x00201 ∷ drive 3600 0 0x00601 ∷ drive 4800 0 0x01781 ∷ drive 4890 0 0x01581 ∷ drive 5290 7 0x00200 ∷ drive 5290 0 0x01781 ∷ drive 5300 0 0x01581 ∷ drive 5380 0 0x01200 ∷ [])) 5380 ≡ Broken 8 13
+unfolding union_below seen_with line_of ones form_out form_in
+hands_over_without_bsy_before = refl
+
+hands_over_without_bsy : judged_whole (reverse (drive 1200 0 0x00201 ∷ drive 3600 0 0x00601 ∷ drive 4800 0 0x01781 ∷ drive 4890 0 0x01581 ∷ drive 5290 7 0x00200 ∷ drive 5290 0 0x01781 ∷ drive 5380 0 0x01000 ∷ [])) 5380 ≡ Broken 7 13
+unfolding union_below seen_with line_of ones form_out form_in
+hands_over_without_bsy = refl
+
+caller_takes_bsy_back : judged_whole (reverse (drive 1200 0 0x00201 ∷ drive 3600 0 0x00601 ∷ drive 4800 0 0x01781 ∷ drive 4890 0 0x01581 ∷ drive 5290 7 0x00200 ∷ drive 5290 0 0x01781 ∷ drive 5300 0 0x01581 ∷ [])) 5300 ≡ Lawful
+unfolding union_below seen_with line_of ones form_out form_in
+caller_takes_bsy_back = refl
+
 resets_with_more : judged_whole (reverse (drive 1200 7 0x00280 ∷ drive 2000 3 0x20008 ∷ [])) 2000 ≡ Broken 2 28
 unfolding union_below seen_with line_of ones form_out form_in
 resets_with_more = refl
@@ -401,6 +545,14 @@ enters_after_reset_early = refl
 enters_after_reset : judged_whole (reverse (drive 2000 3 0x20000 ∷ drive 27000 3 0x00000 ∷ drive 28200 7 0x00280 ∷ [])) 28200 ≡ Lawful
 unfolding union_below seen_with line_of ones form_out form_in
 enters_after_reset = refl
+
+left_at_end_in_reset : judged_whole (reverse (drive 1200 7 0x00280 ∷ drive 1300 3 0x00008 ∷ drive 1400 7 0x00000 ∷ drive 2500 5 0x20000 ∷ [])) 2601 ≡ Lawful
+unfolding union_below seen_with line_of ones form_out form_in
+left_at_end_in_reset = refl
+
+enters_as_reset_ends : judged_whole (reverse (drive 2000 3 0x20000 ∷ drive 27000 3 0x00208 ∷ [])) 27000 ≡ Broken 2 28
+unfolding union_below seen_with line_of ones form_out form_in
+enters_as_reset_ends = refl
 
 rules_rest_in_reset : judged_whole (reverse (drive 1200 7 0x00280 ∷ drive 2000 3 0x20000 ∷ drive 2100 7 0x00080 ∷ drive 2800 7 0x00000 ∷ drive 27000 3 0x00000 ∷ [])) 27000 ≡ Lawful
 unfolding union_below seen_with line_of ones form_out form_in
@@ -462,6 +614,14 @@ asks_with_the_phase : judged_whole (reverse (drive 1200 7 0x00280 ∷ drive 3600
 unfolding union_below seen_with line_of ones form_out form_in
 asks_with_the_phase = refl
 
+target_raises_atn : judged_whole (reverse (drive 1200 7 0x00280 ∷ drive 3600 7 0x00680 ∷ drive 4800 7 0x10781 ∷ drive 4890 7 0x10581 ∷ drive 5290 0 0x00200 ∷ drive 5380 7 0x10000 ∷ drive 5400 0 0x10200 ∷ [])) 5400 ≡ Broken 7 14
+unfolding union_below seen_with line_of ones form_out form_in
+target_raises_atn = refl
+
+phase_changes_with_ack : judged_whole (reverse (drive 1200 7 0x00280 ∷ drive 3600 7 0x00680 ∷ drive 4800 7 0x10781 ∷ drive 4890 7 0x10581 ∷ drive 5290 0 0x00200 ∷ drive 5380 7 0x10000 ∷ drive 5380 0 0x02a00 ∷ drive 5780 0 0x06a00 ∷ drive 5780 7 0x001c0 ∷ drive 5870 7 0x081c0 ∷ drive 5870 0 0x02a00 ∷ drive 5880 0 0x00a00 ∷ [])) 5880 ≡ Broken 12 14
+unfolding union_below seen_with line_of ones form_out form_in
+phase_changes_with_ack = refl
+
 target_raises_data_out : judged_whole (reverse (drive 1200 7 0x00280 ∷ drive 3600 7 0x00680 ∷ drive 4800 7 0x10781 ∷ drive 4890 7 0x10581 ∷ drive 5290 0 0x00200 ∷ drive 5380 7 0x10000 ∷ drive 5400 0 0x00301 ∷ [])) 5400 ≡ Broken 7 15
 unfolding union_below seen_with line_of ones form_out form_in
 target_raises_data_out = refl
@@ -510,6 +670,14 @@ target_data_at_end : judged_whole (reverse (drive 1200 7 0x00280 ∷ drive 3600 
 unfolding union_below seen_with line_of ones form_out form_in
 target_data_at_end = refl
 
+target_keeps_data_a_moment : judged_whole (reverse (drive 1200 7 0x00280 ∷ drive 3600 7 0x00680 ∷ drive 4800 7 0x10781 ∷ drive 4890 7 0x10581 ∷ drive 5290 0 0x00200 ∷ drive 5380 7 0x10000 ∷ drive 5380 0 0x02a00 ∷ drive 5780 0 0x06a00 ∷ drive 5780 7 0x001c0 ∷ drive 5870 7 0x081c0 ∷ drive 5870 0 0x02a00 ∷ drive 5870 7 0x00000 ∷ drive 5870 0 0x03a00 ∷ drive 6670 0 0x03a02 ∷ drive 6725 0 0x07a02 ∷ drive 6725 7 0x08000 ∷ drive 6725 0 0x03a02 ∷ drive 6725 7 0x00000 ∷ drive 6800 0 0x00a03 ∷ drive 6810 0 0x00a01 ∷ drive 6840 0 0x00a00 ∷ [])) 6840 ≡ Lawful
+unfolding union_below seen_with line_of ones form_out form_in
+target_keeps_data_a_moment = refl
+
+initiator_keeps_data_a_moment : judged_whole (reverse (drive 1200 7 0x00280 ∷ drive 3600 7 0x00680 ∷ drive 4800 7 0x10781 ∷ drive 4890 7 0x10581 ∷ drive 5290 0 0x00200 ∷ drive 5380 7 0x10000 ∷ drive 5380 0 0x02a00 ∷ drive 5780 0 0x06a00 ∷ drive 5780 7 0x001c0 ∷ drive 5870 7 0x081c0 ∷ drive 5870 0 0x02a00 ∷ drive 5870 7 0x001c0 ∷ drive 5870 0 0x03a00 ∷ drive 5900 7 0x00080 ∷ drive 6000 7 0x00000 ∷ [])) 6000 ≡ Lawful
+unfolding union_below seen_with line_of ones form_out form_in
+initiator_keeps_data_a_moment = refl
+
 even_parity : judged_whole (reverse (drive 1200 7 0x00280 ∷ drive 3600 7 0x00680 ∷ drive 4800 7 0x10781 ∷ drive 4890 7 0x10581 ∷ drive 5290 0 0x00200 ∷ drive 5380 7 0x10000 ∷ drive 5380 0 0x02a00 ∷ drive 5780 0 0x06a00 ∷ drive 5780 7 0x000c0 ∷ drive 5870 7 0x080c0 ∷ [])) 5870 ≡ Broken 10 17
 unfolding union_below seen_with line_of ones form_out form_in
 even_parity = refl
@@ -533,6 +701,10 @@ takes_the_question_back = refl
 lets_go_early : judged_whole (reverse (drive 1200 7 0x00280 ∷ drive 3600 7 0x00680 ∷ drive 4800 7 0x10781 ∷ drive 4890 7 0x10581 ∷ drive 5290 0 0x00200 ∷ drive 5380 7 0x10000 ∷ drive 5380 0 0x02a00 ∷ drive 5780 0 0x06a00 ∷ drive 5780 7 0x001c0 ∷ drive 5870 7 0x081c0 ∷ drive 5880 7 0x00000 ∷ [])) 5880 ≡ Broken 11 18
 unfolding union_below seen_with line_of ones form_out form_in
 lets_go_early = refl
+
+command_asked_with_ack_under_an_agreement : judged_whole (reverse (drive 1200 7 0x00280 ∷ drive 3600 7 0x00680 ∷ drive 4800 7 0x10781 ∷ drive 4890 7 0x10581 ∷ drive 5290 0 0x00200 ∷ drive 5380 7 0x10000 ∷ drive 5380 0 0x02a00 ∷ drive 5780 0 0x06a00 ∷ drive 5780 7 0x101c0 ∷ drive 5835 7 0x181c0 ∷ drive 5835 0 0x02a00 ∷ drive 5835 7 0x10000 ∷ drive 5835 0 0x06a00 ∷ drive 5835 7 0x10001 ∷ drive 5890 7 0x18001 ∷ drive 5890 0 0x02a00 ∷ drive 5890 7 0x10000 ∷ drive 5890 0 0x06a00 ∷ drive 5890 7 0x10103 ∷ drive 5945 7 0x18103 ∷ drive 5945 0 0x02a00 ∷ drive 5945 7 0x10000 ∷ drive 5945 0 0x06a00 ∷ drive 5945 7 0x10001 ∷ drive 6000 7 0x18001 ∷ drive 6000 0 0x02a00 ∷ drive 6000 7 0x10000 ∷ drive 6000 0 0x06a00 ∷ drive 6000 7 0x10032 ∷ drive 6055 7 0x18032 ∷ drive 6055 0 0x02a00 ∷ drive 6055 7 0x10000 ∷ drive 6055 0 0x06a00 ∷ drive 6055 7 0x00008 ∷ drive 6145 7 0x08008 ∷ drive 6145 0 0x02a00 ∷ drive 6145 7 0x00000 ∷ drive 6145 0 0x03a00 ∷ drive 6945 0 0x03a01 ∷ drive 7000 0 0x07a01 ∷ drive 7000 7 0x08000 ∷ drive 7000 0 0x03a00 ∷ drive 7000 7 0x00000 ∷ drive 7000 0 0x03b03 ∷ drive 7055 0 0x07b03 ∷ drive 7055 7 0x08000 ∷ drive 7055 0 0x03a00 ∷ drive 7055 7 0x00000 ∷ drive 7055 0 0x03a01 ∷ drive 7110 0 0x07a01 ∷ drive 7110 7 0x08000 ∷ drive 7110 0 0x03a00 ∷ drive 7110 7 0x00000 ∷ drive 7110 0 0x03a32 ∷ drive 7165 0 0x07a32 ∷ drive 7165 7 0x08000 ∷ drive 7165 0 0x03a00 ∷ drive 7165 7 0x00000 ∷ drive 7165 0 0x03a08 ∷ drive 7220 0 0x07a08 ∷ drive 7220 7 0x08000 ∷ drive 7220 0 0x03a00 ∷ drive 7220 7 0x00000 ∷ drive 7220 0 0x00a00 ∷ drive 7620 0 0x04a00 ∷ drive 7620 7 0x00008 ∷ drive 7675 7 0x08008 ∷ drive 7675 0 0x00a00 ∷ drive 7675 7 0x00000 ∷ drive 7675 0 0x04a00 ∷ drive 7675 7 0x00100 ∷ drive 7730 7 0x08100 ∷ drive 7730 0 0x00a00 ∷ drive 7730 7 0x00000 ∷ drive 7730 0 0x04a00 ∷ drive 7730 7 0x00100 ∷ drive 7785 7 0x08100 ∷ drive 7785 0 0x00a00 ∷ drive 7785 7 0x00000 ∷ drive 7785 0 0x04a00 ∷ drive 7785 7 0x00100 ∷ drive 7840 7 0x08100 ∷ drive 7840 0 0x00a00 ∷ drive 7850 0 0x04a00 ∷ [])) 7850 ≡ Broken 84 18
+unfolding union_below seen_with line_of ones form_out form_in
+command_asked_with_ack_under_an_agreement = refl
 
 set_up_short : judged_whole (reverse (drive 1200 7 0x00280 ∷ drive 3600 7 0x00680 ∷ drive 4800 7 0x10781 ∷ drive 4890 7 0x10581 ∷ drive 5290 0 0x00200 ∷ drive 5380 7 0x10000 ∷ drive 5380 0 0x02a00 ∷ drive 5780 0 0x06a00 ∷ drive 5780 7 0x001c0 ∷ drive 5870 7 0x081c0 ∷ drive 5870 0 0x02a00 ∷ drive 5870 7 0x00000 ∷ drive 5870 0 0x00a00 ∷ drive 6270 0 0x04a00 ∷ drive 6270 7 0x00008 ∷ drive 6324 7 0x08008 ∷ [])) 6324 ≡ Broken 16 19
 unfolding union_below seen_with line_of ones form_out form_in
@@ -561,6 +733,10 @@ data_out_changes = refl
 data_out_changes_later : judged_whole (reverse (drive 1200 7 0x00280 ∷ drive 3600 7 0x00680 ∷ drive 4800 7 0x10781 ∷ drive 4890 7 0x10581 ∷ drive 5290 0 0x00200 ∷ drive 5380 7 0x10000 ∷ drive 5380 0 0x02a00 ∷ drive 5780 0 0x06a00 ∷ drive 5780 7 0x001c0 ∷ drive 5870 7 0x081c0 ∷ drive 5870 0 0x02a00 ∷ drive 5870 7 0x00000 ∷ drive 5870 0 0x00a00 ∷ drive 6270 0 0x04a00 ∷ drive 6270 7 0x00008 ∷ drive 6325 7 0x08008 ∷ drive 6330 0 0x00a00 ∷ drive 6340 7 0x08109 ∷ [])) 6340 ≡ Lawful
 unfolding union_below seen_with line_of ones form_out form_in
 data_out_changes_later = refl
+
+data_change_in_a_pulse : judged_whole (reverse (drive 1200 7 0x00280 ∷ drive 3600 7 0x00680 ∷ drive 4800 7 0x10781 ∷ drive 4890 7 0x10581 ∷ drive 5290 0 0x00200 ∷ drive 5380 7 0x10000 ∷ drive 5380 0 0x02a00 ∷ drive 5780 0 0x06a00 ∷ drive 5780 7 0x101c0 ∷ drive 5835 7 0x181c0 ∷ drive 5835 0 0x02a00 ∷ drive 5835 7 0x10000 ∷ drive 5835 0 0x06a00 ∷ drive 5835 7 0x10001 ∷ drive 5890 7 0x18001 ∷ drive 5890 0 0x02a00 ∷ drive 5890 7 0x10000 ∷ drive 5890 0 0x06a00 ∷ drive 5890 7 0x10103 ∷ drive 5945 7 0x18103 ∷ drive 5945 0 0x02a00 ∷ drive 5945 7 0x10000 ∷ drive 5945 0 0x06a00 ∷ drive 5945 7 0x10001 ∷ drive 6000 7 0x18001 ∷ drive 6000 0 0x02a00 ∷ drive 6000 7 0x10000 ∷ drive 6000 0 0x06a00 ∷ drive 6000 7 0x10032 ∷ drive 6055 7 0x18032 ∷ drive 6055 0 0x02a00 ∷ drive 6055 7 0x10000 ∷ drive 6055 0 0x06a00 ∷ drive 6055 7 0x00008 ∷ drive 6145 7 0x08008 ∷ drive 6145 0 0x02a00 ∷ drive 6145 7 0x00000 ∷ drive 6145 0 0x03a00 ∷ drive 6945 0 0x03a01 ∷ drive 7000 0 0x07a01 ∷ drive 7000 7 0x08000 ∷ drive 7000 0 0x03a00 ∷ drive 7000 7 0x00000 ∷ drive 7000 0 0x03b03 ∷ drive 7055 0 0x07b03 ∷ drive 7055 7 0x08000 ∷ drive 7055 0 0x03a00 ∷ drive 7055 7 0x00000 ∷ drive 7055 0 0x03a01 ∷ drive 7110 0 0x07a01 ∷ drive 7110 7 0x08000 ∷ drive 7110 0 0x03a00 ∷ drive 7110 7 0x00000 ∷ drive 7110 0 0x03a32 ∷ drive 7165 0 0x07a32 ∷ drive 7165 7 0x08000 ∷ drive 7165 0 0x03a00 ∷ drive 7165 7 0x00000 ∷ drive 7165 0 0x03a08 ∷ drive 7220 0 0x07a08 ∷ drive 7220 7 0x08000 ∷ drive 7220 0 0x03a00 ∷ drive 7220 7 0x00000 ∷ drive 7220 0 0x00a00 ∷ drive 7620 0 0x04a00 ∷ drive 7620 7 0x00008 ∷ drive 7675 7 0x08008 ∷ drive 7675 0 0x00a00 ∷ drive 7675 7 0x00000 ∷ drive 7675 0 0x04a00 ∷ drive 7675 7 0x00100 ∷ drive 7730 7 0x08100 ∷ drive 7730 0 0x00a00 ∷ drive 7730 7 0x00000 ∷ drive 7730 0 0x04a00 ∷ drive 7730 7 0x00100 ∷ drive 7785 7 0x08100 ∷ drive 7785 0 0x00a00 ∷ drive 7785 7 0x00000 ∷ drive 7785 0 0x04a00 ∷ drive 7785 7 0x00100 ∷ drive 7840 7 0x08100 ∷ drive 7840 0 0x00a00 ∷ drive 7840 7 0x00000 ∷ drive 7840 0 0x04a00 ∷ drive 7840 7 0x00001 ∷ drive 7895 7 0x08001 ∷ drive 7895 0 0x00a00 ∷ drive 7895 7 0x00000 ∷ drive 7895 0 0x04a00 ∷ drive 7895 7 0x00100 ∷ drive 7950 7 0x08100 ∷ drive 7950 0 0x00a00 ∷ drive 7950 7 0x00000 ∷ drive 7950 0 0x01200 ∷ drive 8750 0 0x01201 ∷ drive 8805 0 0x05201 ∷ drive 8905 0 0x05202 ∷ drive 8995 0 0x01202 ∷ [])) 8995 ≡ Lawful
+unfolding union_below seen_with line_of ones form_out form_in
+data_change_in_a_pulse = refl
 
 eight_ahead : judged_whole (reverse (drive 1200 7 0x00280 ∷ drive 3600 7 0x00680 ∷ drive 4800 7 0x10781 ∷ drive 4890 7 0x10581 ∷ drive 5290 0 0x00200 ∷ drive 5380 7 0x10000 ∷ drive 5380 0 0x02a00 ∷ drive 5780 0 0x06a00 ∷ drive 5780 7 0x101c0 ∷ drive 5835 7 0x181c0 ∷ drive 5835 0 0x02a00 ∷ drive 5835 7 0x10000 ∷ drive 5835 0 0x06a00 ∷ drive 5835 7 0x10001 ∷ drive 5890 7 0x18001 ∷ drive 5890 0 0x02a00 ∷ drive 5890 7 0x10000 ∷ drive 5890 0 0x06a00 ∷ drive 5890 7 0x10103 ∷ drive 5945 7 0x18103 ∷ drive 5945 0 0x02a00 ∷ drive 5945 7 0x10000 ∷ drive 5945 0 0x06a00 ∷ drive 5945 7 0x10001 ∷ drive 6000 7 0x18001 ∷ drive 6000 0 0x02a00 ∷ drive 6000 7 0x10000 ∷ drive 6000 0 0x06a00 ∷ drive 6000 7 0x10032 ∷ drive 6055 7 0x18032 ∷ drive 6055 0 0x02a00 ∷ drive 6055 7 0x10000 ∷ drive 6055 0 0x06a00 ∷ drive 6055 7 0x00008 ∷ drive 6145 7 0x08008 ∷ drive 6145 0 0x02a00 ∷ drive 6145 7 0x00000 ∷ drive 6145 0 0x03a00 ∷ drive 6945 0 0x03a01 ∷ drive 7000 0 0x07a01 ∷ drive 7000 7 0x08000 ∷ drive 7000 0 0x03a00 ∷ drive 7000 7 0x00000 ∷ drive 7000 0 0x03b03 ∷ drive 7055 0 0x07b03 ∷ drive 7055 7 0x08000 ∷ drive 7055 0 0x03a00 ∷ drive 7055 7 0x00000 ∷ drive 7055 0 0x03a01 ∷ drive 7110 0 0x07a01 ∷ drive 7110 7 0x08000 ∷ drive 7110 0 0x03a00 ∷ drive 7110 7 0x00000 ∷ drive 7110 0 0x03a32 ∷ drive 7165 0 0x07a32 ∷ drive 7165 7 0x08000 ∷ drive 7165 0 0x03a00 ∷ drive 7165 7 0x00000 ∷ drive 7165 0 0x03a08 ∷ drive 7220 0 0x07a08 ∷ drive 7220 7 0x08000 ∷ drive 7220 0 0x03a00 ∷ drive 7220 7 0x00000 ∷ drive 7220 0 0x00a00 ∷ drive 7620 0 0x04a00 ∷ drive 7620 7 0x00008 ∷ drive 7675 7 0x08008 ∷ drive 7675 0 0x00a00 ∷ drive 7675 7 0x00000 ∷ drive 7675 0 0x04a00 ∷ drive 7675 7 0x00100 ∷ drive 7730 7 0x08100 ∷ drive 7730 0 0x00a00 ∷ drive 7730 7 0x00000 ∷ drive 7730 0 0x04a00 ∷ drive 7730 7 0x00100 ∷ drive 7785 7 0x08100 ∷ drive 7785 0 0x00a00 ∷ drive 7785 7 0x00000 ∷ drive 7785 0 0x04a00 ∷ drive 7785 7 0x00100 ∷ drive 7840 7 0x08100 ∷ drive 7840 0 0x00a00 ∷ drive 7840 7 0x00000 ∷ drive 7840 0 0x04a00 ∷ drive 7840 7 0x00001 ∷ drive 7895 7 0x08001 ∷ drive 7895 0 0x00a00 ∷ drive 7895 7 0x00000 ∷ drive 7895 0 0x04a00 ∷ drive 7895 7 0x00100 ∷ drive 7950 7 0x08100 ∷ drive 7950 0 0x00a00 ∷ drive 7950 7 0x00000 ∷ drive 7950 0 0x01200 ∷ drive 8750 0 0x01201 ∷ drive 8805 0 0x05201 ∷ drive 8895 0 0x01201 ∷ drive 9005 0 0x05201 ∷ drive 9095 0 0x01201 ∷ drive 9205 0 0x05201 ∷ drive 9295 0 0x01201 ∷ drive 9405 0 0x05201 ∷ drive 9495 0 0x01201 ∷ drive 9605 0 0x05201 ∷ drive 9695 0 0x01201 ∷ drive 9805 0 0x05201 ∷ drive 9895 0 0x01201 ∷ drive 10005 0 0x05201 ∷ drive 10095 0 0x01201 ∷ drive 10205 0 0x05201 ∷ drive 10295 0 0x01201 ∷ [])) 10405 ≡ Lawful
 unfolding union_below seen_with line_of ones form_out form_in
@@ -770,6 +946,18 @@ atn_after_command : judged_whole (reverse (drive 1200 7 0x00280 ∷ drive 3600 7
 unfolding union_below seen_with line_of ones form_out form_in
 atn_after_command = refl
 
+atn_falls_with_ack_in_command : judged_whole (reverse (drive 1200 7 0x00280 ∷ drive 3600 7 0x00680 ∷ drive 4800 7 0x10781 ∷ drive 4890 7 0x10581 ∷ drive 5290 0 0x00200 ∷ drive 5380 7 0x10000 ∷ drive 5380 0 0x02a00 ∷ drive 5780 0 0x06a00 ∷ drive 5780 7 0x001c0 ∷ drive 5870 7 0x081c0 ∷ drive 5870 0 0x02a00 ∷ drive 5870 7 0x00000 ∷ drive 5870 0 0x00a00 ∷ drive 6270 0 0x04a00 ∷ drive 6270 7 0x10008 ∷ drive 6325 7 0x18008 ∷ drive 6330 7 0x08008 ∷ [])) 6330 ≡ Lawful
+unfolding union_below seen_with line_of ones form_out form_in
+atn_falls_with_ack_in_command = refl
+
+ack_soon_after_atn_in_command : judged_whole (reverse (drive 1200 7 0x00280 ∷ drive 3600 7 0x00680 ∷ drive 4800 7 0x10781 ∷ drive 4890 7 0x10581 ∷ drive 5290 0 0x00200 ∷ drive 5380 7 0x10000 ∷ drive 5380 0 0x02a00 ∷ drive 5780 0 0x06a00 ∷ drive 5780 7 0x001c0 ∷ drive 5870 7 0x081c0 ∷ drive 5870 0 0x02a00 ∷ drive 5870 7 0x00000 ∷ drive 5870 0 0x00a00 ∷ drive 6270 0 0x04a00 ∷ drive 6270 7 0x10008 ∷ drive 6320 7 0x00008 ∷ drive 6330 7 0x08008 ∷ [])) 6330 ≡ Lawful
+unfolding union_below seen_with line_of ones form_out form_in
+ack_soon_after_atn_in_command = refl
+
+ack_soon_after_atn_rises : judged_whole (reverse (drive 1200 7 0x00280 ∷ drive 3600 7 0x00680 ∷ drive 4800 7 0x10781 ∷ drive 4890 7 0x10581 ∷ drive 5290 0 0x00200 ∷ drive 5380 7 0x00000 ∷ drive 5380 0 0x02a00 ∷ drive 5780 0 0x06a00 ∷ drive 5780 7 0x001c0 ∷ drive 5835 7 0x101c0 ∷ drive 5840 7 0x181c0 ∷ [])) 5840 ≡ Lawful
+unfolding union_below seen_with line_of ones form_out form_in
+ack_soon_after_atn_rises = refl
+
 opens_with_identify : judged_whole (reverse (drive 1200 7 0x00280 ∷ drive 3600 7 0x00680 ∷ drive 4800 7 0x10781 ∷ drive 4890 7 0x10581 ∷ drive 5290 0 0x00200 ∷ drive 5380 7 0x10000 ∷ drive 5380 0 0x02a00 ∷ drive 5780 0 0x06a00 ∷ drive 5780 7 0x001c0 ∷ drive 5870 7 0x081c0 ∷ drive 5870 0 0x02a00 ∷ drive 5870 7 0x00000 ∷ [])) 5870 ≡ Lawful
 unfolding union_below seen_with line_of ones form_out form_in
 opens_with_identify = refl
@@ -846,6 +1034,22 @@ reselection_opens_in_data : judged_whole (reverse (drive 1200 0 0x00201 ∷ driv
 unfolding union_below seen_with line_of ones form_out form_in
 reselection_opens_in_data = refl
 
+out_left_half_sent_with_atn : judged_whole (reverse (drive 1200 7 0x00280 ∷ drive 3600 7 0x00680 ∷ drive 4800 7 0x10781 ∷ drive 4890 7 0x10581 ∷ drive 5290 0 0x00200 ∷ drive 5380 7 0x10000 ∷ drive 5380 0 0x02a00 ∷ drive 5780 0 0x06a00 ∷ drive 5780 7 0x101c0 ∷ drive 5835 7 0x181c0 ∷ drive 5835 0 0x02a00 ∷ drive 5835 7 0x10000 ∷ drive 5835 0 0x06a00 ∷ drive 5835 7 0x10020 ∷ drive 5890 7 0x18020 ∷ drive 5890 0 0x02a00 ∷ drive 5890 7 0x10000 ∷ drive 5900 0 0x00a00 ∷ [])) 5900 ≡ Broken 18 25
+unfolding union_below seen_with line_of ones form_out form_in
+out_left_half_sent_with_atn = refl
+
+opens_with_save_in_a_reselection : judged_whole (reverse (drive 1200 0 0x00201 ∷ drive 3600 0 0x00601 ∷ drive 4800 0 0x01781 ∷ drive 4890 0 0x01581 ∷ drive 5290 7 0x00200 ∷ drive 5290 0 0x01781 ∷ drive 5380 0 0x01200 ∷ drive 5380 7 0x00000 ∷ drive 5400 0 0x03a02 ∷ drive 5800 0 0x07a02 ∷ [])) 5800 ≡ Broken 10 25
+unfolding union_below seen_with line_of ones form_out form_in
+opens_with_save_in_a_reselection = refl
+
+opens_in_with_identify_in_a_selection : judged_whole (reverse (drive 1200 7 0x00280 ∷ drive 3600 7 0x00680 ∷ drive 4800 7 0x10781 ∷ drive 4890 7 0x10581 ∷ drive 5290 0 0x00200 ∷ drive 5380 7 0x10000 ∷ drive 5380 0 0x03a00 ∷ drive 6200 0 0x03a80 ∷ drive 6300 0 0x07a80 ∷ [])) 6300 ≡ Broken 9 25
+unfolding union_below seen_with line_of ones form_out form_in
+opens_in_with_identify_in_a_selection = refl
+
+opens_out_with_identify_in_a_reselection : judged_whole (reverse (drive 1200 0 0x00201 ∷ drive 3600 0 0x00601 ∷ drive 4800 0 0x01781 ∷ drive 4890 0 0x01581 ∷ drive 5290 7 0x00200 ∷ drive 5290 0 0x01781 ∷ drive 5380 0 0x01200 ∷ drive 5380 7 0x00000 ∷ drive 5400 0 0x02a00 ∷ drive 5800 0 0x06a00 ∷ drive 5810 7 0x001c0 ∷ drive 5900 7 0x081c0 ∷ [])) 5900 ≡ Broken 12 25
+unfolding union_below seen_with line_of ones form_out form_in
+opens_out_with_identify_in_a_reselection = refl
+
 seventh_byte : judged_whole (reverse (drive 1200 7 0x00280 ∷ drive 3600 7 0x00680 ∷ drive 4800 7 0x10781 ∷ drive 4890 7 0x10581 ∷ drive 5290 0 0x00200 ∷ drive 5380 7 0x10000 ∷ drive 5380 0 0x02a00 ∷ drive 5780 0 0x06a00 ∷ drive 5780 7 0x001c0 ∷ drive 5870 7 0x081c0 ∷ drive 5870 0 0x02a00 ∷ drive 5870 7 0x00000 ∷ drive 5870 0 0x00a00 ∷ drive 6270 0 0x04a00 ∷ drive 6270 7 0x00008 ∷ drive 6325 7 0x08008 ∷ drive 6325 0 0x00a00 ∷ drive 6325 7 0x00000 ∷ drive 6325 0 0x04a00 ∷ drive 6325 7 0x00100 ∷ drive 6380 7 0x08100 ∷ drive 6380 0 0x00a00 ∷ drive 6380 7 0x00000 ∷ drive 6380 0 0x04a00 ∷ drive 6380 7 0x00100 ∷ drive 6435 7 0x08100 ∷ drive 6435 0 0x00a00 ∷ drive 6435 7 0x00000 ∷ drive 6435 0 0x04a00 ∷ drive 6435 7 0x00100 ∷ drive 6490 7 0x08100 ∷ drive 6490 0 0x00a00 ∷ drive 6490 7 0x00000 ∷ drive 6490 0 0x04a00 ∷ drive 6490 7 0x00001 ∷ drive 6545 7 0x08001 ∷ drive 6545 0 0x00a00 ∷ drive 6545 7 0x00000 ∷ drive 6545 0 0x04a00 ∷ drive 6545 7 0x00100 ∷ drive 6600 7 0x08100 ∷ drive 6600 0 0x00a00 ∷ drive 6600 7 0x00000 ∷ drive 6600 0 0x04a00 ∷ drive 6600 7 0x00100 ∷ drive 6655 7 0x08100 ∷ drive 6655 0 0x00a00 ∷ drive 6655 7 0x00000 ∷ [])) 6655 ≡ Broken 46 26
 unfolding union_below seen_with line_of ones form_out form_in
 seventh_byte = refl
@@ -906,6 +1110,14 @@ frees : judged_whole (reverse (drive 1200 7 0x00280 ∷ drive 3600 7 0x00680 ∷
 unfolding union_below seen_with line_of ones form_out form_in
 frees = refl
 
+initiator_releases_bsy_while_asked : judged_whole (reverse (drive 1200 7 0x00280 ∷ drive 3600 7 0x00680 ∷ drive 4800 7 0x10781 ∷ drive 4890 7 0x10581 ∷ drive 5290 0 0x00200 ∷ drive 5380 7 0x10000 ∷ drive 5380 0 0x02a00 ∷ drive 5780 0 0x06a00 ∷ drive 5790 7 0x10200 ∷ drive 5800 7 0x10000 ∷ [])) 5800 ≡ Lawful
+unfolding union_below seen_with line_of ones form_out form_in
+initiator_releases_bsy_while_asked = refl
+
+frees_with_ack : judged_whole (reverse (drive 1200 7 0x00280 ∷ drive 3600 7 0x00680 ∷ drive 4800 7 0x10781 ∷ drive 4890 7 0x10581 ∷ drive 5290 0 0x00200 ∷ drive 5380 7 0x10000 ∷ drive 5380 0 0x02a00 ∷ drive 5780 0 0x06a00 ∷ drive 5780 7 0x001c0 ∷ drive 5870 7 0x081c0 ∷ drive 5870 0 0x02a00 ∷ drive 5880 0 0x02800 ∷ [])) 5880 ≡ Broken 12 27
+unfolding union_below seen_with line_of ones form_out form_in
+frees_with_ack = refl
+
 agreed : judged_whole (reverse (drive 1200 7 0x00280 ∷ drive 3600 7 0x00680 ∷ drive 4800 7 0x10781 ∷ drive 4890 7 0x10581 ∷ drive 5290 0 0x00200 ∷ drive 5380 7 0x10000 ∷ drive 5380 0 0x02a00 ∷ drive 5780 0 0x06a00 ∷ drive 5780 7 0x101c0 ∷ drive 5835 7 0x181c0 ∷ drive 5835 0 0x02a00 ∷ drive 5835 7 0x10000 ∷ drive 5835 0 0x06a00 ∷ drive 5835 7 0x10001 ∷ drive 5890 7 0x18001 ∷ drive 5890 0 0x02a00 ∷ drive 5890 7 0x10000 ∷ drive 5890 0 0x06a00 ∷ drive 5890 7 0x10103 ∷ drive 5945 7 0x18103 ∷ drive 5945 0 0x02a00 ∷ drive 5945 7 0x10000 ∷ drive 5945 0 0x06a00 ∷ drive 5945 7 0x10001 ∷ drive 6000 7 0x18001 ∷ drive 6000 0 0x02a00 ∷ drive 6000 7 0x10000 ∷ drive 6000 0 0x06a00 ∷ drive 6000 7 0x10032 ∷ drive 6055 7 0x18032 ∷ drive 6055 0 0x02a00 ∷ drive 6055 7 0x10000 ∷ drive 6055 0 0x06a00 ∷ drive 6055 7 0x00008 ∷ drive 6145 7 0x08008 ∷ drive 6145 0 0x02a00 ∷ drive 6145 7 0x00000 ∷ drive 6145 0 0x03a00 ∷ drive 6945 0 0x03a01 ∷ drive 7000 0 0x07a01 ∷ drive 7000 7 0x08000 ∷ drive 7000 0 0x03a00 ∷ drive 7000 7 0x00000 ∷ drive 7000 0 0x03b03 ∷ drive 7055 0 0x07b03 ∷ drive 7055 7 0x08000 ∷ drive 7055 0 0x03a00 ∷ drive 7055 7 0x00000 ∷ drive 7055 0 0x03a01 ∷ drive 7110 0 0x07a01 ∷ drive 7110 7 0x08000 ∷ drive 7110 0 0x03a00 ∷ drive 7110 7 0x00000 ∷ drive 7110 0 0x03a32 ∷ drive 7165 0 0x07a32 ∷ drive 7165 7 0x08000 ∷ drive 7165 0 0x03a00 ∷ drive 7165 7 0x00000 ∷ drive 7165 0 0x03a08 ∷ drive 7220 0 0x07a08 ∷ drive 7220 7 0x08000 ∷ drive 7220 0 0x03a00 ∷ drive 7220 7 0x00000 ∷ drive 7220 0 0x00a00 ∷ drive 7620 0 0x04a00 ∷ drive 7620 7 0x00008 ∷ drive 7675 7 0x08008 ∷ drive 7675 0 0x00a00 ∷ drive 7675 7 0x00000 ∷ drive 7675 0 0x04a00 ∷ drive 7675 7 0x00100 ∷ drive 7730 7 0x08100 ∷ drive 7730 0 0x00a00 ∷ drive 7730 7 0x00000 ∷ drive 7730 0 0x04a00 ∷ drive 7730 7 0x00100 ∷ drive 7785 7 0x08100 ∷ drive 7785 0 0x00a00 ∷ drive 7785 7 0x00000 ∷ drive 7785 0 0x04a00 ∷ drive 7785 7 0x00100 ∷ drive 7840 7 0x08100 ∷ drive 7840 0 0x00a00 ∷ drive 7840 7 0x00000 ∷ drive 7840 0 0x04a00 ∷ drive 7840 7 0x00001 ∷ drive 7895 7 0x08001 ∷ drive 7895 0 0x00a00 ∷ drive 7895 7 0x00000 ∷ drive 7895 0 0x04a00 ∷ drive 7895 7 0x00100 ∷ drive 7950 7 0x08100 ∷ drive 7950 0 0x00a00 ∷ drive 7950 7 0x00000 ∷ drive 7950 0 0x01200 ∷ drive 8750 0 0x01201 ∷ drive 8805 0 0x05201 ∷ drive 8895 0 0x01201 ∷ drive 9005 0 0x05201 ∷ [])) 9005 ≡ Lawful
 unfolding union_below seen_with line_of ones form_out form_in
 agreed = refl
@@ -946,6 +1158,10 @@ offer_begun_anew : judged_whole (reverse (drive 1200 7 0x00280 ∷ drive 3600 7 
 unfolding union_below seen_with line_of ones form_out form_in
 offer_begun_anew = refl
 
+agreement_ended_by_another : judged_whole (reverse (drive 1200 6 0x00240 ∷ drive 3600 6 0x00640 ∷ drive 4800 6 0x10741 ∷ drive 4890 6 0x10541 ∷ drive 5290 0 0x00200 ∷ drive 5380 6 0x10000 ∷ drive 5380 0 0x02a00 ∷ drive 5780 0 0x06a00 ∷ drive 5780 6 0x101c0 ∷ drive 5835 6 0x181c0 ∷ drive 5835 0 0x02a00 ∷ drive 5835 6 0x10000 ∷ drive 5835 0 0x06a00 ∷ drive 5835 6 0x10001 ∷ drive 5890 6 0x18001 ∷ drive 5890 0 0x02a00 ∷ drive 5890 6 0x10000 ∷ drive 5890 0 0x06a00 ∷ drive 5890 6 0x10103 ∷ drive 5945 6 0x18103 ∷ drive 5945 0 0x02a00 ∷ drive 5945 6 0x10000 ∷ drive 5945 0 0x06a00 ∷ drive 5945 6 0x10001 ∷ drive 6000 6 0x18001 ∷ drive 6000 0 0x02a00 ∷ drive 6000 6 0x10000 ∷ drive 6000 0 0x06a00 ∷ drive 6000 6 0x10032 ∷ drive 6055 6 0x18032 ∷ drive 6055 0 0x02a00 ∷ drive 6055 6 0x10000 ∷ drive 6055 0 0x06a00 ∷ drive 6055 6 0x00008 ∷ drive 6145 6 0x08008 ∷ drive 6145 0 0x02a00 ∷ drive 6145 6 0x00000 ∷ drive 6145 0 0x03a00 ∷ drive 6945 0 0x03a01 ∷ drive 7000 0 0x07a01 ∷ drive 7000 6 0x08000 ∷ drive 7000 0 0x03b03 ∷ drive 7000 6 0x00000 ∷ drive 7055 0 0x07b03 ∷ drive 7055 6 0x08000 ∷ drive 7055 0 0x03a01 ∷ drive 7055 6 0x00000 ∷ drive 7110 0 0x07a01 ∷ drive 7110 6 0x08000 ∷ drive 7110 0 0x03a32 ∷ drive 7110 6 0x00000 ∷ drive 7165 0 0x07a32 ∷ drive 7165 6 0x08000 ∷ drive 7165 0 0x03a08 ∷ drive 7165 6 0x00000 ∷ drive 7220 0 0x07a08 ∷ drive 7220 6 0x08000 ∷ drive 7220 0 0x03a00 ∷ drive 7220 6 0x00000 ∷ drive 7220 0 0x00a00 ∷ drive 7620 0 0x04a00 ∷ drive 7620 6 0x00008 ∷ drive 7675 6 0x08008 ∷ drive 7675 0 0x00a00 ∷ drive 7675 6 0x00000 ∷ drive 7675 0 0x04a00 ∷ drive 7675 6 0x00100 ∷ drive 7730 6 0x08100 ∷ drive 7730 0 0x00a00 ∷ drive 7730 6 0x00000 ∷ drive 7730 0 0x04a00 ∷ drive 7730 6 0x00100 ∷ drive 7785 6 0x08100 ∷ drive 7785 0 0x00a00 ∷ drive 7785 6 0x00000 ∷ drive 7785 0 0x04a00 ∷ drive 7785 6 0x00100 ∷ drive 7840 6 0x08100 ∷ drive 7840 0 0x00a00 ∷ drive 7840 6 0x00000 ∷ drive 7840 0 0x04a00 ∷ drive 7840 6 0x00001 ∷ drive 7895 6 0x08001 ∷ drive 7895 0 0x00a00 ∷ drive 7895 6 0x00000 ∷ drive 7895 0 0x04a00 ∷ drive 7895 6 0x00100 ∷ drive 7950 6 0x08100 ∷ drive 7950 0 0x00a00 ∷ drive 7950 6 0x00000 ∷ drive 7950 0 0x01200 ∷ drive 8750 0 0x01300 ∷ drive 8805 0 0x05300 ∷ drive 8805 6 0x08000 ∷ drive 8895 6 0x00000 ∷ drive 8895 0 0x01300 ∷ drive 9005 0 0x05300 ∷ drive 9005 6 0x08000 ∷ drive 9095 6 0x00000 ∷ drive 9095 0 0x01300 ∷ drive 9205 0 0x05300 ∷ drive 9205 6 0x08000 ∷ drive 9295 6 0x00000 ∷ drive 9295 0 0x01300 ∷ drive 9405 0 0x05300 ∷ drive 9405 6 0x08000 ∷ drive 9495 6 0x00000 ∷ drive 9495 0 0x01300 ∷ drive 9605 0 0x05300 ∷ drive 9605 6 0x08000 ∷ drive 9695 6 0x00000 ∷ drive 9695 0 0x01300 ∷ drive 9805 0 0x05300 ∷ drive 9805 6 0x08000 ∷ drive 9895 6 0x00000 ∷ drive 9895 0 0x01300 ∷ drive 10005 0 0x05300 ∷ drive 10005 6 0x08000 ∷ drive 10095 6 0x00000 ∷ drive 10095 0 0x01300 ∷ drive 10205 0 0x05300 ∷ drive 10205 6 0x08000 ∷ drive 10295 6 0x00000 ∷ drive 10295 0 0x01300 ∷ drive 10405 0 0x05300 ∷ drive 10405 6 0x08000 ∷ drive 10495 6 0x00000 ∷ drive 10495 0 0x01300 ∷ drive 10605 0 0x05300 ∷ drive 10605 6 0x08000 ∷ drive 10695 6 0x00000 ∷ drive 10695 0 0x01300 ∷ drive 10805 0 0x05300 ∷ drive 10805 6 0x08000 ∷ drive 10895 6 0x00000 ∷ drive 10895 0 0x01300 ∷ drive 11005 0 0x05300 ∷ drive 11005 6 0x08000 ∷ drive 11095 6 0x00000 ∷ drive 11095 0 0x01300 ∷ drive 11205 0 0x05300 ∷ drive 11205 6 0x08000 ∷ drive 11295 6 0x00000 ∷ drive 11295 0 0x01300 ∷ drive 11405 0 0x05300 ∷ drive 11405 6 0x08000 ∷ drive 11495 6 0x00000 ∷ drive 11495 0 0x01300 ∷ drive 11605 0 0x05300 ∷ drive 11605 6 0x08000 ∷ drive 11695 6 0x00000 ∷ drive 11695 0 0x01300 ∷ drive 11805 0 0x05300 ∷ drive 11805 6 0x08000 ∷ drive 11895 6 0x00000 ∷ drive 11895 0 0x01300 ∷ drive 11905 0 0x01200 ∷ drive 11905 0 0x01b00 ∷ drive 12305 0 0x05b00 ∷ drive 12305 6 0x08000 ∷ drive 12305 0 0x01a00 ∷ drive 12305 6 0x00000 ∷ drive 12305 0 0x03b00 ∷ drive 12705 0 0x07b00 ∷ drive 12705 6 0x08000 ∷ drive 12705 0 0x03a00 ∷ drive 12705 6 0x00000 ∷ drive 12705 0 0x00000 ∷ drive 50000 7 0x00280 ∷ drive 52400 7 0x00680 ∷ drive 53600 7 0x10781 ∷ drive 53690 7 0x10581 ∷ drive 54090 0 0x00200 ∷ drive 54180 7 0x10000 ∷ drive 54180 0 0x02a00 ∷ drive 54580 0 0x06a00 ∷ drive 54580 7 0x10080 ∷ drive 54635 7 0x18080 ∷ drive 54635 0 0x02a00 ∷ drive 54635 7 0x10000 ∷ drive 54635 0 0x06a00 ∷ drive 54635 7 0x0010c ∷ drive 54725 7 0x0810c ∷ drive 54725 0 0x02a00 ∷ drive 54725 7 0x00000 ∷ drive 54725 0 0x00000 ∷ drive 100000 6 0x00240 ∷ drive 102400 6 0x00640 ∷ drive 103600 6 0x10741 ∷ drive 103690 6 0x10541 ∷ drive 104090 0 0x00200 ∷ drive 104180 6 0x10000 ∷ drive 104180 0 0x02a00 ∷ drive 104580 0 0x06a00 ∷ drive 104580 6 0x001c0 ∷ drive 104670 6 0x081c0 ∷ drive 104670 0 0x02a00 ∷ drive 104670 6 0x00000 ∷ drive 104670 0 0x00a00 ∷ drive 105070 0 0x04a00 ∷ drive 105070 6 0x00103 ∷ drive 105125 6 0x08103 ∷ drive 105125 0 0x00a00 ∷ drive 105125 6 0x00000 ∷ drive 105125 0 0x04a00 ∷ drive 105125 6 0x00100 ∷ drive 105180 6 0x08100 ∷ drive 105180 0 0x00a00 ∷ drive 105180 6 0x00000 ∷ drive 105180 0 0x04a00 ∷ drive 105180 6 0x00100 ∷ drive 105235 6 0x08100 ∷ drive 105235 0 0x00a00 ∷ drive 105235 6 0x00000 ∷ drive 105235 0 0x04a00 ∷ drive 105235 6 0x00100 ∷ drive 105290 6 0x08100 ∷ drive 105290 0 0x00a00 ∷ drive 105290 6 0x00000 ∷ drive 105290 0 0x04a00 ∷ drive 105290 6 0x00112 ∷ drive 105345 6 0x08112 ∷ drive 105345 0 0x00a00 ∷ drive 105345 6 0x00000 ∷ drive 105345 0 0x04a00 ∷ drive 105345 6 0x00100 ∷ drive 105400 6 0x08100 ∷ drive 105400 0 0x00a00 ∷ drive 105400 6 0x00000 ∷ drive 105400 0 0x01200 ∷ drive 106200 0 0x01270 ∷ drive 106255 0 0x05270 ∷ drive 106255 6 0x08000 ∷ drive 106255 0 0x01300 ∷ drive 106255 6 0x00000 ∷ drive 106310 0 0x05300 ∷ drive 106310 6 0x08000 ∷ drive 106310 0 0x01300 ∷ drive 106310 6 0x00000 ∷ drive 106365 0 0x05300 ∷ drive 106365 6 0x08000 ∷ drive 106365 0 0x01300 ∷ drive 106365 6 0x00000 ∷ drive 106420 0 0x05300 ∷ drive 106420 6 0x08000 ∷ drive 106420 0 0x01300 ∷ drive 106420 6 0x00000 ∷ drive 106475 0 0x05300 ∷ drive 106475 6 0x08000 ∷ drive 106475 0 0x01300 ∷ drive 106475 6 0x00000 ∷ drive 106530 0 0x05300 ∷ drive 106530 6 0x08000 ∷ drive 106530 0 0x01300 ∷ drive 106530 6 0x00000 ∷ drive 106585 0 0x05300 ∷ drive 106585 6 0x08000 ∷ drive 106585 0 0x0130a ∷ drive 106585 6 0x00000 ∷ drive 106640 0 0x0530a ∷ drive 106640 6 0x08000 ∷ drive 106640 0 0x01300 ∷ drive 106640 6 0x00000 ∷ drive 106695 0 0x05300 ∷ drive 106695 6 0x08000 ∷ drive 106695 0 0x01300 ∷ drive 106695 6 0x00000 ∷ drive 106750 0 0x05300 ∷ drive 106750 6 0x08000 ∷ drive 106750 0 0x01300 ∷ drive 106750 6 0x00000 ∷ drive 106805 0 0x05300 ∷ drive 106805 6 0x08000 ∷ drive 106805 0 0x01300 ∷ drive 106805 6 0x00000 ∷ drive 106860 0 0x05300 ∷ drive 106860 6 0x08000 ∷ drive 106860 0 0x01300 ∷ drive 106860 6 0x00000 ∷ drive 106915 0 0x05300 ∷ drive 106915 6 0x08000 ∷ drive 106915 0 0x01300 ∷ drive 106915 6 0x00000 ∷ drive 106970 0 0x05300 ∷ drive 106970 6 0x08000 ∷ drive 106970 0 0x01300 ∷ drive 106970 6 0x00000 ∷ drive 107025 0 0x05300 ∷ drive 107025 6 0x08000 ∷ drive 107025 0 0x01300 ∷ drive 107025 6 0x00000 ∷ drive 107080 0 0x05300 ∷ drive 107080 6 0x08000 ∷ drive 107080 0 0x01300 ∷ drive 107080 6 0x00000 ∷ drive 107135 0 0x05300 ∷ drive 107135 6 0x08000 ∷ drive 107135 0 0x01300 ∷ drive 107135 6 0x00000 ∷ drive 107190 0 0x05300 ∷ drive 107190 6 0x08000 ∷ drive 107190 0 0x01200 ∷ drive 107190 6 0x00000 ∷ drive 107190 0 0x01b00 ∷ drive 107590 0 0x05b00 ∷ drive 107590 6 0x08000 ∷ drive 107590 0 0x01a00 ∷ drive 107590 6 0x00000 ∷ drive 107590 0 0x03b00 ∷ drive 107990 0 0x07b00 ∷ drive 107990 6 0x08000 ∷ drive 107990 0 0x03a00 ∷ drive 107990 6 0x00000 ∷ drive 107990 0 0x00000 ∷ [])) 107990 ≡ Lawful
+unfolding union_below seen_with line_of ones form_out form_in
+agreement_ended_by_another = refl
+
 read_6 : judged_whole (reverse (drive 1200 7 0x00280 ∷ drive 3600 7 0x00680 ∷ drive 4800 7 0x10781 ∷ drive 4890 7 0x10581 ∷ drive 5290 0 0x00200 ∷ drive 5380 7 0x10000 ∷ drive 5380 0 0x02a00 ∷ drive 5780 0 0x06a00 ∷ drive 5780 7 0x001c0 ∷ drive 5870 7 0x081c0 ∷ drive 5870 0 0x02a00 ∷ drive 5870 7 0x00000 ∷ drive 5870 0 0x00a00 ∷ drive 6270 0 0x04a00 ∷ drive 6270 7 0x00008 ∷ drive 6325 7 0x08008 ∷ drive 6325 0 0x00a00 ∷ drive 6325 7 0x00000 ∷ drive 6325 0 0x04a00 ∷ drive 6325 7 0x00100 ∷ drive 6380 7 0x08100 ∷ drive 6380 0 0x00a00 ∷ drive 6380 7 0x00000 ∷ drive 6380 0 0x04a00 ∷ drive 6380 7 0x00100 ∷ drive 6435 7 0x08100 ∷ drive 6435 0 0x00a00 ∷ drive 6435 7 0x00000 ∷ drive 6435 0 0x04a00 ∷ drive 6435 7 0x00100 ∷ drive 6490 7 0x08100 ∷ drive 6490 0 0x00a00 ∷ drive 6490 7 0x00000 ∷ drive 6490 0 0x04a00 ∷ drive 6490 7 0x00001 ∷ drive 6545 7 0x08001 ∷ drive 6545 0 0x00a00 ∷ drive 6545 7 0x00000 ∷ drive 6545 0 0x04a00 ∷ drive 6545 7 0x00100 ∷ drive 6600 7 0x08100 ∷ drive 6600 0 0x00a00 ∷ drive 6600 7 0x00000 ∷ drive 6600 0 0x01200 ∷ drive 7400 0 0x01300 ∷ drive 7455 0 0x05300 ∷ drive 7455 7 0x08000 ∷ drive 7455 0 0x01201 ∷ drive 7455 7 0x00000 ∷ drive 7510 0 0x05201 ∷ drive 7510 7 0x08000 ∷ drive 7510 0 0x01202 ∷ drive 7510 7 0x00000 ∷ drive 7565 0 0x05202 ∷ drive 7565 7 0x08000 ∷ drive 7565 0 0x01303 ∷ drive 7565 7 0x00000 ∷ drive 7620 0 0x05303 ∷ drive 7620 7 0x08000 ∷ drive 7620 0 0x01204 ∷ drive 7620 7 0x00000 ∷ drive 7675 0 0x05204 ∷ drive 7675 7 0x08000 ∷ drive 7675 0 0x01305 ∷ drive 7675 7 0x00000 ∷ drive 7730 0 0x05305 ∷ drive 7730 7 0x08000 ∷ drive 7730 0 0x01306 ∷ drive 7730 7 0x00000 ∷ drive 7785 0 0x05306 ∷ drive 7785 7 0x08000 ∷ drive 7785 0 0x01207 ∷ drive 7785 7 0x00000 ∷ drive 7840 0 0x05207 ∷ drive 7840 7 0x08000 ∷ drive 7840 0 0x01208 ∷ drive 7840 7 0x00000 ∷ drive 7895 0 0x05208 ∷ drive 7895 7 0x08000 ∷ drive 7895 0 0x01309 ∷ drive 7895 7 0x00000 ∷ drive 7950 0 0x05309 ∷ drive 7950 7 0x08000 ∷ drive 7950 0 0x0130a ∷ drive 7950 7 0x00000 ∷ drive 8005 0 0x0530a ∷ drive 8005 7 0x08000 ∷ drive 8005 0 0x0120b ∷ drive 8005 7 0x00000 ∷ drive 8060 0 0x0520b ∷ drive 8060 7 0x08000 ∷ drive 8060 0 0x0130c ∷ drive 8060 7 0x00000 ∷ drive 8115 0 0x0530c ∷ drive 8115 7 0x08000 ∷ drive 8115 0 0x0120d ∷ drive 8115 7 0x00000 ∷ drive 8170 0 0x0520d ∷ drive 8170 7 0x08000 ∷ drive 8170 0 0x0120e ∷ drive 8170 7 0x00000 ∷ drive 8225 0 0x0520e ∷ drive 8225 7 0x08000 ∷ drive 8225 0 0x0130f ∷ drive 8225 7 0x00000 ∷ drive 8280 0 0x0530f ∷ drive 8280 7 0x08000 ∷ drive 8280 0 0x01200 ∷ drive 8280 7 0x00000 ∷ drive 8280 0 0x01b00 ∷ drive 8680 0 0x05b00 ∷ drive 8680 7 0x08000 ∷ drive 8680 0 0x01a00 ∷ drive 8680 7 0x00000 ∷ drive 8680 0 0x03b00 ∷ drive 9080 0 0x07b00 ∷ drive 9080 7 0x08000 ∷ drive 9080 0 0x03a00 ∷ drive 9080 7 0x00000 ∷ drive 9080 0 0x00000 ∷ [])) 9080 ≡ Lawful
 unfolding union_below seen_with line_of ones form_out form_in
 read_6 = refl
@@ -953,3 +1169,7 @@ read_6 = refl
 times_out : judged_whole (reverse (drive 1200 7 0x00280 ∷ drive 3600 7 0x00680 ∷ drive 4800 7 0x10788 ∷ drive 4890 7 0x10588 ∷ drive 250004890 7 0x10400 ∷ drive 250204980 7 0x00000 ∷ [])) 250204980 ≡ Lawful
 unfolding union_below seen_with line_of ones form_out form_in
 times_out = refl
+
+reselection_times_out : judged_whole (reverse (drive 1200 0 0x00201 ∷ drive 3600 0 0x00601 ∷ drive 4800 0 0x01781 ∷ drive 4890 0 0x01581 ∷ drive 250004890 0 0x01400 ∷ drive 250204980 0 0x00000 ∷ [])) 250204980 ≡ Lawful
+unfolding union_below seen_with line_of ones form_out form_in
+reselection_times_out = refl
