@@ -2,6 +2,7 @@
 ghost use Rattle.std.specs.Prelude.{◌≡◌, ◌<◌};
 
 mod cut;
+mod disturbed;
 mod makes;
 mod runs;
 mod small_runs;
@@ -324,7 +325,6 @@ fn has_exit_statuses(rt: HostRuntime) {
         (Status::Memory, 5),
         (Status::Broken, 6),
         (Status::BadTrace, 7),
-        (Status::Unfinished, 8),
         (Status::BadDump, 10),
     ];
     for (status, code) in codes {

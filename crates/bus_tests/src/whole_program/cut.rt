@@ -34,7 +34,7 @@ fn spoilt(alloc: Global, bytes: &[u8], at: usize) -> Result<Vec<u8>, NoMemory> {
 }
 
 /// How the program ends on these bytes.
-fn ended_on(
+pub fn ended_on(
     alloc: Global,
     word: &'static str,
     bytes: &[u8],
