@@ -10,3 +10,5 @@ mod Turns
 mod TurnCases
 pub mod ComplaintRows
 pub mod GiveUpRows
+pub mod StruckRows
+pub mod StruckPhases

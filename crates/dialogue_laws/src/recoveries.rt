@@ -74,7 +74,8 @@ pub fn wrong_parity_is_recovered()
 /// As the target leaves a phase to the initiator with ATN true MESSAGE OUT follows, and the initiator says what it
 /// complains of: INITIATOR DETECTED ERROR after DATA IN (`data_in`) and after STATUS (`status`), MESSAGE PARITY ERROR
 /// where the last byte of MESSAGE IN was struck (`message`). In DATA IN ATN is true then exactly where a byte of the
-/// run was struck, so that the process would fail (`struck`).
+/// run was struck, so that the process would fail (`struck`). STATUS in which its byte was struck is left so
+/// (`struck_status`), and MESSAGE IN in which one was, whichever, which ends with that byte (`struck_message`).
 pub fn complaints_follow()
     ensures data_in { (s : ScenarioValue) (rows : List Row) (row : Row) (n : Connection) (p : Process) → Obeys s
         → IsPrompt s (row ∷ rows) → LeavesPhase s rows row n p → phase_of (bus rows) ≡ phases.DataIn
@@ -89,6 +90,12 @@ pub fn complaints_follow()
     ensures struck { (s : ScenarioValue) (rows : List Row) (row : Row) (n : Connection) (p : Process) → Obeys s
         → IsPrompt s (row ∷ rows) → LeavesPhase s rows row n p → phase_of (bus rows) ≡ phases.DataIn
         → (carried_here (run_state s rows) p.id).failure ≡ code_if (bus rows).atn INITIATOR_DETECTED_ERROR }
+    ensures struck_status { (s : ScenarioValue) (rows : List Row) (row : Row) (n : Connection) (p : Process) → Obeys s
+        → IsPrompt s (row ∷ rows) → LeavesPhase s rows row n p → phase_of (bus rows) ≡ phases.Status
+        → is_struck_phase s rows ≡ true → Complains s rows row causes.InStatus detected_error }
+    ensures struck_message { (s : ScenarioValue) (rows : List Row) (row : Row) (n : Connection) (p : Process) → Obeys s
+        → IsPrompt s (row ∷ rows) → LeavesPhase s rows row n p → phase_of (bus rows) ≡ phases.MessageIn
+        → is_struck_phase s rows ≡ true → Complains s rows row causes.InMessage parity_error }
 {}
 
 /// Nothing else gives up a process: with a row of a connection it fails (`fails`), or is lost (`lost`), only where its
