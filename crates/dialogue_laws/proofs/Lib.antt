@@ -12,3 +12,5 @@ pub mod ComplaintRows
 pub mod GiveUpRows
 pub mod StruckRows
 pub mod StruckPhases
+pub mod Refusals
+pub mod StruckRuns
