@@ -10,3 +10,7 @@ mod Turns
 mod TurnCases
 pub mod ComplaintRows
 pub mod GiveUpRows
+pub mod StruckRows
+pub mod StruckPhases
+pub mod Refusals
+pub mod StruckRuns

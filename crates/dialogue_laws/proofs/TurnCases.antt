@@ -11,8 +11,8 @@ use Rattle.bus_due.specs.bus_dialogue.specs.declared.exchange.Cause.TheVariants 
 use Rattle.bus_due.specs.bus_dialogue.specs.declared.exchange.Next.TheVariants as nexts
 use Rattle.bus_due.specs.bus_dialogue.specs.declared.exchange.Phase.TheVariants as phases
 use Rattle.bus_due.specs.RunSteps.{first_run_state}
-use Rattle.bus_due.proofs.Cases.{absent_unit_due, absent_unit_due_rows, burst_without_tags_due, burst_without_tags_due_rows, command_given_up_due, command_given_up_due_rows, command_struck_twice_due, command_struck_twice_due_rows, complete_struck_due, complete_struck_due_rows, data_in_given_up_due, data_in_given_up_due_rows, data_out_given_up_due, data_out_given_up_due_rows, full_queue_due, full_queue_due_rows, lost_due, lost_due_rows, pulsed_read_struck_due, pulsed_read_struck_due_rows, pulsed_write_struck_due, pulsed_write_struck_due_rows, pulses_out_due, pulses_out_due_rows, queue_orders_due, queue_orders_due_rows, read_whole_after_a_part_due, read_whole_after_a_part_due_rows, status_given_up_due, status_given_up_due_rows, status_struck_due, status_struck_due_rows, struck_names_due, struck_names_due_rows, tagged_opening_struck_due, tagged_opening_struck_due_rows, unanswered_due, unanswered_due_rows}
-use Rattle.dialogue_laws.proofs.Turns.{arrives_as, complains_of, complains_of_names, run_done, said, said_out, struck_in, turns_from}
+use Rattle.bus_due.proofs.Cases.{absent_unit_due, absent_unit_due_rows, burst_without_tags_due, burst_without_tags_due_rows, command_given_up_due, command_given_up_due_rows, command_struck_twice_due, command_struck_twice_due_rows, complete_struck_due, complete_struck_due_rows, data_in_given_up_due, data_in_given_up_due_rows, data_out_given_up_due, data_out_given_up_due_rows, full_queue_due, full_queue_due_rows, lost_due, lost_due_rows, pulsed_read_struck_due, pulsed_read_struck_due_rows, pulsed_write_struck_due, pulsed_write_struck_due_rows, pulses_out_due, pulses_out_due_rows, queue_orders_due, queue_orders_due_rows, read_whole_after_a_part_due, read_whole_after_a_part_due_rows, request_of_a_target_struck_due, request_of_a_target_struck_due_rows, status_given_up_due, status_given_up_due_rows, status_struck_due, status_struck_due_rows, struck_names_due, struck_names_due_rows, tagged_opening_struck_due, tagged_opening_struck_due_rows, unanswered_due, unanswered_due_rows}
+use Rattle.dialogue_laws.proofs.Turns.{arrives_as, complains_of, complains_of_names, messages_given, run_done, said, said_out, status_given, struck_in, struck_turns_from, turns_from}
 
 command_recovers : nat_lt 0 (turns_from (struck_in phases.Command false) command_struck_twice_due (first_run_state command_struck_twice_due) command_struck_twice_due_rows) ≡ true
 unfolding need_of sent_of ones union_below line_of form_out form_in
@@ -113,3 +113,19 @@ reselected_data = refl
 reselected_status : nat_lt 0 (turns_from (said nexts.GoOn false) queue_orders_due (first_run_state queue_orders_due) queue_orders_due_rows) ≡ true
 unfolding need_of sent_of ones union_below line_of form_out form_in
 reselected_status = refl
+
+status_refused : nat_lt 0 (struck_turns_from status_given status_struck_due (first_run_state status_struck_due) false status_struck_due_rows) ≡ true
+unfolding need_of sent_of ones union_below line_of form_out form_in
+status_refused = refl
+
+message_refused : nat_lt 0 (struck_turns_from (messages_given false) complete_struck_due (first_run_state complete_struck_due) false complete_struck_due_rows) ≡ true
+unfolding need_of sent_of ones union_below line_of form_out form_in
+message_refused = refl
+
+message_cut_short : nat_lt 0 (struck_turns_from (messages_given true) struck_names_due (first_run_state struck_names_due) false struck_names_due_rows) ≡ true
+unfolding need_of sent_of ones union_below line_of form_out form_in
+message_cut_short = refl
+
+request_cut_short : nat_lt 0 (struck_turns_from (messages_given true) request_of_a_target_struck_due (first_run_state request_of_a_target_struck_due) false request_of_a_target_struck_due_rows) ≡ true
+unfolding need_of sent_of ones union_below line_of form_out form_in
+request_cut_short = refl

@@ -1,11 +1,12 @@
 -- How many rows of a run leave a phase as a test says, computed; the rows are given the oldest first.
-use Rattle.std.specs.Prelude.{ℕ, ◌+◌, ◌==◌, Bool, true, false, not, ◌&&◌, ◌||◌, List, [], ◌∷◌, Option, Some, None, is_none, is_some, nat_lt}
+use Rattle.std.specs.Prelude.{ℕ, ◌+◌, ◌==◌, Bool, true, false, not, ◌&&◌, ◌||◌, List, [], ◌∷◌, Option, Some, None, is_none, is_some, length, nat_lt}
 use Rattle.bus_due.specs.bus_trace.specs.declared.Row.{Row}
 use Rattle.bus_due.specs.bus_trace.specs.declared.connection.Connection.{Connection}
 use Rattle.bus_due.specs.bus_trace.specs.Phases.{changes_phase}
 use Rattle.bus_due.specs.scenario.specs.Value.{ScenarioValue}
 use Rattle.bus_due.specs.disk_array.specs.Processes.{Process}
 use Rattle.bus_due.specs.bus_story.specs.BusState.{RowReading, row_reading}
+use Rattle.bus_due.specs.bus_dialogue.specs.Exchange.{bytes_of_messages}
 use Rattle.bus_due.specs.bus_dialogue.specs.NextPhase.{phase_of}
 use Rattle.bus_due.specs.bus_dialogue.specs.PhaseBytes.{one_if}
 use Rattle.bus_due.specs.bus_dialogue.specs.Words.{is_naming}
@@ -20,6 +21,7 @@ use Rattle.bus_due.specs.bus_dialogue.specs.declared.exchange.Phase.TheVariants 
 use Rattle.bus_due.specs.RunState.{RunState, bus_of, process_served}
 use Rattle.bus_due.specs.RunSteps.{run_state_after}
 use Rattle.bus_due.specs.Tasks.{arrival_of}
+use Rattle.progress_laws.specs.bus_books.specs.WrongParity.{is_struck_after}
 use Rattle.dialogue_laws.specs.Recoveries.{is_spent}
 use Rattle.dialogue_laws.specs.Runs.{all_runs, has_data_left, policy_at, runs_of}
 
@@ -41,6 +43,13 @@ turns_from test s k [] = 0
 turns_from test s k (row ∷ rows) =
     one_if (leaves k (row_reading k.story.bus_state row) && holds_of test s k k.story.bus_state.connection (process_served s k))
     + turns_from test s (run_state_after s k row) rows
+
+-- Of the phases in which a fault row stands alone.
+abbrev pub struck_turns_from : Test → ScenarioValue → RunState → Bool → List Row → ℕ
+struck_turns_from test s k struck [] = 0
+struck_turns_from test s k struck (row ∷ rows) =
+    one_if (struck && leaves k (row_reading k.story.bus_state row) && holds_of test s k k.story.bus_state.connection (process_served s k))
+    + struck_turns_from test s (run_state_after s k row) (is_struck_after k row (row_reading k.story.bus_state row) struck) rows
 
 -- ---- tests
 
@@ -105,3 +114,10 @@ said next more s k n p = is_in phases.MessageIn k && not (bus_of k).atn && is_ne
 
 abbrev pub said_out : Test
 said_out s k n p = is_in phases.MessageOut k
+
+abbrev pub status_given : Test
+status_given s k n p = is_in phases.Status k
+
+-- Its last byte has crossed, or a byte is left.
+abbrev pub messages_given : Bool → Test
+messages_given more s k n p = is_in phases.MessageIn k && same more (nat_lt k.handshakes.requests (length (bytes_of_messages k.exchange.plan.messages)))

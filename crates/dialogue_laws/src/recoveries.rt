@@ -23,7 +23,7 @@ ghost use Rattle.bus_due.specs.Next.{IsPrompt};
 ghost use Rattle.bus_due.specs.RunState.{bus_of, carried_here};
 ghost use Rattle.bus_due.specs.RunSteps.{events_of_row, run_state};
 ghost use Rattle.progress_laws.specs.bus_books.specs.FullQueues.{has_event};
-ghost use Rattle.progress_laws.specs.bus_books.specs.WrongParity.{gives_up, is_failure, is_loss, is_struck_phase};
+ghost use Rattle.progress_laws.specs.bus_books.specs.WrongParity.{gives_up, is_complaint, is_failure, is_loss, is_refusing, is_struck_phase};
 ghost use Rattle.progress_laws.specs.trace_laws.specs.Tells.{code_if};
 ghost use Rattle.dialogue_laws.specs.Recoveries.{Complains, FailsWith, HasTakenAll, IsAsked, IsLost, LeavesPhase, Recovers, RecoversUnless, Repeats, is_spent};
 
@@ -74,7 +74,9 @@ pub fn wrong_parity_is_recovered()
 /// As the target leaves a phase to the initiator with ATN true MESSAGE OUT follows, and the initiator says what it
 /// complains of: INITIATOR DETECTED ERROR after DATA IN (`data_in`) and after STATUS (`status`), MESSAGE PARITY ERROR
 /// where the last byte of MESSAGE IN was struck (`message`). In DATA IN ATN is true then exactly where a byte of the
-/// run was struck, so that the process would fail (`struck`).
+/// run was struck, so that the process would fail (`struck`). Where a fault row stands in DATA IN (`struck_data`), STATUS
+/// (`struck_status`) or MESSAGE IN (`struck_message`), whichever byte it struck, the phase is left so; MESSAGE IN ends
+/// with that byte. As the MESSAGE OUT after such a phase is left, the target has heard the complaint (`heard`).
 pub fn complaints_follow()
     ensures data_in { (s : ScenarioValue) (rows : List Row) (row : Row) (n : Connection) (p : Process) → Obeys s
         → IsPrompt s (row ∷ rows) → LeavesPhase s rows row n p → phase_of (bus rows) ≡ phases.DataIn
@@ -89,6 +91,19 @@ pub fn complaints_follow()
     ensures struck { (s : ScenarioValue) (rows : List Row) (row : Row) (n : Connection) (p : Process) → Obeys s
         → IsPrompt s (row ∷ rows) → LeavesPhase s rows row n p → phase_of (bus rows) ≡ phases.DataIn
         → (carried_here (run_state s rows) p.id).failure ≡ code_if (bus rows).atn INITIATOR_DETECTED_ERROR }
+    ensures struck_data { (s : ScenarioValue) (rows : List Row) (row : Row) (n : Connection) (p : Process) → Obeys s
+        → IsPrompt s (row ∷ rows) → LeavesPhase s rows row n p → phase_of (bus rows) ≡ phases.DataIn
+        → is_struck_phase s rows ≡ true → Complains s rows row causes.InData detected_error }
+    ensures struck_status { (s : ScenarioValue) (rows : List Row) (row : Row) (n : Connection) (p : Process) → Obeys s
+        → IsPrompt s (row ∷ rows) → LeavesPhase s rows row n p → phase_of (bus rows) ≡ phases.Status
+        → is_struck_phase s rows ≡ true → Complains s rows row causes.InStatus detected_error }
+    ensures struck_message { (s : ScenarioValue) (rows : List Row) (row : Row) (n : Connection) (p : Process) → Obeys s
+        → IsPrompt s (row ∷ rows) → LeavesPhase s rows row n p → phase_of (bus rows) ≡ phases.MessageIn
+        → is_struck_phase s rows ≡ true → Complains s rows row causes.InMessage parity_error }
+    ensures heard { (s : ScenarioValue) (rows : List Row) (row : Row) (n : Connection) (p : Process) → Obeys s
+        → IsPrompt s (row ∷ rows) → LeavesPhase s rows row n p → phase_of (bus rows) ≡ phases.MessageOut
+        → is_refusing s rows ≡ true
+        → is_complaint (run_state s rows).exchange.plan (run_state s rows).exchange.plan.cause ≡ true }
 {}
 
 /// Nothing else gives up a process: with a row of a connection it fails (`fails`), or is lost (`lost`), only where its

@@ -1,5 +1,8 @@
 use Rattle.dialogue_laws.proofs.ComplaintRows.{data_in_attends, data_in_complains, message_complains, status_complains}
 use Rattle.dialogue_laws.proofs.RecoveryRows.{left_of}
+use Rattle.dialogue_laws.proofs.Refusals.{refused_out}
+use Rattle.dialogue_laws.proofs.StruckPhases.{is_talk, struck_attends}
+use Rattle.dialogue_laws.proofs.StruckRuns.{run_attends}
 use Rattle.dialogue_laws.proofs.recoveries.complaints_follow.Goals as goal
 
 pub returns-clause-data_in : goal.returns-clause-data_in
@@ -13,3 +16,20 @@ returns-clause-message c = λ s rows row n p o prompt w e atn struck. message_co
 
 pub returns-clause-struck : goal.returns-clause-struck
 returns-clause-struck c = λ s rows row n p o prompt w e. data_in_attends s rows row n p o prompt (left_of s rows row n p o prompt w) e
+
+pub returns-clause-struck_data : goal.returns-clause-struck_data
+returns-clause-struck_data c = λ s rows row n p o prompt w e f.
+    let h = left_of s rows row n p o prompt w in
+    data_in_complains s rows row n p h e (run_attends s rows row n p o prompt h e f)
+
+pub returns-clause-struck_status : goal.returns-clause-struck_status
+returns-clause-struck_status c = λ s rows row n p o prompt w e f.
+    status_complains s rows row n p (left_of s rows row n p o prompt w) e (struck_attends s rows row n o prompt w.leaving_row (λ i. is_talk (e i)) f).0
+
+pub returns-clause-struck_message : goal.returns-clause-struck_message
+returns-clause-struck_message c = λ s rows row n p o prompt w e f.
+    let x = struck_attends s rows row n o prompt w.leaving_row (λ i. is_talk (e i)) f in
+    message_complains s rows row n p (left_of s rows row n p o prompt w) e x.0 x.1
+
+pub returns-clause-heard : goal.returns-clause-heard
+returns-clause-heard c = λ s rows row n p o prompt w e refusing. refused_out s rows row n p o prompt (left_of s rows row n p o prompt w) e refusing

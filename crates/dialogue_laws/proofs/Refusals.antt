@@ -1,0 +1,250 @@
+-- MESSAGE OUT that follows a phase to the initiator in which a byte was struck is left with the complaint heard (6.6.10, 6.6.13): it is
+-- not the answer to a request of the target (6.6.21).
+use Rattle.std.proofs.Common.{inl, ◌≡◌, ◌<◌, Bool, true, false, not, ◌&&◌, ◌||◌, ◌∙◌, List, [], ◌∷◌, Option, Some, None, refl, sym, ap, subst}
+use Rattle.std.specs.Prelude.{if◌then◌else◌, is_none, is_some}
+use Rattle.bus_due.specs.bus_base.proofs.Tests.{wrong'}
+use Rattle.bus_due.specs.bus_trace.specs.Changes.{change_of}
+use Rattle.bus_due.specs.bus_trace.specs.LineSet.{LineSet}
+use Rattle.bus_due.specs.bus_trace.specs.Phases.{changes_phase, is_message_in, is_message_out}
+use Rattle.bus_due.specs.bus_trace.specs.Terms.{connection, is_fault, receiver_in}
+use Rattle.bus_due.specs.bus_trace.specs.Trace.{bus}
+use Rattle.bus_due.specs.bus_trace.specs.declared.Row.{Row}
+use Rattle.bus_due.specs.bus_trace.specs.declared.agreements.Agreement.{Agreement}
+use Rattle.bus_due.specs.bus_trace.specs.declared.changes.Change.{Change}
+use Rattle.bus_due.specs.bus_trace.specs.declared.connection.Connection.{Connection}
+use Rattle.bus_due.specs.bus_lines.specs.Handshakes.{Handshakes}
+use Rattle.bus_due.specs.msg_grammar.specs.declared.message.MsgIn.{MsgIn}
+use Rattle.bus_due.specs.msg_grammar.specs.declared.message.MsgOut.{MsgOut}
+use Rattle.bus_due.specs.scenario.specs.declared.value.HostDef.{HostDef}
+use Rattle.bus_due.specs.scenario.specs.Value.{ScenarioValue}
+use Rattle.bus_due.specs.scenario.specs.Writing.{Obeys}
+use Rattle.bus_due.specs.disk_array.specs.Processes.{Process}
+use Rattle.bus_due.specs.bus_story.specs.BusState.{RowReading, row_reading}
+use Rattle.bus_due.specs.bus_dialogue.specs.Exchange.{Exchange, Speech, plan_after_message, speech_after_byte, speech_after_request, struck_plan}
+use Rattle.bus_due.specs.bus_dialogue.specs.Hearing.{begun, begun_after}
+use Rattle.bus_due.specs.bus_dialogue.specs.NextPhase.{phase_of}
+use Rattle.bus_due.specs.bus_dialogue.specs.Planning.{cause_after}
+use Rattle.bus_due.specs.bus_dialogue.specs.Words.{answer_bytes, detected_error, parity_error}
+use Rattle.bus_due.specs.bus_dialogue.specs.declared.exchange.Cause.{Cause}
+use Rattle.bus_due.specs.bus_dialogue.specs.declared.exchange.Cause.TheVariants as causes
+use Rattle.bus_due.specs.bus_dialogue.specs.declared.exchange.Phase.{Phase}
+use Rattle.bus_due.specs.bus_dialogue.specs.declared.exchange.Phase.TheVariants as phases
+use Rattle.bus_due.specs.bus_dialogue.specs.declared.exchange.Plan.{Plan}
+use Rattle.bus_due.specs.bus_dialogue.specs.declared.exchange.Said.{Said}
+use Rattle.bus_due.specs.Defs.{host_of}
+use Rattle.bus_due.specs.Next.{IsPrompt}
+use Rattle.bus_due.specs.Plain.{IsPlain}
+use Rattle.bus_due.specs.RunState.{RunState, bus_of}
+use Rattle.bus_due.specs.RunSteps.{run_state, run_state_after}
+use Rattle.bus_due.proofs.Plains.{run_state_plain}
+use Rattle.progress_laws.specs.bus_books.specs.WrongParity.{is_complaint, is_refusing, is_struck_phase}
+use Rattle.progress_laws.specs.bus_books.specs.Hearing.{is_out_phase}
+use Rattle.progress_laws.specs.bus_books.specs.Rows.{reading_in}
+use Rattle.progress_laws.specs.bus_books.proofs.InConnection.{InConnection, in_connection}
+use Rattle.progress_laws.specs.bus_laws.proofs.Apart.{change_plain}
+use Rattle.progress_laws.specs.bus_laws.proofs.Prompt.{least_is}
+use Rattle.progress_laws.specs.link_laws.specs.LinkStages.{LinkStage, when_offering, when_pulsing, when_selected, when_settling, when_shaking, when_turning}
+use Rattle.progress_laws.specs.trace_laws.specs.Tells.{IsLeaving}
+use Rattle.progress_laws.specs.trace_laws.proofs.ConnectionRows.{GoingRow, RowKindOf, begins_now, connection_row, goes_now, going_row, row_kind, stage_of_connection}
+use Rattle.progress_laws.specs.trace_laws.proofs.Impossible.{none_some}
+use Rattle.progress_laws.specs.trace_laws.proofs.InstructedTurns.{out_is}
+use Rattle.progress_laws.specs.trace_laws.proofs.OfferLeavings.{all_said, parity_said}
+use Rattle.progress_laws.specs.trace_laws.proofs.PhaseLines.{in_phase, out_phase}
+use Rattle.progress_laws.specs.trace_laws.proofs.RunCountFacts.{or_left}
+use Rattle.progress_laws.specs.trace_laws.proofs.Whole.{Whole, standing_next, whole}
+use Rattle.dialogue_laws.proofs.PhaseEnds.{phase_end, words_by}
+use Rattle.dialogue_laws.proofs.RecoveryRows.{Left, phase_is, taken_all}
+use Rattle.dialogue_laws.proofs.StruckPhases.{is_talk, struck_attends}
+use Rattle.dialogue_laws.specs.Recoveries.{phase_if, present_phase}
+
+-- The initiator has a complaint to say.
+abbrev Refuses : Exchange → Cause → Type 0
+Refuses x causes.Selected = false ≡ true
+Refuses x causes.InMessage = x.speech.words ≡ parity_error
+Refuses x causes.InData = true ≡ true
+Refuses x causes.InStatus = true ≡ true
+
+abbrev RefusalFacts : ScenarioValue → List Row → Type 0
+RefusalFacts s p = (n : Connection) → connection p ≡ Some n → (bus p).rst ≡ false → begun p ≡ true → is_refusing s p ≡ true → Refuses (run_state s p).exchange (run_state s p).exchange.plan.cause
+
+refuses_as : (x y : Exchange) (cause : Cause) → y.speech.words ≡ x.speech.words → Refuses x cause → Refuses y cause
+refuses_as x y causes.Selected e h = h
+refuses_as x y causes.InMessage e h = e ∙ h
+refuses_as x y causes.InData e h = h
+refuses_as x y causes.InStatus e h = h
+
+-- ---- the phase stays
+
+cause_said : (q last : Bool) (m : Option MsgOut) (p : Plan) → (if q then plan_after_message p last m else p).cause ≡ p.cause
+cause_said true true m p = refl
+cause_said true false m p = refl
+cause_said false last m p = refl
+
+cause_struck : (q : Bool) (p : Plan) → (if q then struck_plan p else p).cause ≡ p.cause
+cause_struck true p = refl
+cause_struck false p = refl
+
+words_said : (q : Bool) (m : Option MsgIn) (v : Speech) → (if q then speech_after_byte v else speech_after_request v m).words ≡ v.words
+words_said true m v = refl
+words_said false m v = refl
+
+-- What the initiator says, and why, stays.
+record SameWords (x y : Exchange) : Type 0 where
+  words : y.speech.words ≡ x.speech.words
+  cause : y.plan.cause ≡ x.plan.cause
+
+same_words : (s : ScenarioValue) (k : RunState) (row : Row) (n : Connection) (c : Change) (now fault : Bool) → InConnection s k row n c false now fault → SameWords k.exchange (run_state_after s k row).exchange
+same_words s k row n c true fault at =
+    let d = reading_in k.story.bus_state n c true in
+    record {
+      words = ap (λ (x : Exchange). x.speech.words) at.exchange_is ∙ words_said (is_message_out c.before) d.into k.exchange.speech;
+      cause = ap (λ (x : Exchange). x.plan.cause) at.exchange_is ∙ cause_said (is_message_out c.before) k.story.bus_state.dialogue.is_last d.out k.exchange.plan;
+    }
+same_words s k row n c false fault at = record {
+  words = ap (λ (x : Exchange). x.speech.words) at.exchange_is;
+  cause = ap (λ (x : Exchange). x.plan.cause) at.exchange_is ∙ cause_struck (fault && not c.before.io) k.exchange.plan;
+}
+
+-- ---- it begins
+
+-- I/O is true in phases alone.
+begun_with_io : (s : ScenarioValue) (p : List Row) (n : Connection) → LinkStage s p n → (bus p).io ≡ true → begun p ≡ true
+begun_with_io s p n (when_selected h) io = wrong' (sym (ap (λ (l : LineSet). l.io) h.linked.stands.bus_is) ∙ io)
+begun_with_io s p n (when_settling bsy atn msg cd i y h) io = h.phase.begun_is
+begun_with_io s p n (when_turning atn x msg cd h) io = h.phase.begun_is
+begun_with_io s p n (when_offering atn msg cd y h) io = h.phase.begun_is
+begun_with_io s p n (when_shaking msg cd i req ack atn x y h) io = h.phase.begun_is
+begun_with_io s p n (when_pulsing i req ack atn x y h a) io = h.phase.begun_is
+
+begins_refusing : (x : Exchange) (h : Option HostDef) (b : LineSet) (struck : Bool) (asked : Agreement) → x.plan.cause ≡ cause_after b → x.speech.words ≡ words_by h b struck asked → (is_message_in b ≡ true → struck ≡ true) → Refuses x x.plan.cause
+begins_refusing x h b struck asked cause words told = subst (λ (y : Cause). Refuses x y) (sym cause) (go (is_message_in b) refl b.cd)
+  where
+    go : (m : Bool) → is_message_in b ≡ m → (c : Bool) → Refuses x (if m then causes.InMessage else if c then causes.InStatus else causes.InData)
+    go true e c = words ∙ (λ i. if not (e i) then detected_error else if told e i then parity_error else answer_bytes h asked)
+    go false e true = refl
+    go false e false = refl
+
+three : (a b c : Bool) → (a && b && c) ≡ true → (a ≡ true) × (b ≡ true) × (c ≡ true)
+three true true true e = (refl, refl, refl)
+three true true false e = wrong' e
+three true false c e = wrong' e
+three false b c e = wrong' e
+
+-- ---- any row
+
+refusal_next : (s : ScenarioValue) (p : List Row) (row : Row) → Obeys s → IsPrompt s (row ∷ p) → Whole s p → RefusalFacts s p → RefusalFacts s (row ∷ p)
+refusal_next s p row o prompt was facts n after calm b here = by (row_kind s p row n o prompt was.stood after calm)
+  where
+    q : List Row
+    q = row ∷ p
+
+    k : RunState
+    k = run_state s p
+
+    c : Change
+    c = change_of p row
+
+    d : RowReading
+    d = row_reading k.story.bus_state row
+
+    lt : row.dev < 8
+    lt = (least_is s p row prompt.1).inside
+
+    pl : IsPlain s p k
+    pl = run_state_plain s p was.stood.standing.devices
+
+    change : d.change ≡ c
+    change = change_plain s row p was.stood.standing.devices lt
+
+    refusing : (if changes_phase c then c.before.io && is_struck_phase s p && is_message_out c.after else is_refusing s p) ≡ true
+    refusing =
+        (λ i. if changes_phase (sym change i) then (sym change i).before.io && is_struck_phase s p && is_message_out (sym change i).after else is_refusing s p)
+        ∙ (three (is_some k.story.bus_state.connection) (is_some d.next) _ here).2
+
+    entered : connection p ≡ Some n → (bus p).rst ≡ false → changes_phase c ≡ true → Refuses (run_state s q).exchange (run_state s q).exchange.plan.cause
+    entered con off ep = begins_refusing (run_state s q).exchange (host_of s n.initiator) (bus_of k) k.handshakes.struck k.exchange.speech.asked says.0 says.1 told
+      where
+        begins : (c.before.io ≡ true) × (is_struck_phase s p ≡ true) × (is_message_out c.after ≡ true)
+        begins = three c.before.io (is_struck_phase s p) (is_message_out c.after) (ap (λ (x : Bool). if x then c.before.io && is_struck_phase s p && is_message_out c.after else is_refusing s p) (sym ep) ∙ refusing)
+
+        w : IsLeaving s p row n
+        w = record {
+          stands = con;
+          calm = off;
+          calm_after = calm;
+          begun = pl.begun ∙ begun_with_io s p n (stage_of_connection s p n was.stood con off) begins.0;
+          leaves = inl (ap changes_phase change ∙ ep);
+        }
+
+        present : present_phase q ≡ Some phases.MessageOut
+        present = ap (λ (x : Option Connection). phase_if x (bus q)) after ∙ ap (λ (x : Phase). Some x) (out_phase c.after begins.2)
+
+        says : ((run_state s q).exchange.plan.cause ≡ cause_after (bus_of k)) × ((run_state s q).exchange.speech.words ≡ words_by (host_of s n.initiator) (bus_of k) k.handshakes.struck k.exchange.speech.asked)
+        says = (phase_end s p row n o prompt w).says present
+
+        told : is_message_in (bus_of k) ≡ true → k.handshakes.struck ≡ true
+        told m =
+            ap (λ (x : Handshakes). x.struck) pl.handshakes
+            ∙ (struck_attends s p row n o prompt w (ap is_talk (in_phase (bus p) (ap is_message_in (sym pl.bus) ∙ m))) begins.1).1
+
+    stays : connection p ≡ Some n → (bus p).rst ≡ false → changes_phase c ≡ false → Refuses (run_state s q).exchange (run_state s q).exchange.plan.cause
+    stays con off ep =
+        subst (λ (x : Cause). Refuses (run_state s q).exchange x) (sym words.cause)
+        (refuses_as k.exchange (run_state s q).exchange k.exchange.plan.cause words.words (facts n con off started before))
+      where
+        started : begun p ≡ true
+        started = or_left (begun p) ((λ i. sym ep i || begun p) ∙ (λ i. begun_after (begun p) (sym con i) (sym after i) c) ∙ b)
+
+        before : is_refusing s p ≡ true
+        before = ap (λ (x : Bool). if x then c.before.io && is_struck_phase s p && is_message_out c.after else is_refusing s p) (sym ep) ∙ refusing
+
+        g : GoingRow s p row n
+        g = going_row s p row n was.stood.standing.devices lt con after calm (standing_next s p row o prompt was).row_is (connection_row s p row n o prompt was.stood con off calm).facts
+
+        words : SameWords k.exchange (run_state s q).exchange
+        words = same_words s k row n g.change (is_some (receiver_in n g.change)) (is_fault row.kind)
+            (in_connection s k row n g.change false (is_some (receiver_in n g.change)) (is_fault row.kind) g.goes.row_is (ap changes_phase g.change_is ∙ ep) refl refl)
+
+    on : connection p ≡ Some n → (bus p).rst ≡ false → (x : Bool) → changes_phase c ≡ x → Refuses (run_state s q).exchange (run_state s q).exchange.plan.cause
+    on con off true ep = entered con off ep
+    on con off false ep = stays con off ep
+
+    none : connection p ≡ None → false ≡ true
+    none alone =
+        (λ i. is_some (sym (pl.connection ∙ alone) i) && is_some d.next && (if changes_phase d.change then d.change.before.io && is_struck_phase s p && is_message_out d.change.after else is_refusing s p)) ∙ here
+
+    by : RowKindOf s p row n → Refuses (run_state s q).exchange (run_state s q).exchange.plan.cause
+    by (begins_now alone f) = wrong' (none alone)
+    by (goes_now con off) = on con off (changes_phase c) refl
+
+refusals : (s : ScenarioValue) (p : List Row) → Obeys s → IsPrompt s p → RefusalFacts s p
+refusals s [] o prompt = λ n e off b here. none_some n e
+refusals s (row ∷ p) o prompt = refusal_next s p row o prompt (whole s p o prompt.0) (refusals s p o prompt.0)
+
+-- ---- MESSAGE OUT is left
+
+complains : (x : Exchange) (cause : Cause) → x.plan.cause ≡ cause → Refuses x cause → (x.speech.words ≡ parity_error → x.plan.said.offer ≡ None) → is_complaint x.plan cause ≡ true
+complains x causes.Selected e h f = wrong' h
+complains x causes.InMessage e h f = ap (λ (a : Option Agreement). is_none a) (f h)
+complains x causes.InData e h f = refl
+complains x causes.InStatus e h f = refl
+
+-- The target has heard the complaint.
+pub refused_out : (s : ScenarioValue) (p : List Row) (row : Row) (n : Connection) (q : Process) → Obeys s → IsPrompt s (row ∷ p) → Left s p row n q → phase_of (bus p) ≡ phases.MessageOut → is_refusing s p ≡ true → is_complaint (run_state s p).exchange.plan (run_state s p).exchange.plan.cause ≡ true
+refused_out s p row n q o prompt h e refusing = complains k.exchange k.exchange.plan.cause refl (refusals s p o prompt.0 n h.leaving_row.stands h.leaving_row.calm (sym pl.begun ∙ h.leaving_row.begun) refusing) unasked
+  where
+    k : RunState
+    k = run_state s p
+
+    pl : IsPlain s p k
+    pl = run_state_plain s p h.end.was.stood.standing.devices
+
+    out : is_message_out (bus_of k) ≡ true
+    out = out_is (bus_of k) h.end.known ∙ ap is_out_phase (phase_is s p row n q h phases.MessageOut e)
+
+    -- of MESSAGE PARITY ERROR alone no request is heard
+    unasked : k.exchange.speech.words ≡ parity_error → k.exchange.plan.said.offer ≡ None
+    unasked words =
+        let speaks = h.end.was.stood.books.speaks n (pl.connection ∙ h.leaving_row.stands) (ap (λ (x : LineSet). x.rst) pl.bus ∙ h.leaving_row.calm) in
+        let heard = (speaks.in_message_out h.leaving_row.begun out).heard in
+        ap (λ (z : Said). z.offer) (all_said k.exchange k.story.bus_state.dialogue parity_error heard (taken_all s p row n q o h e).last words ∙ parity_said)
