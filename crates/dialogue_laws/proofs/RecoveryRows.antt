@@ -478,11 +478,12 @@ names_repeat s p row n q h e none name =
 
 -- ---- MESSAGE OUT is left
 
-pub taken_all : (s : ScenarioValue) (p : List Row) (row : Row) (n : Connection) (q : Process) → Obeys s → Left s p row n q → phase_of (bus p) ≡ phases.MessageOut → HasTakenAll (run_state s p)
-taken_all s p row n q o h e =
+-- Whatever its target serves.
+pub taken_all : (s : ScenarioValue) (p : List Row) (row : Row) (n : Connection) → Obeys s → PhaseEnd s p row n → IsLeaving s p row n → phase_of (bus p) ≡ phases.MessageOut → HasTakenAll (run_state s p)
+taken_all s p row n o end w e =
     let k : RunState = run_state s p in
-    let pl : IsPlain s p k = run_state_plain s p h.end.was.stood.standing.devices in
-    let here = phase_is s p row n q h phases.MessageOut e in
-    let speaks = h.end.was.stood.books.speaks n (pl.connection ∙ h.leaving_row.stands) (ap (λ (x : LineSet). x.rst) pl.bus ∙ h.leaving_row.calm) in
-    let heard : IsHeard s k = is_heard s k n (units_are s (obeys_fits s o)) speaks h.leaving_row.begun h.end.known h.end.over here in
-    record { last = heard.last; unstruck = out_unstruck s k n here h.end.over }
+    let pl : IsPlain s p k = run_state_plain s p end.was.stood.standing.devices in
+    let here : phase_of (bus_of k) ≡ phases.MessageOut = ap phase_of pl.bus ∙ e in
+    let speaks = end.was.stood.books.speaks n (pl.connection ∙ w.stands) (ap (λ (x : LineSet). x.rst) pl.bus ∙ w.calm) in
+    let heard : IsHeard s k = is_heard s k n (units_are s (obeys_fits s o)) speaks w.begun end.known end.over here in
+    record { last = heard.last; unstruck = out_unstruck s k n here end.over }
