@@ -47,7 +47,8 @@ use Rattle.bus_due.proofs.Plains.{run_state_plain}
 use Rattle.progress_laws.specs.scsi_device.proofs.FitLines.{obeys_fits, units_are}
 use Rattle.progress_laws.specs.bus_books.specs.WrongParity.{is_struck_phase}
 use Rattle.progress_laws.specs.trace_laws.specs.Places.{PlacedAsked, PlacedIf, PlacedIn}
-use Rattle.progress_laws.specs.trace_laws.specs.Tells.{IsLeaving}
+use Rattle.progress_laws.specs.bus_books.specs.Hearing.{is_out_phase}
+use Rattle.progress_laws.specs.trace_laws.specs.Tells.{IsLeaving, IsServed, of_abort, of_process}
 use Rattle.progress_laws.specs.trace_laws.proofs.CommandNext.{out_unstruck}
 use Rattle.progress_laws.specs.trace_laws.proofs.ItemRows.{served_item}
 use Rattle.progress_laws.specs.trace_laws.proofs.RunFacts.{task_here}
@@ -478,11 +479,23 @@ names_repeat s p row n q h e none name =
 
 -- ---- MESSAGE OUT is left
 
-pub taken_all : (s : ScenarioValue) (p : List Row) (row : Row) (n : Connection) (q : Process) → Obeys s → Left s p row n q → phase_of (bus p) ≡ phases.MessageOut → HasTakenAll (run_state s p)
-taken_all s p row n q o h e =
+-- Whatever its target serves.
+pub taken_all : (s : ScenarioValue) (p : List Row) (row : Row) (n : Connection) → Obeys s → PhaseEnd s p row n → IsLeaving s p row n → phase_of (bus p) ≡ phases.MessageOut → HasTakenAll (run_state s p)
+taken_all s p row n o end w e =
     let k : RunState = run_state s p in
-    let pl : IsPlain s p k = run_state_plain s p h.end.was.stood.standing.devices in
-    let here = phase_is s p row n q h phases.MessageOut e in
-    let speaks = h.end.was.stood.books.speaks n (pl.connection ∙ h.leaving_row.stands) (ap (λ (x : LineSet). x.rst) pl.bus ∙ h.leaving_row.calm) in
-    let heard : IsHeard s k = is_heard s k n (units_are s (obeys_fits s o)) speaks h.leaving_row.begun h.end.known h.end.over here in
-    record { last = heard.last; unstruck = out_unstruck s k n here h.end.over }
+    let pl : IsPlain s p k = run_state_plain s p end.was.stood.standing.devices in
+    let here : phase_of (bus_of k) ≡ phases.MessageOut = ap phase_of pl.bus ∙ e in
+    let speaks = end.was.stood.books.speaks n (pl.connection ∙ w.stands) (ap (λ (x : LineSet). x.rst) pl.bus ∙ w.calm) in
+    let heard : IsHeard s k = is_heard s k n (units_are s (obeys_fits s o)) speaks w.begun end.known end.over here in
+    record { last = heard.last; unstruck = out_unstruck s k n here end.over }
+
+-- A connection for an abort has no other phase.
+pub leaves_phase : (s : ScenarioValue) (p : List Row) (row : Row) (n : Connection) → PhaseEnd s p row n → IsLeaving s p row n → is_out_phase (phase_of (bus p)) ≡ false → (q : Process) × LeavesPhase s p row n q
+leaves_phase s p row n end w other = by (end.was.facts.served n w.stands w.calm)
+  where
+    pl : IsPlain s p (run_state s p)
+    pl = run_state_plain s p end.was.stood.standing.devices
+
+    by : IsServed s (run_state s p) n → (q : Process) × LeavesPhase s p row n q
+    by (of_process id q e f) = (q, record { leaving_row = w; served = ap (process_item s) e ∙ f })
+    by (of_abort m a e line host target re alone) = wrong (ap is_out_phase (sym (alone w.begun).0) ∙ ap (λ (l : LineSet). is_out_phase (phase_of l)) pl.bus ∙ other)

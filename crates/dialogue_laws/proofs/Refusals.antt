@@ -55,7 +55,7 @@ use Rattle.progress_laws.specs.trace_laws.proofs.Whole.{Whole, standing_next, wh
 use Rattle.dialogue_laws.proofs.PhaseEnds.{phase_end, words_by}
 use Rattle.dialogue_laws.proofs.RecoveryRows.{Left, phase_is, taken_all}
 use Rattle.dialogue_laws.proofs.StruckPhases.{is_talk, struck_attends}
-use Rattle.dialogue_laws.specs.Recoveries.{phase_if, present_phase}
+use Rattle.dialogue_laws.specs.Recoveries.{IsWithin, phase_if, present_phase}
 
 -- The initiator has a complaint to say.
 abbrev Refuses : Exchange → Cause → Type 0
@@ -104,6 +104,17 @@ same_words s k row n c false fault at = record {
   words = ap (λ (x : Exchange). x.speech.words) at.exchange_is;
   cause = ap (λ (x : Exchange). x.plan.cause) at.exchange_is ∙ cause_struck (fault && not c.before.io) k.exchange.plan;
 }
+
+words_stay : (s : ScenarioValue) (p : List Row) (row : Row) (n : Connection) → Obeys s → IsPrompt s (row ∷ p) → Whole s p → IsWithin p row n → SameWords (run_state s p).exchange (run_state s (row ∷ p)).exchange
+words_stay s p row n o prompt was w =
+    let k : RunState = run_state s p in
+    let lt = (least_is s p row prompt.1).inside in
+    let g : GoingRow s p row n = going_row s p row n was.stood.standing.devices lt w.before w.after w.calm_after (standing_next s p row o prompt was).row_is (connection_row s p row n o prompt was.stood w.before w.calm w.calm_after).facts in
+    same_words s k row n g.change (is_some (receiver_in n g.change)) (is_fault row.kind)
+    (in_connection s k row n g.change false (is_some (receiver_in n g.change)) (is_fault row.kind) g.goes.row_is (ap changes_phase g.change_is ∙ w.lasts) refl refl)
+
+pub cause_stays : (s : ScenarioValue) (p : List Row) (row : Row) (n : Connection) → Obeys s → IsPrompt s (row ∷ p) → IsWithin p row n → (run_state s (row ∷ p)).exchange.plan.cause ≡ (run_state s p).exchange.plan.cause
+cause_stays s p row n o prompt w = (words_stay s p row n o prompt (whole s p o prompt.0) w).cause
 
 -- ---- it begins
 
@@ -198,12 +209,8 @@ refusal_next s p row o prompt was facts n after calm b here = by (row_kind s p r
         before : is_refusing s p ≡ true
         before = ap (λ (x : Bool). if x then c.before.io && is_struck_phase s p && is_message_out c.after else is_refusing s p) (sym ep) ∙ refusing
 
-        g : GoingRow s p row n
-        g = going_row s p row n was.stood.standing.devices lt con after calm (standing_next s p row o prompt was).row_is (connection_row s p row n o prompt was.stood con off calm).facts
-
         words : SameWords k.exchange (run_state s q).exchange
-        words = same_words s k row n g.change (is_some (receiver_in n g.change)) (is_fault row.kind)
-            (in_connection s k row n g.change false (is_some (receiver_in n g.change)) (is_fault row.kind) g.goes.row_is (ap changes_phase g.change_is ∙ ep) refl refl)
+        words = words_stay s p row n o prompt was (record { before = con; after = after; calm = off; calm_after = calm; lasts = ep })
 
     on : connection p ≡ Some n → (bus p).rst ≡ false → (x : Bool) → changes_phase c ≡ x → Refuses (run_state s q).exchange (run_state s q).exchange.plan.cause
     on con off true ep = entered con off ep
@@ -247,4 +254,4 @@ refused_out s p row n q o prompt h e refusing = complains k.exchange k.exchange.
     unasked words =
         let speaks = h.end.was.stood.books.speaks n (pl.connection ∙ h.leaving_row.stands) (ap (λ (x : LineSet). x.rst) pl.bus ∙ h.leaving_row.calm) in
         let heard = (speaks.in_message_out h.leaving_row.begun out).heard in
-        ap (λ (z : Said). z.offer) (all_said k.exchange k.story.bus_state.dialogue parity_error heard (taken_all s p row n q o h e).last words ∙ parity_said)
+        ap (λ (z : Said). z.offer) (all_said k.exchange k.story.bus_state.dialogue parity_error heard (taken_all s p row n o h.end h.leaving_row e).last words ∙ parity_said)

@@ -12,7 +12,7 @@ use Rattle.bus_due.specs.bus_dialogue.specs.declared.exchange.Next.TheVariants a
 use Rattle.bus_due.specs.bus_dialogue.specs.declared.exchange.Phase.TheVariants as phases
 use Rattle.bus_due.specs.RunSteps.{first_run_state}
 use Rattle.bus_due.proofs.Cases.{absent_unit_due, absent_unit_due_rows, burst_without_tags_due, burst_without_tags_due_rows, command_given_up_due, command_given_up_due_rows, command_struck_twice_due, command_struck_twice_due_rows, complete_struck_due, complete_struck_due_rows, data_in_given_up_due, data_in_given_up_due_rows, data_out_given_up_due, data_out_given_up_due_rows, full_queue_due, full_queue_due_rows, lost_due, lost_due_rows, pulsed_read_struck_due, pulsed_read_struck_due_rows, pulsed_write_struck_due, pulsed_write_struck_due_rows, pulses_out_due, pulses_out_due_rows, queue_orders_due, queue_orders_due_rows, read_whole_after_a_part_due, read_whole_after_a_part_due_rows, request_of_a_target_struck_due, request_of_a_target_struck_due_rows, status_given_up_due, status_given_up_due_rows, status_struck_due, status_struck_due_rows, struck_names_due, struck_names_due_rows, tagged_opening_struck_due, tagged_opening_struck_due_rows, unanswered_due, unanswered_due_rows}
-use Rattle.dialogue_laws.proofs.Turns.{arrives_as, complains_of, complains_of_names, messages_given, run_done, said, said_out, status_given, struck_in, struck_turns_from, turns_from}
+use Rattle.dialogue_laws.proofs.Turns.{arrives_as, complains_of, complains_of_names, data_given, messages_given, refused_turns_from, run_done, said, said_out, status_given, struck_in, struck_turns_from, turns_from}
 
 command_recovers : nat_lt 0 (turns_from (struck_in phases.Command false) command_struck_twice_due (first_run_state command_struck_twice_due) command_struck_twice_due_rows) ≡ true
 unfolding need_of sent_of ones union_below line_of form_out form_in
@@ -129,3 +129,27 @@ message_cut_short = refl
 request_cut_short : nat_lt 0 (struck_turns_from (messages_given true) request_of_a_target_struck_due (first_run_state request_of_a_target_struck_due) false request_of_a_target_struck_due_rows) ≡ true
 unfolding need_of sent_of ones union_below line_of form_out form_in
 request_cut_short = refl
+
+data_refused : nat_lt 0 (struck_turns_from data_given pulsed_read_struck_due (first_run_state pulsed_read_struck_due) false pulsed_read_struck_due_rows) ≡ true
+unfolding need_of sent_of ones union_below line_of form_out form_in
+data_refused = refl
+
+data_refusal_heard : nat_lt 0 (refused_turns_from said_out pulsed_read_struck_due (first_run_state pulsed_read_struck_due) false false pulsed_read_struck_due_rows) ≡ true
+unfolding need_of sent_of ones union_below line_of form_out form_in
+data_refusal_heard = refl
+
+status_refusal_heard : nat_lt 0 (refused_turns_from said_out status_struck_due (first_run_state status_struck_due) false false status_struck_due_rows) ≡ true
+unfolding need_of sent_of ones union_below line_of form_out form_in
+status_refusal_heard = refl
+
+message_refusal_heard : nat_lt 0 (refused_turns_from said_out complete_struck_due (first_run_state complete_struck_due) false false complete_struck_due_rows) ≡ true
+unfolding need_of sent_of ones union_below line_of form_out form_in
+message_refusal_heard = refl
+
+names_refusal_heard : nat_lt 0 (refused_turns_from said_out struck_names_due (first_run_state struck_names_due) false false struck_names_due_rows) ≡ true
+unfolding need_of sent_of ones union_below line_of form_out form_in
+names_refusal_heard = refl
+
+request_refusal_heard : nat_lt 0 (refused_turns_from said_out request_of_a_target_struck_due (first_run_state request_of_a_target_struck_due) false false request_of_a_target_struck_due_rows) ≡ true
+unfolding need_of sent_of ones union_below line_of form_out form_in
+request_refusal_heard = refl

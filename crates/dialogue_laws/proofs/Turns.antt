@@ -21,7 +21,7 @@ use Rattle.bus_due.specs.bus_dialogue.specs.declared.exchange.Phase.TheVariants 
 use Rattle.bus_due.specs.RunState.{RunState, bus_of, process_served}
 use Rattle.bus_due.specs.RunSteps.{run_state_after}
 use Rattle.bus_due.specs.Tasks.{arrival_of}
-use Rattle.progress_laws.specs.bus_books.specs.WrongParity.{is_struck_after}
+use Rattle.progress_laws.specs.bus_books.specs.WrongParity.{is_refusal_after, is_struck_after}
 use Rattle.dialogue_laws.specs.Recoveries.{is_spent}
 use Rattle.dialogue_laws.specs.Runs.{all_runs, has_data_left, policy_at, runs_of}
 
@@ -50,6 +50,13 @@ struck_turns_from test s k struck [] = 0
 struck_turns_from test s k struck (row ∷ rows) =
     one_if (struck && leaves k (row_reading k.story.bus_state row) && holds_of test s k k.story.bus_state.connection (process_served s k))
     + struck_turns_from test s (run_state_after s k row) (is_struck_after k row (row_reading k.story.bus_state row) struck) rows
+
+-- Of MESSAGE OUT after such a phase to the initiator alone.
+abbrev pub refused_turns_from : Test → ScenarioValue → RunState → (struck refusing : Bool) → List Row → ℕ
+refused_turns_from test s k struck refusing [] = 0
+refused_turns_from test s k struck refusing (row ∷ rows) =
+    one_if (refusing && leaves k (row_reading k.story.bus_state row) && holds_of test s k k.story.bus_state.connection (process_served s k))
+    + refused_turns_from test s (run_state_after s k row) (is_struck_after k row (row_reading k.story.bus_state row) struck) (is_refusal_after k (row_reading k.story.bus_state row) struck refusing) rows
 
 -- ---- tests
 
@@ -114,6 +121,9 @@ said next more s k n p = is_in phases.MessageIn k && not (bus_of k).atn && is_ne
 
 abbrev pub said_out : Test
 said_out s k n p = is_in phases.MessageOut k
+
+abbrev pub data_given : Test
+data_given s k n p = is_in phases.DataIn k
 
 abbrev pub status_given : Test
 status_given s k n p = is_in phases.Status k

@@ -1,7 +1,9 @@
 -- How the target goes on as it leaves a phase in which parity was wrong: it recovers, or gives up the process (6.6.10, 6.6.13, 6.6.19).
 use Rattle.std.specs.Prelude.{ℕ, ◌+◌, ◌≡◌, Bool, true, false, not, ◌&&◌, List, [], ◌∷◌, Option, Some, None, nat_lt}
 use Rattle.bus_due.specs.bus_base.specs.declared.Event.TheVariants as events
+use Rattle.bus_due.specs.bus_trace.specs.Changes.{change_of}
 use Rattle.bus_due.specs.bus_trace.specs.LineSet.{LineSet}
+use Rattle.bus_due.specs.bus_trace.specs.Phases.{changes_phase}
 use Rattle.bus_due.specs.bus_trace.specs.Terms.{connection}
 use Rattle.bus_due.specs.bus_trace.specs.Trace.{bus}
 use Rattle.bus_due.specs.bus_trace.specs.declared.Row.{Row}
@@ -36,6 +38,14 @@ present_phase rows = phase_if (connection rows) (bus rows)
 pub record LeavesPhase (s : ScenarioValue) (rows : List Row) (row : Row) (n : Connection) (p : Process) : Type 0 where
   pub leaving_row : IsLeaving s rows row n
   pub served : process_served s (run_state s rows) ≡ Some p
+
+-- With this row the phase of this connection lasts, and RST is false.
+pub record IsWithin (rows : List Row) (row : Row) (n : Connection) : Type 0 where
+  pub before : connection rows ≡ Some n
+  pub after : connection (row ∷ rows) ≡ Some n
+  pub calm : (bus rows).rst ≡ false
+  pub calm_after : (bus (row ∷ rows)).rst ≡ false
+  pub lasts : changes_phase (change_of rows row) ≡ false
 
 -- ---- how many recoveries a process has
 

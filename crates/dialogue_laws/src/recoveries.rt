@@ -23,9 +23,10 @@ ghost use Rattle.bus_due.specs.Next.{IsPrompt};
 ghost use Rattle.bus_due.specs.RunState.{bus_of, carried_here};
 ghost use Rattle.bus_due.specs.RunSteps.{events_of_row, run_state};
 ghost use Rattle.progress_laws.specs.bus_books.specs.FullQueues.{has_event};
+ghost use Rattle.progress_laws.specs.bus_books.specs.Hearing.{is_out_phase};
 ghost use Rattle.progress_laws.specs.bus_books.specs.WrongParity.{gives_up, is_complaint, is_failure, is_loss, is_refusing, is_struck_phase};
-ghost use Rattle.progress_laws.specs.trace_laws.specs.Tells.{code_if};
-ghost use Rattle.dialogue_laws.specs.Recoveries.{Complains, FailsWith, HasTakenAll, IsAsked, IsLost, LeavesPhase, Recovers, RecoversUnless, Repeats, is_spent};
+ghost use Rattle.progress_laws.specs.trace_laws.specs.Tells.{IsLeaving, code_if};
+ghost use Rattle.dialogue_laws.specs.Recoveries.{Complains, FailsWith, HasTakenAll, IsAsked, IsLost, IsWithin, LeavesPhase, Recovers, RecoversUnless, Repeats, is_spent};
 
 /// As the target leaves a phase in which parity was wrong it recovers, or gives up the process, and that exactly where
 /// the recovery would count and as many were counted as its limit; in a connection of an initiator that stands in the
@@ -33,7 +34,8 @@ ghost use Rattle.dialogue_laws.specs.Recoveries.{Complains, FailsWith, HasTakenA
 /// the initiator complains of DATA IN (`data_in`) or of STATUS (`status`), it says RESTORE POINTERS and means to go
 /// through the phase again; a message of which the initiator complains is said again, with those after it (`message`).
 /// It gives up with STATUS, as the process fails, or with BUS FREE, as it is lost. The messages that name a reselected
-/// process come again without limit (`names`), and MESSAGE OUT is left with all its bytes taken in good order (`out`).
+/// process come again without limit (`names`), and MESSAGE OUT is left with all its bytes taken in good order, whatever
+/// the target serves (`out`): as another phase is left it serves a process (`serves`).
 pub fn wrong_parity_is_recovered()
     ensures command { (s : ScenarioValue) (rows : List Row) (row : Row) (n : Connection) (p : Process) → Obeys s
         → IsPrompt s (row ∷ rows) → LeavesPhase s rows row n p → phase_of (bus rows) ≡ phases.Command
@@ -66,17 +68,21 @@ pub fn wrong_parity_is_recovered()
         → (run_state s rows).exchange.plan.said.offer ≡ None
         → is_naming (run_state s rows).exchange.plan.messages.first ≡ true
         → Repeats s rows row p (run_state s rows).exchange.plan.messages (run_state s rows).exchange.plan.next false }
-    ensures out { (s : ScenarioValue) (rows : List Row) (row : Row) (n : Connection) (p : Process) → Obeys s
-        → IsPrompt s (row ∷ rows) → LeavesPhase s rows row n p → phase_of (bus rows) ≡ phases.MessageOut
+    ensures out { (s : ScenarioValue) (rows : List Row) (row : Row) (n : Connection) → Obeys s
+        → IsPrompt s (row ∷ rows) → IsLeaving s rows row n → phase_of (bus rows) ≡ phases.MessageOut
         → HasTakenAll (run_state s rows) }
+    ensures serves { (s : ScenarioValue) (rows : List Row) (row : Row) (n : Connection) → Obeys s
+        → IsPrompt s (row ∷ rows) → IsLeaving s rows row n → is_out_phase (phase_of (bus rows)) ≡ false
+        → (p : Process) × LeavesPhase s rows row n p }
 {}
 
 /// As the target leaves a phase to the initiator with ATN true MESSAGE OUT follows, and the initiator says what it
 /// complains of: INITIATOR DETECTED ERROR after DATA IN (`data_in`) and after STATUS (`status`), MESSAGE PARITY ERROR
 /// where the last byte of MESSAGE IN was struck (`message`). In DATA IN ATN is true then exactly where a byte of the
-/// run was struck, so that the process would fail (`struck`). Where a fault row stands in DATA IN (`struck_data`), STATUS
-/// (`struck_status`) or MESSAGE IN (`struck_message`), whichever byte it struck, the phase is left so; MESSAGE IN ends
-/// with that byte. As the MESSAGE OUT after such a phase is left, the target has heard the complaint (`heard`).
+/// run was struck, so that the process would fail (`struck`). Where a fault row stands in DATA IN (`struck_data`),
+/// STATUS (`struck_status`) or MESSAGE IN (`struck_message`), whichever byte it struck, the phase is left so; MESSAGE
+/// IN ends with that byte. As the MESSAGE OUT after such a phase is left, the target has heard the complaint (`heard`),
+/// and why it was asked for stays while a phase lasts (`same`).
 pub fn complaints_follow()
     ensures data_in { (s : ScenarioValue) (rows : List Row) (row : Row) (n : Connection) (p : Process) → Obeys s
         → IsPrompt s (row ∷ rows) → LeavesPhase s rows row n p → phase_of (bus rows) ≡ phases.DataIn
@@ -104,6 +110,9 @@ pub fn complaints_follow()
         → IsPrompt s (row ∷ rows) → LeavesPhase s rows row n p → phase_of (bus rows) ≡ phases.MessageOut
         → is_refusing s rows ≡ true
         → is_complaint (run_state s rows).exchange.plan (run_state s rows).exchange.plan.cause ≡ true }
+    ensures same { (s : ScenarioValue) (rows : List Row) (row : Row) (n : Connection) → Obeys s
+        → IsPrompt s (row ∷ rows) → IsWithin rows row n
+        → (run_state s (row ∷ rows)).exchange.plan.cause ≡ (run_state s rows).exchange.plan.cause }
 {}
 
 /// Nothing else gives up a process: with a row of a connection it fails (`fails`), or is lost (`lost`), only where its

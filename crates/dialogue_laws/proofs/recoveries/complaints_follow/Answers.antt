@@ -1,6 +1,6 @@
 use Rattle.dialogue_laws.proofs.ComplaintRows.{data_in_attends, data_in_complains, message_complains, status_complains}
 use Rattle.dialogue_laws.proofs.RecoveryRows.{left_of}
-use Rattle.dialogue_laws.proofs.Refusals.{refused_out}
+use Rattle.dialogue_laws.proofs.Refusals.{cause_stays, refused_out}
 use Rattle.dialogue_laws.proofs.StruckPhases.{is_talk, struck_attends}
 use Rattle.dialogue_laws.proofs.StruckRuns.{run_attends}
 use Rattle.dialogue_laws.proofs.recoveries.complaints_follow.Goals as goal
@@ -33,3 +33,6 @@ returns-clause-struck_message c = λ s rows row n p o prompt w e f.
 
 pub returns-clause-heard : goal.returns-clause-heard
 returns-clause-heard c = λ s rows row n p o prompt w e refusing. refused_out s rows row n p o prompt (left_of s rows row n p o prompt w) e refusing
+
+pub returns-clause-same : goal.returns-clause-same
+returns-clause-same c = λ s rows row n o prompt w. cause_stays s rows row n o prompt w

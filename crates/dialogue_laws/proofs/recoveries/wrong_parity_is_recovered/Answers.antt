@@ -1,4 +1,5 @@
-use Rattle.dialogue_laws.proofs.RecoveryRows.{command_recovers, data_in_recovers, data_out_recovers, left_of, message_recovers, names_repeat, status_recovers, taken_all}
+use Rattle.dialogue_laws.proofs.PhaseEnds.{phase_end}
+use Rattle.dialogue_laws.proofs.RecoveryRows.{command_recovers, data_in_recovers, data_out_recovers, leaves_phase, left_of, message_recovers, names_repeat, status_recovers, taken_all}
 use Rattle.dialogue_laws.proofs.recoveries.wrong_parity_is_recovered.Goals as goal
 
 pub returns-clause-command : goal.returns-clause-command
@@ -20,4 +21,7 @@ pub returns-clause-names : goal.returns-clause-names
 returns-clause-names c = λ s rows row n p o prompt w e none name. names_repeat s rows row n p (left_of s rows row n p o prompt w) e none name
 
 pub returns-clause-out : goal.returns-clause-out
-returns-clause-out c = λ s rows row n p o prompt w e. taken_all s rows row n p o (left_of s rows row n p o prompt w) e
+returns-clause-out c = λ s rows row n o prompt w e. taken_all s rows row n o (phase_end s rows row n o prompt w) w e
+
+pub returns-clause-serves : goal.returns-clause-serves
+returns-clause-serves c = λ s rows row n o prompt w other. leaves_phase s rows row n (phase_end s rows row n o prompt w) w other
