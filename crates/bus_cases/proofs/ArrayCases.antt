@@ -23,23 +23,23 @@ use Rattle.bus_due.specs.disk_array.specs.Execution.{Reply, good, queue_full}
 use Rattle.bus_due.specs.disk_array.specs.Order.{same_number, may_run, chosen_place}
 use Rattle.bus_due.specs.disk_array.specs.ArrayHistory.{array_after, disks_of, reply_of, shows_run}
 
-abbrev command : ℕ → ProcId
+abbrev pub command : ℕ → ProcId
 command n = record { command = n; sense = false }
 
 abbrev sense : ℕ → ProcId
 sense n = record { command = n; sense = true }
 
-abbrev line : ℕ → ℕ → ℕ → Tag → List ℕ → CmdDef
+abbrev pub line : ℕ → ℕ → ℕ → Tag → List ℕ → CmdDef
 line host target unit tag cdb = record { host = host; target = target; unit = unit; at = 0; tag = tag; cdb = cdb; payload = payloads.Nothing }
 
-abbrev test_unit_ready : List ℕ
+abbrev pub test_unit_ready : List ℕ
 test_unit_ready = 0x00 ∷ 0x00 ∷ 0x00 ∷ 0x00 ∷ 0x00 ∷ 0x00 ∷ []
 
 abbrev request_sense : List ℕ
 request_sense = 0x03 ∷ 0x00 ∷ 0x00 ∷ 0x00 ∷ 0x12 ∷ 0x00 ∷ []
 
 -- Two initiators, two targets, three units; commands 1 to 16.
-abbrev disks : ScenarioValue
+abbrev pub disks : ScenarioValue
 disks = record {
   version = 1;
   hosts = record { dev = 7; latency = 0; most = 8; retries = 2; period = 0; offset = 0; lag = 0; offers = true } ∷ record { dev = 6; latency = 0; most = 8; retries = 2; period = 0; offset = 0; lag = 0; offers = true } ∷ [];

@@ -96,6 +96,90 @@ agreement_of_another_reset_guard_run : shows (run_by_due agreement_of_another_re
 unfolding need_of sent_of ones union_below line_of form_out form_in least run_from
 agreement_of_another_reset_guard_run = refl
 
+-- ---- agreements_of_two_initiators_guard
+
+abbrev pub agreements_of_two_initiators_guard : ScenarioValue
+agreements_of_two_initiators_guard = record {
+  version = 1;
+  hosts = record { dev = 7; latency = 0; most = 8; retries = 2; period = 50; offset = 8; lag = 0; offers = true } ∷ record { dev = 6; latency = 0; most = 8; retries = 2; period = 100; offset = 2; lag = 0; offers = true } ∷ [];
+  targets = record { dev = 0; latency = 0; retries = 2; disc = policies.Never; pick = picks.First; seek = 0; period = 50; offset = 8; begins = false } ∷ [];
+  units = record { target = 0; unit = 0; blocks = 1; size = 16; depth = 4 } ∷ [];
+  fills = [];
+  commands = record { host = 7; target = 0; unit = 0; at = 0; tag = tags.Untagged; cdb = (8 ∷ 0 ∷ 0 ∷ 0 ∷ 1 ∷ 0 ∷ []); payload = payloads.Nothing } ∷ record { host = 6; target = 0; unit = 0; at = 0; tag = tags.Untagged; cdb = (8 ∷ 0 ∷ 0 ∷ 0 ∷ 1 ∷ 0 ∷ []); payload = payloads.Nothing } ∷ record { host = 7; target = 0; unit = 0; at = 30000; tag = tags.Untagged; cdb = (3 ∷ 0 ∷ 0 ∷ 0 ∷ 18 ∷ 0 ∷ []); payload = payloads.Nothing } ∷ [];
+  aborts = [];
+  resets = [];
+  faults = [];
+}
+
+abbrev pub agreements_of_two_initiators_guard_rows : List Row
+agreements_of_two_initiators_guard_rows = drive 1200 7 0x00280 ∷ drive 1200 6 0x00240 ∷ drive 3600 7 0x00680 ∷ drive 3600 6 0x00000 ∷ drive 4800 7 0x10781 ∷ drive 4890 7 0x10581 ∷ drive 5290 0 0x00200 ∷ drive 5380 7 0x10000 ∷ drive 5380 0 0x02a00 ∷ drive 5780 0 0x06a00 ∷ drive 5780 7 0x101c0 ∷ drive 5835 7 0x181c0 ∷ drive 5835 0 0x02a00 ∷ drive 5835 7 0x10000 ∷ drive 5835 0 0x06a00 ∷ drive 5835 7 0x10001 ∷ drive 5890 7 0x18001 ∷ drive 5890 0 0x02a00 ∷ drive 5890 7 0x10000 ∷ drive 5890 0 0x06a00 ∷ drive 5890 7 0x10103 ∷ drive 5945 7 0x18103 ∷ drive 5945 0 0x02a00 ∷ drive 5945 7 0x10000 ∷ drive 5945 0 0x06a00 ∷ drive 5945 7 0x10001 ∷ drive 6000 7 0x18001 ∷ drive 6000 0 0x02a00 ∷ drive 6000 7 0x10000 ∷ drive 6000 0 0x06a00 ∷ drive 6000 7 0x10032 ∷ drive 6055 7 0x18032 ∷ drive 6055 0 0x02a00 ∷ drive 6055 7 0x10000 ∷ drive 6055 0 0x06a00 ∷ drive 6055 7 0x00008 ∷ drive 6145 7 0x08008 ∷ drive 6145 0 0x02a00 ∷ drive 6145 7 0x00000 ∷ drive 6145 0 0x03a00 ∷ drive 6945 0 0x03a01 ∷ drive 7000 0 0x07a01 ∷ drive 7000 7 0x08000 ∷ drive 7000 0 0x03b03 ∷ drive 7000 7 0x00000 ∷ drive 7055 0 0x07b03 ∷ drive 7055 7 0x08000 ∷ drive 7055 0 0x03a01 ∷ drive 7055 7 0x00000 ∷ drive 7110 0 0x07a01 ∷ drive 7110 7 0x08000 ∷ drive 7110 0 0x03a32 ∷ drive 7110 7 0x00000 ∷ drive 7165 0 0x07a32 ∷ drive 7165 7 0x08000 ∷ drive 7165 0 0x03a08 ∷ drive 7165 7 0x00000 ∷ drive 7220 0 0x07a08 ∷ drive 7220 7 0x08000 ∷ drive 7220 0 0x03a00 ∷ drive 7220 7 0x00000 ∷ drive 7220 0 0x00a00 ∷ drive 7620 0 0x04a00 ∷ drive 7620 7 0x00008 ∷ drive 7675 7 0x08008 ∷ drive 7675 0 0x00a00 ∷ drive 7675 7 0x00000 ∷ drive 7675 0 0x04a00 ∷ drive 7675 7 0x00100 ∷ drive 7730 7 0x08100 ∷ drive 7730 0 0x00a00 ∷ drive 7730 7 0x00000 ∷ drive 7730 0 0x04a00 ∷ drive 7730 7 0x00100 ∷ drive 7785 7 0x08100 ∷ drive 7785 0 0x00a00 ∷ drive 7785 7 0x00000 ∷ drive 7785 0 0x04a00 ∷ drive 7785 7 0x00100 ∷ drive 7840 7 0x08100 ∷ drive 7840 0 0x00a00 ∷ drive 7840 7 0x00000 ∷ drive 7840 0 0x04a00 ∷ drive 7840 7 0x00001 ∷ drive 7895 7 0x08001 ∷ drive 7895 0 0x00a00 ∷ drive 7895 7 0x00000 ∷ drive 7895 0 0x04a00 ∷ drive 7895 7 0x00100 ∷ drive 7950 7 0x08100 ∷ drive 7950 0 0x00a00 ∷ drive 7950 7 0x00000 ∷ drive 7950 0 0x01200 ∷ drive 8750 0 0x01300 ∷ drive 8805 0 0x05300 ∷ drive 8805 7 0x08000 ∷ drive 8895 7 0x00000 ∷ drive 8895 0 0x01300 ∷ drive 9005 0 0x05300 ∷ drive 9005 7 0x08000 ∷ drive 9095 7 0x00000 ∷ drive 9095 0 0x01300 ∷ drive 9205 0 0x05300 ∷ drive 9205 7 0x08000 ∷ drive 9295 7 0x00000 ∷ drive 9295 0 0x01300 ∷ drive 9405 0 0x05300 ∷ drive 9405 7 0x08000 ∷ drive 9495 7 0x00000 ∷ drive 9495 0 0x01300 ∷ drive 9605 0 0x05300 ∷ drive 9605 7 0x08000 ∷ drive 9695 7 0x00000 ∷ drive 9695 0 0x01300 ∷ drive 9805 0 0x05300 ∷ drive 9805 7 0x08000 ∷ drive 9895 7 0x00000 ∷ drive 9895 0 0x01300 ∷ drive 10005 0 0x05300 ∷ drive 10005 7 0x08000 ∷ drive 10095 7 0x00000 ∷ drive 10095 0 0x01300 ∷ drive 10205 0 0x05300 ∷ drive 10205 7 0x08000 ∷ drive 10295 7 0x00000 ∷ drive 10295 0 0x01300 ∷ drive 10405 0 0x05300 ∷ drive 10405 7 0x08000 ∷ drive 10495 7 0x00000 ∷ drive 10495 0 0x01300 ∷ drive 10605 0 0x05300 ∷ drive 10605 7 0x08000 ∷ drive 10695 7 0x00000 ∷ drive 10695 0 0x01300 ∷ drive 10805 0 0x05300 ∷ drive 10805 7 0x08000 ∷ drive 10895 7 0x00000 ∷ drive 10895 0 0x01300 ∷ drive 11005 0 0x05300 ∷ drive 11005 7 0x08000 ∷ drive 11095 7 0x00000 ∷ drive 11095 0 0x01300 ∷ drive 11205 0 0x05300 ∷ drive 11205 7 0x08000 ∷ drive 11295 7 0x00000 ∷ drive 11295 0 0x01300 ∷ drive 11405 0 0x05300 ∷ drive 11405 7 0x08000 ∷ drive 11495 7 0x00000 ∷ drive 11495 0 0x01300 ∷ drive 11605 0 0x05300 ∷ drive 11605 7 0x08000 ∷ drive 11695 7 0x00000 ∷ drive 11695 0 0x01300 ∷ drive 11805 0 0x05300 ∷ drive 11805 7 0x08000 ∷ drive 11895 7 0x00000 ∷ drive 11895 0 0x01300 ∷ drive 11905 0 0x01200 ∷ drive 11905 0 0x01b00 ∷ drive 12305 0 0x05b00 ∷ drive 12305 7 0x08000 ∷ drive 12305 0 0x01a00 ∷ drive 12305 7 0x00000 ∷ drive 12305 0 0x03b00 ∷ drive 12705 0 0x07b00 ∷ drive 12705 7 0x08000 ∷ drive 12705 0 0x03a00 ∷ drive 12705 7 0x00000 ∷ drive 12705 0 0x00000 ∷ drive 13905 6 0x00240 ∷ drive 16305 6 0x00640 ∷ drive 17505 6 0x10741 ∷ drive 17595 6 0x10541 ∷ drive 17995 0 0x00200 ∷ drive 18085 6 0x10000 ∷ drive 18085 0 0x02a00 ∷ drive 18485 0 0x06a00 ∷ drive 18485 6 0x101c0 ∷ drive 18540 6 0x181c0 ∷ drive 18540 0 0x02a00 ∷ drive 18540 6 0x10000 ∷ drive 18540 0 0x06a00 ∷ drive 18540 6 0x10001 ∷ drive 18595 6 0x18001 ∷ drive 18595 0 0x02a00 ∷ drive 18595 6 0x10000 ∷ drive 18595 0 0x06a00 ∷ drive 18595 6 0x10103 ∷ drive 18650 6 0x18103 ∷ drive 18650 0 0x02a00 ∷ drive 18650 6 0x10000 ∷ drive 18650 0 0x06a00 ∷ drive 18650 6 0x10001 ∷ drive 18705 6 0x18001 ∷ drive 18705 0 0x02a00 ∷ drive 18705 6 0x10000 ∷ drive 18705 0 0x06a00 ∷ drive 18705 6 0x10064 ∷ drive 18760 6 0x18064 ∷ drive 18760 0 0x02a00 ∷ drive 18760 6 0x10000 ∷ drive 18760 0 0x06a00 ∷ drive 18760 6 0x00002 ∷ drive 18850 6 0x08002 ∷ drive 18850 0 0x02a00 ∷ drive 18850 6 0x00000 ∷ drive 18850 0 0x03a00 ∷ drive 19650 0 0x03a01 ∷ drive 19705 0 0x07a01 ∷ drive 19705 6 0x08000 ∷ drive 19705 0 0x03b03 ∷ drive 19705 6 0x00000 ∷ drive 19760 0 0x07b03 ∷ drive 19760 6 0x08000 ∷ drive 19760 0 0x03a01 ∷ drive 19760 6 0x00000 ∷ drive 19815 0 0x07a01 ∷ drive 19815 6 0x08000 ∷ drive 19815 0 0x03a64 ∷ drive 19815 6 0x00000 ∷ drive 19870 0 0x07a64 ∷ drive 19870 6 0x08000 ∷ drive 19870 0 0x03a02 ∷ drive 19870 6 0x00000 ∷ drive 19925 0 0x07a02 ∷ drive 19925 6 0x08000 ∷ drive 19925 0 0x03a00 ∷ drive 19925 6 0x00000 ∷ drive 19925 0 0x00a00 ∷ drive 20325 0 0x04a00 ∷ drive 20325 6 0x00008 ∷ drive 20380 6 0x08008 ∷ drive 20380 0 0x00a00 ∷ drive 20380 6 0x00000 ∷ drive 20380 0 0x04a00 ∷ drive 20380 6 0x00100 ∷ drive 20435 6 0x08100 ∷ drive 20435 0 0x00a00 ∷ drive 20435 6 0x00000 ∷ drive 20435 0 0x04a00 ∷ drive 20435 6 0x00100 ∷ drive 20490 6 0x08100 ∷ drive 20490 0 0x00a00 ∷ drive 20490 6 0x00000 ∷ drive 20490 0 0x04a00 ∷ drive 20490 6 0x00100 ∷ drive 20545 6 0x08100 ∷ drive 20545 0 0x00a00 ∷ drive 20545 6 0x00000 ∷ drive 20545 0 0x04a00 ∷ drive 20545 6 0x00001 ∷ drive 20600 6 0x08001 ∷ drive 20600 0 0x00a00 ∷ drive 20600 6 0x00000 ∷ drive 20600 0 0x04a00 ∷ drive 20600 6 0x00100 ∷ drive 20655 6 0x08100 ∷ drive 20655 0 0x00a00 ∷ drive 20655 6 0x00000 ∷ drive 20655 0 0x01200 ∷ drive 21455 0 0x01300 ∷ drive 21510 0 0x05300 ∷ drive 21510 6 0x08000 ∷ drive 21600 6 0x00000 ∷ drive 21600 0 0x01300 ∷ drive 21910 0 0x05300 ∷ drive 21910 6 0x08000 ∷ drive 22000 6 0x00000 ∷ drive 22000 0 0x01300 ∷ drive 22310 0 0x05300 ∷ drive 22310 6 0x08000 ∷ drive 22400 6 0x00000 ∷ drive 22400 0 0x01300 ∷ drive 22710 0 0x05300 ∷ drive 22710 6 0x08000 ∷ drive 22800 6 0x00000 ∷ drive 22800 0 0x01300 ∷ drive 23110 0 0x05300 ∷ drive 23110 6 0x08000 ∷ drive 23200 6 0x00000 ∷ drive 23200 0 0x01300 ∷ drive 23510 0 0x05300 ∷ drive 23510 6 0x08000 ∷ drive 23600 6 0x00000 ∷ drive 23600 0 0x01300 ∷ drive 23910 0 0x05300 ∷ drive 23910 6 0x08000 ∷ drive 24000 6 0x00000 ∷ drive 24000 0 0x01300 ∷ drive 24310 0 0x05300 ∷ drive 24310 6 0x08000 ∷ drive 24400 6 0x00000 ∷ drive 24400 0 0x01300 ∷ drive 24710 0 0x05300 ∷ drive 24710 6 0x08000 ∷ drive 24800 6 0x00000 ∷ drive 24800 0 0x01300 ∷ drive 25110 0 0x05300 ∷ drive 25110 6 0x08000 ∷ drive 25200 6 0x00000 ∷ drive 25200 0 0x01300 ∷ drive 25510 0 0x05300 ∷ drive 25510 6 0x08000 ∷ drive 25600 6 0x00000 ∷ drive 25600 0 0x01300 ∷ drive 25910 0 0x05300 ∷ drive 25910 6 0x08000 ∷ drive 26000 6 0x00000 ∷ drive 26000 0 0x01300 ∷ drive 26310 0 0x05300 ∷ drive 26310 6 0x08000 ∷ drive 26400 6 0x00000 ∷ drive 26400 0 0x01300 ∷ drive 26710 0 0x05300 ∷ drive 26710 6 0x08000 ∷ drive 26800 6 0x00000 ∷ drive 26800 0 0x01300 ∷ drive 27110 0 0x05300 ∷ drive 27110 6 0x08000 ∷ drive 27200 6 0x00000 ∷ drive 27200 0 0x01300 ∷ drive 27510 0 0x05300 ∷ drive 27510 6 0x08000 ∷ drive 27600 6 0x00000 ∷ drive 27600 0 0x01300 ∷ drive 27610 0 0x01200 ∷ drive 27610 0 0x01b00 ∷ drive 28010 0 0x05b00 ∷ drive 28010 6 0x08000 ∷ drive 28010 0 0x01a00 ∷ drive 28010 6 0x00000 ∷ drive 28010 0 0x03b00 ∷ drive 28410 0 0x07b00 ∷ drive 28410 6 0x08000 ∷ drive 28410 0 0x03a00 ∷ drive 28410 6 0x00000 ∷ drive 28410 0 0x00000 ∷ drive 30000 7 0x00280 ∷ drive 32400 7 0x00680 ∷ drive 33600 7 0x10781 ∷ drive 33690 7 0x10581 ∷ drive 34090 0 0x00200 ∷ drive 34180 7 0x10000 ∷ drive 34180 0 0x02a00 ∷ drive 34580 0 0x06a00 ∷ drive 34580 7 0x001c0 ∷ drive 34670 7 0x081c0 ∷ drive 34670 0 0x02a00 ∷ drive 34670 7 0x00000 ∷ drive 34670 0 0x00a00 ∷ drive 35070 0 0x04a00 ∷ drive 35070 7 0x00103 ∷ drive 35125 7 0x08103 ∷ drive 35125 0 0x00a00 ∷ drive 35125 7 0x00000 ∷ drive 35125 0 0x04a00 ∷ drive 35125 7 0x00100 ∷ drive 35180 7 0x08100 ∷ drive 35180 0 0x00a00 ∷ drive 35180 7 0x00000 ∷ drive 35180 0 0x04a00 ∷ drive 35180 7 0x00100 ∷ drive 35235 7 0x08100 ∷ drive 35235 0 0x00a00 ∷ drive 35235 7 0x00000 ∷ drive 35235 0 0x04a00 ∷ drive 35235 7 0x00100 ∷ drive 35290 7 0x08100 ∷ drive 35290 0 0x00a00 ∷ drive 35290 7 0x00000 ∷ drive 35290 0 0x04a00 ∷ drive 35290 7 0x00112 ∷ drive 35345 7 0x08112 ∷ drive 35345 0 0x00a00 ∷ drive 35345 7 0x00000 ∷ drive 35345 0 0x04a00 ∷ drive 35345 7 0x00100 ∷ drive 35400 7 0x08100 ∷ drive 35400 0 0x00a00 ∷ drive 35400 7 0x00000 ∷ drive 35400 0 0x01200 ∷ drive 36200 0 0x01270 ∷ drive 36255 0 0x05270 ∷ drive 36255 7 0x08000 ∷ drive 36345 7 0x00000 ∷ drive 36345 0 0x01270 ∷ drive 36355 0 0x01300 ∷ drive 36455 0 0x05300 ∷ drive 36455 7 0x08000 ∷ drive 36545 7 0x00000 ∷ drive 36545 0 0x01300 ∷ drive 36655 0 0x05300 ∷ drive 36655 7 0x08000 ∷ drive 36745 7 0x00000 ∷ drive 36745 0 0x01300 ∷ drive 36855 0 0x05300 ∷ drive 36855 7 0x08000 ∷ drive 36945 7 0x00000 ∷ drive 36945 0 0x01300 ∷ drive 37055 0 0x05300 ∷ drive 37055 7 0x08000 ∷ drive 37145 7 0x00000 ∷ drive 37145 0 0x01300 ∷ drive 37255 0 0x05300 ∷ drive 37255 7 0x08000 ∷ drive 37345 7 0x00000 ∷ drive 37345 0 0x01300 ∷ drive 37455 0 0x05300 ∷ drive 37455 7 0x08000 ∷ drive 37545 7 0x00000 ∷ drive 37545 0 0x01300 ∷ drive 37555 0 0x0130a ∷ drive 37655 0 0x0530a ∷ drive 37655 7 0x08000 ∷ drive 37745 7 0x00000 ∷ drive 37745 0 0x0130a ∷ drive 37755 0 0x01300 ∷ drive 37855 0 0x05300 ∷ drive 37855 7 0x08000 ∷ drive 37945 7 0x00000 ∷ drive 37945 0 0x01300 ∷ drive 38055 0 0x05300 ∷ drive 38055 7 0x08000 ∷ drive 38145 7 0x00000 ∷ drive 38145 0 0x01300 ∷ drive 38255 0 0x05300 ∷ drive 38255 7 0x08000 ∷ drive 38345 7 0x00000 ∷ drive 38345 0 0x01300 ∷ drive 38455 0 0x05300 ∷ drive 38455 7 0x08000 ∷ drive 38545 7 0x00000 ∷ drive 38545 0 0x01300 ∷ drive 38655 0 0x05300 ∷ drive 38655 7 0x08000 ∷ drive 38745 7 0x00000 ∷ drive 38745 0 0x01300 ∷ drive 38855 0 0x05300 ∷ drive 38855 7 0x08000 ∷ drive 38945 7 0x00000 ∷ drive 38945 0 0x01300 ∷ drive 39055 0 0x05300 ∷ drive 39055 7 0x08000 ∷ drive 39145 7 0x00000 ∷ drive 39145 0 0x01300 ∷ drive 39255 0 0x05300 ∷ drive 39255 7 0x08000 ∷ drive 39345 7 0x00000 ∷ drive 39345 0 0x01300 ∷ drive 39455 0 0x05300 ∷ drive 39455 7 0x08000 ∷ drive 39545 7 0x00000 ∷ drive 39545 0 0x01300 ∷ drive 39655 0 0x05300 ∷ drive 39655 7 0x08000 ∷ drive 39745 7 0x00000 ∷ drive 39745 0 0x01300 ∷ drive 39755 0 0x01200 ∷ drive 39755 0 0x01b00 ∷ drive 40155 0 0x05b00 ∷ drive 40155 7 0x08000 ∷ drive 40155 0 0x01a00 ∷ drive 40155 7 0x00000 ∷ drive 40155 0 0x03b00 ∷ drive 40555 0 0x07b00 ∷ drive 40555 7 0x08000 ∷ drive 40555 0 0x03a00 ∷ drive 40555 7 0x00000 ∷ drive 40555 0 0x00000 ∷ []
+
+abbrev agreements_of_two_initiators_guard_events : List Event
+agreements_of_two_initiators_guard_events = events.Accept (command 1) ∷ events.Run (command 1) ∷ events.End (command 1) 0 ∷ events.Accept (command 2) ∷ events.Run (command 2) ∷ events.End (command 2) 0 ∷ events.Accept (command 3) ∷ events.Run (command 3) ∷ events.End (command 3) 0 ∷ []
+
+abbrev pub agreements_of_two_initiators_guard_shown : Shows
+agreements_of_two_initiators_guard_shown = record { rows = reverse agreements_of_two_initiators_guard_rows; history = reverse agreements_of_two_initiators_guard_events; ended = true }
+
+agreements_of_two_initiators_guard_run : shows (run_by_due agreements_of_two_initiators_guard 471) ≡ agreements_of_two_initiators_guard_shown
+unfolding need_of sent_of ones union_below line_of form_out form_in least run_from
+agreements_of_two_initiators_guard_run = refl
+
+-- ---- all_leaves_other_senses_guard
+
+abbrev pub all_leaves_other_senses_guard : ScenarioValue
+all_leaves_other_senses_guard = record {
+  version = 1;
+  hosts = record { dev = 7; latency = 0; most = 8; retries = 2; period = 0; offset = 0; lag = 0; offers = true } ∷ record { dev = 6; latency = 0; most = 8; retries = 2; period = 0; offset = 0; lag = 0; offers = true } ∷ [];
+  targets = record { dev = 0; latency = 0; retries = 2; disc = policies.Never; pick = picks.First; seek = 0; period = 0; offset = 0; begins = false } ∷ [];
+  units = record { target = 0; unit = 0; blocks = 1; size = 16; depth = 4 } ∷ record { target = 0; unit = 1; blocks = 1; size = 16; depth = 4 } ∷ [];
+  fills = [];
+  commands = record { host = 6; target = 0; unit = 0; at = 0; tag = tags.Untagged; cdb = (8 ∷ 0 ∷ 0 ∷ 1 ∷ 1 ∷ 0 ∷ []); payload = payloads.Nothing } ∷ record { host = 7; target = 0; unit = 1; at = 6000; tag = tags.Untagged; cdb = (8 ∷ 0 ∷ 0 ∷ 1 ∷ 1 ∷ 0 ∷ []); payload = payloads.Nothing } ∷ [];
+  aborts = record { host = 7; target = 0; unit = 0; at = 12000; what = aborts.All } ∷ [];
+  resets = [];
+  faults = [];
+}
+
+abbrev pub all_leaves_other_senses_guard_rows : List Row
+all_leaves_other_senses_guard_rows = drive 1200 6 0x00240 ∷ drive 3600 6 0x00640 ∷ drive 4800 6 0x10741 ∷ drive 4890 6 0x10541 ∷ drive 5290 0 0x00200 ∷ drive 5380 6 0x10000 ∷ drive 5380 0 0x02a00 ∷ drive 5780 0 0x06a00 ∷ drive 5780 6 0x001c0 ∷ drive 5870 6 0x081c0 ∷ drive 5870 0 0x02a00 ∷ drive 5870 6 0x00000 ∷ drive 5870 0 0x00a00 ∷ drive 6270 0 0x04a00 ∷ drive 6270 6 0x00008 ∷ drive 6325 6 0x08008 ∷ drive 6325 0 0x00a00 ∷ drive 6325 6 0x00000 ∷ drive 6325 0 0x04a00 ∷ drive 6325 6 0x00100 ∷ drive 6380 6 0x08100 ∷ drive 6380 0 0x00a00 ∷ drive 6380 6 0x00000 ∷ drive 6380 0 0x04a00 ∷ drive 6380 6 0x00100 ∷ drive 6435 6 0x08100 ∷ drive 6435 0 0x00a00 ∷ drive 6435 6 0x00000 ∷ drive 6435 0 0x04a00 ∷ drive 6435 6 0x00001 ∷ drive 6490 6 0x08001 ∷ drive 6490 0 0x00a00 ∷ drive 6490 6 0x00000 ∷ drive 6490 0 0x04a00 ∷ drive 6490 6 0x00001 ∷ drive 6545 6 0x08001 ∷ drive 6545 0 0x00a00 ∷ drive 6545 6 0x00000 ∷ drive 6545 0 0x04a00 ∷ drive 6545 6 0x00100 ∷ drive 6600 6 0x08100 ∷ drive 6600 0 0x00a00 ∷ drive 6600 6 0x00000 ∷ drive 6600 0 0x01a00 ∷ drive 7400 0 0x01a02 ∷ drive 7455 0 0x05a02 ∷ drive 7455 6 0x08000 ∷ drive 7455 0 0x01a00 ∷ drive 7455 6 0x00000 ∷ drive 7455 0 0x03b00 ∷ drive 7855 0 0x07b00 ∷ drive 7855 6 0x08000 ∷ drive 7855 0 0x03a00 ∷ drive 7855 6 0x00000 ∷ drive 7855 0 0x00000 ∷ drive 9055 7 0x00280 ∷ drive 9055 6 0x00240 ∷ drive 11455 7 0x00680 ∷ drive 11455 6 0x00000 ∷ drive 12655 7 0x10781 ∷ drive 12745 7 0x10581 ∷ drive 13145 0 0x00200 ∷ drive 13235 7 0x10000 ∷ drive 13235 0 0x02a00 ∷ drive 13635 0 0x06a00 ∷ drive 13635 7 0x000c1 ∷ drive 13725 7 0x080c1 ∷ drive 13725 0 0x02a00 ∷ drive 13725 7 0x00000 ∷ drive 13725 0 0x00a00 ∷ drive 14125 0 0x04a00 ∷ drive 14125 7 0x00008 ∷ drive 14180 7 0x08008 ∷ drive 14180 0 0x00a00 ∷ drive 14180 7 0x00000 ∷ drive 14180 0 0x04a00 ∷ drive 14180 7 0x00100 ∷ drive 14235 7 0x08100 ∷ drive 14235 0 0x00a00 ∷ drive 14235 7 0x00000 ∷ drive 14235 0 0x04a00 ∷ drive 14235 7 0x00100 ∷ drive 14290 7 0x08100 ∷ drive 14290 0 0x00a00 ∷ drive 14290 7 0x00000 ∷ drive 14290 0 0x04a00 ∷ drive 14290 7 0x00001 ∷ drive 14345 7 0x08001 ∷ drive 14345 0 0x00a00 ∷ drive 14345 7 0x00000 ∷ drive 14345 0 0x04a00 ∷ drive 14345 7 0x00001 ∷ drive 14400 7 0x08001 ∷ drive 14400 0 0x00a00 ∷ drive 14400 7 0x00000 ∷ drive 14400 0 0x04a00 ∷ drive 14400 7 0x00100 ∷ drive 14455 7 0x08100 ∷ drive 14455 0 0x00a00 ∷ drive 14455 7 0x00000 ∷ drive 14455 0 0x01a00 ∷ drive 15255 0 0x01a02 ∷ drive 15310 0 0x05a02 ∷ drive 15310 7 0x08000 ∷ drive 15310 0 0x01a00 ∷ drive 15310 7 0x00000 ∷ drive 15310 0 0x03b00 ∷ drive 15710 0 0x07b00 ∷ drive 15710 7 0x08000 ∷ drive 15710 0 0x03a00 ∷ drive 15710 7 0x00000 ∷ drive 15710 0 0x00000 ∷ drive 16910 7 0x00280 ∷ drive 16910 6 0x00240 ∷ drive 19310 7 0x00680 ∷ drive 19310 6 0x00000 ∷ drive 20510 7 0x10781 ∷ drive 20600 7 0x10581 ∷ drive 21000 0 0x00200 ∷ drive 21090 7 0x10000 ∷ drive 21090 0 0x02a00 ∷ drive 21490 0 0x06a00 ∷ drive 21490 7 0x10080 ∷ drive 21545 7 0x18080 ∷ drive 21545 0 0x02a00 ∷ drive 21545 7 0x10000 ∷ drive 21545 0 0x06a00 ∷ drive 21545 7 0x00106 ∷ drive 21635 7 0x08106 ∷ drive 21635 0 0x02a00 ∷ drive 21635 7 0x00000 ∷ drive 21635 0 0x00000 ∷ drive 22835 7 0x00280 ∷ drive 22835 6 0x00240 ∷ drive 25235 7 0x00680 ∷ drive 25235 6 0x00000 ∷ drive 26435 7 0x10781 ∷ drive 26525 7 0x10581 ∷ drive 26925 0 0x00200 ∷ drive 27015 7 0x10000 ∷ drive 27015 0 0x02a00 ∷ drive 27415 0 0x06a00 ∷ drive 27415 7 0x00181 ∷ drive 27505 7 0x08181 ∷ drive 27505 0 0x02a00 ∷ drive 27505 7 0x00000 ∷ drive 27505 0 0x00a00 ∷ drive 27905 0 0x04a00 ∷ drive 27905 7 0x00103 ∷ drive 27960 7 0x08103 ∷ drive 27960 0 0x00a00 ∷ drive 27960 7 0x00000 ∷ drive 27960 0 0x04a00 ∷ drive 27960 7 0x00100 ∷ drive 28015 7 0x08100 ∷ drive 28015 0 0x00a00 ∷ drive 28015 7 0x00000 ∷ drive 28015 0 0x04a00 ∷ drive 28015 7 0x00100 ∷ drive 28070 7 0x08100 ∷ drive 28070 0 0x00a00 ∷ drive 28070 7 0x00000 ∷ drive 28070 0 0x04a00 ∷ drive 28070 7 0x00100 ∷ drive 28125 7 0x08100 ∷ drive 28125 0 0x00a00 ∷ drive 28125 7 0x00000 ∷ drive 28125 0 0x04a00 ∷ drive 28125 7 0x00112 ∷ drive 28180 7 0x08112 ∷ drive 28180 0 0x00a00 ∷ drive 28180 7 0x00000 ∷ drive 28180 0 0x04a00 ∷ drive 28180 7 0x00100 ∷ drive 28235 7 0x08100 ∷ drive 28235 0 0x00a00 ∷ drive 28235 7 0x00000 ∷ drive 28235 0 0x01200 ∷ drive 29035 0 0x01270 ∷ drive 29090 0 0x05270 ∷ drive 29090 7 0x08000 ∷ drive 29090 0 0x01300 ∷ drive 29090 7 0x00000 ∷ drive 29145 0 0x05300 ∷ drive 29145 7 0x08000 ∷ drive 29145 0 0x01305 ∷ drive 29145 7 0x00000 ∷ drive 29200 0 0x05305 ∷ drive 29200 7 0x08000 ∷ drive 29200 0 0x01300 ∷ drive 29200 7 0x00000 ∷ drive 29255 0 0x05300 ∷ drive 29255 7 0x08000 ∷ drive 29255 0 0x01300 ∷ drive 29255 7 0x00000 ∷ drive 29310 0 0x05300 ∷ drive 29310 7 0x08000 ∷ drive 29310 0 0x01300 ∷ drive 29310 7 0x00000 ∷ drive 29365 0 0x05300 ∷ drive 29365 7 0x08000 ∷ drive 29365 0 0x01300 ∷ drive 29365 7 0x00000 ∷ drive 29420 0 0x05300 ∷ drive 29420 7 0x08000 ∷ drive 29420 0 0x0130a ∷ drive 29420 7 0x00000 ∷ drive 29475 0 0x0530a ∷ drive 29475 7 0x08000 ∷ drive 29475 0 0x01300 ∷ drive 29475 7 0x00000 ∷ drive 29530 0 0x05300 ∷ drive 29530 7 0x08000 ∷ drive 29530 0 0x01300 ∷ drive 29530 7 0x00000 ∷ drive 29585 0 0x05300 ∷ drive 29585 7 0x08000 ∷ drive 29585 0 0x01300 ∷ drive 29585 7 0x00000 ∷ drive 29640 0 0x05300 ∷ drive 29640 7 0x08000 ∷ drive 29640 0 0x01300 ∷ drive 29640 7 0x00000 ∷ drive 29695 0 0x05300 ∷ drive 29695 7 0x08000 ∷ drive 29695 0 0x01321 ∷ drive 29695 7 0x00000 ∷ drive 29750 0 0x05321 ∷ drive 29750 7 0x08000 ∷ drive 29750 0 0x01300 ∷ drive 29750 7 0x00000 ∷ drive 29805 0 0x05300 ∷ drive 29805 7 0x08000 ∷ drive 29805 0 0x01300 ∷ drive 29805 7 0x00000 ∷ drive 29860 0 0x05300 ∷ drive 29860 7 0x08000 ∷ drive 29860 0 0x01300 ∷ drive 29860 7 0x00000 ∷ drive 29915 0 0x05300 ∷ drive 29915 7 0x08000 ∷ drive 29915 0 0x01300 ∷ drive 29915 7 0x00000 ∷ drive 29970 0 0x05300 ∷ drive 29970 7 0x08000 ∷ drive 29970 0 0x01300 ∷ drive 29970 7 0x00000 ∷ drive 30025 0 0x05300 ∷ drive 30025 7 0x08000 ∷ drive 30025 0 0x01200 ∷ drive 30025 7 0x00000 ∷ drive 30025 0 0x01b00 ∷ drive 30425 0 0x05b00 ∷ drive 30425 7 0x08000 ∷ drive 30425 0 0x01a00 ∷ drive 30425 7 0x00000 ∷ drive 30425 0 0x03b00 ∷ drive 30825 0 0x07b00 ∷ drive 30825 7 0x08000 ∷ drive 30825 0 0x03a00 ∷ drive 30825 7 0x00000 ∷ drive 30825 0 0x00000 ∷ drive 32025 6 0x00240 ∷ drive 34425 6 0x00640 ∷ drive 35625 6 0x10741 ∷ drive 35715 6 0x10541 ∷ drive 36115 0 0x00200 ∷ drive 36205 6 0x10000 ∷ drive 36205 0 0x02a00 ∷ drive 36605 0 0x06a00 ∷ drive 36605 6 0x00080 ∷ drive 36695 6 0x08080 ∷ drive 36695 0 0x02a00 ∷ drive 36695 6 0x00000 ∷ drive 36695 0 0x00a00 ∷ drive 37095 0 0x04a00 ∷ drive 37095 6 0x00103 ∷ drive 37150 6 0x08103 ∷ drive 37150 0 0x00a00 ∷ drive 37150 6 0x00000 ∷ drive 37150 0 0x04a00 ∷ drive 37150 6 0x00100 ∷ drive 37205 6 0x08100 ∷ drive 37205 0 0x00a00 ∷ drive 37205 6 0x00000 ∷ drive 37205 0 0x04a00 ∷ drive 37205 6 0x00100 ∷ drive 37260 6 0x08100 ∷ drive 37260 0 0x00a00 ∷ drive 37260 6 0x00000 ∷ drive 37260 0 0x04a00 ∷ drive 37260 6 0x00100 ∷ drive 37315 6 0x08100 ∷ drive 37315 0 0x00a00 ∷ drive 37315 6 0x00000 ∷ drive 37315 0 0x04a00 ∷ drive 37315 6 0x00112 ∷ drive 37370 6 0x08112 ∷ drive 37370 0 0x00a00 ∷ drive 37370 6 0x00000 ∷ drive 37370 0 0x04a00 ∷ drive 37370 6 0x00100 ∷ drive 37425 6 0x08100 ∷ drive 37425 0 0x00a00 ∷ drive 37425 6 0x00000 ∷ drive 37425 0 0x01200 ∷ drive 38225 0 0x01270 ∷ drive 38280 0 0x05270 ∷ drive 38280 6 0x08000 ∷ drive 38280 0 0x01300 ∷ drive 38280 6 0x00000 ∷ drive 38335 0 0x05300 ∷ drive 38335 6 0x08000 ∷ drive 38335 0 0x01305 ∷ drive 38335 6 0x00000 ∷ drive 38390 0 0x05305 ∷ drive 38390 6 0x08000 ∷ drive 38390 0 0x01300 ∷ drive 38390 6 0x00000 ∷ drive 38445 0 0x05300 ∷ drive 38445 6 0x08000 ∷ drive 38445 0 0x01300 ∷ drive 38445 6 0x00000 ∷ drive 38500 0 0x05300 ∷ drive 38500 6 0x08000 ∷ drive 38500 0 0x01300 ∷ drive 38500 6 0x00000 ∷ drive 38555 0 0x05300 ∷ drive 38555 6 0x08000 ∷ drive 38555 0 0x01300 ∷ drive 38555 6 0x00000 ∷ drive 38610 0 0x05300 ∷ drive 38610 6 0x08000 ∷ drive 38610 0 0x0130a ∷ drive 38610 6 0x00000 ∷ drive 38665 0 0x0530a ∷ drive 38665 6 0x08000 ∷ drive 38665 0 0x01300 ∷ drive 38665 6 0x00000 ∷ drive 38720 0 0x05300 ∷ drive 38720 6 0x08000 ∷ drive 38720 0 0x01300 ∷ drive 38720 6 0x00000 ∷ drive 38775 0 0x05300 ∷ drive 38775 6 0x08000 ∷ drive 38775 0 0x01300 ∷ drive 38775 6 0x00000 ∷ drive 38830 0 0x05300 ∷ drive 38830 6 0x08000 ∷ drive 38830 0 0x01300 ∷ drive 38830 6 0x00000 ∷ drive 38885 0 0x05300 ∷ drive 38885 6 0x08000 ∷ drive 38885 0 0x01321 ∷ drive 38885 6 0x00000 ∷ drive 38940 0 0x05321 ∷ drive 38940 6 0x08000 ∷ drive 38940 0 0x01300 ∷ drive 38940 6 0x00000 ∷ drive 38995 0 0x05300 ∷ drive 38995 6 0x08000 ∷ drive 38995 0 0x01300 ∷ drive 38995 6 0x00000 ∷ drive 39050 0 0x05300 ∷ drive 39050 6 0x08000 ∷ drive 39050 0 0x01300 ∷ drive 39050 6 0x00000 ∷ drive 39105 0 0x05300 ∷ drive 39105 6 0x08000 ∷ drive 39105 0 0x01300 ∷ drive 39105 6 0x00000 ∷ drive 39160 0 0x05300 ∷ drive 39160 6 0x08000 ∷ drive 39160 0 0x01300 ∷ drive 39160 6 0x00000 ∷ drive 39215 0 0x05300 ∷ drive 39215 6 0x08000 ∷ drive 39215 0 0x01200 ∷ drive 39215 6 0x00000 ∷ drive 39215 0 0x01b00 ∷ drive 39615 0 0x05b00 ∷ drive 39615 6 0x08000 ∷ drive 39615 0 0x01a00 ∷ drive 39615 6 0x00000 ∷ drive 39615 0 0x03b00 ∷ drive 40015 0 0x07b00 ∷ drive 40015 6 0x08000 ∷ drive 40015 0 0x03a00 ∷ drive 40015 6 0x00000 ∷ drive 40015 0 0x00000 ∷ []
+
+abbrev all_leaves_other_senses_guard_events : List Event
+all_leaves_other_senses_guard_events = events.Accept (command 1) ∷ events.Run (command 1) ∷ events.End (command 1) 2 ∷ events.Accept (command 2) ∷ events.Run (command 2) ∷ events.End (command 2) 2 ∷ events.Aborted 7 0 0 aborts.All ∷ events.Accept (sense 2) ∷ events.Run (sense 2) ∷ events.End (sense 2) 0 ∷ events.Accept (sense 1) ∷ events.Run (sense 1) ∷ events.End (sense 1) 0 ∷ []
+
+abbrev pub all_leaves_other_senses_guard_shown : Shows
+all_leaves_other_senses_guard_shown = record { rows = reverse all_leaves_other_senses_guard_rows; history = reverse all_leaves_other_senses_guard_events; ended = true }
+
+all_leaves_other_senses_guard_run : shows (run_by_due all_leaves_other_senses_guard 391) ≡ all_leaves_other_senses_guard_shown
+unfolding need_of sent_of ones union_below line_of form_out form_in least run_from
+all_leaves_other_senses_guard_run = refl
+
+-- ---- all_of_one_initiator_at_one_unit_guard
+
+abbrev pub all_of_one_initiator_at_one_unit_guard : ScenarioValue
+all_of_one_initiator_at_one_unit_guard = record {
+  version = 1;
+  hosts = record { dev = 7; latency = 0; most = 8; retries = 2; period = 0; offset = 0; lag = 0; offers = true } ∷ record { dev = 6; latency = 0; most = 8; retries = 2; period = 0; offset = 0; lag = 0; offers = true } ∷ [];
+  targets = record { dev = 0; latency = 0; retries = 2; disc = policies.Command; pick = picks.First; seek = 60000; period = 0; offset = 0; begins = false } ∷ [];
+  units = record { target = 0; unit = 0; blocks = 1; size = 16; depth = 4 } ∷ record { target = 0; unit = 1; blocks = 1; size = 16; depth = 4 } ∷ [];
+  fills = [];
+  commands = record { host = 7; target = 0; unit = 0; at = 0; tag = tags.Simple 1; cdb = (0 ∷ 0 ∷ 0 ∷ 0 ∷ 0 ∷ 0 ∷ []); payload = payloads.Nothing } ∷ record { host = 6; target = 0; unit = 0; at = 0; tag = tags.Simple 1; cdb = (0 ∷ 0 ∷ 0 ∷ 0 ∷ 0 ∷ 0 ∷ []); payload = payloads.Nothing } ∷ record { host = 7; target = 0; unit = 1; at = 0; tag = tags.Simple 1; cdb = (0 ∷ 0 ∷ 0 ∷ 0 ∷ 0 ∷ 0 ∷ []); payload = payloads.Nothing } ∷ [];
+  aborts = record { host = 7; target = 0; unit = 0; at = 20000; what = aborts.All } ∷ [];
+  resets = [];
+  faults = [];
+}
+
+abbrev pub all_of_one_initiator_at_one_unit_guard_rows : List Row
+all_of_one_initiator_at_one_unit_guard_rows = drive 1200 7 0x00280 ∷ drive 1200 6 0x00240 ∷ drive 3600 7 0x00680 ∷ drive 3600 6 0x00000 ∷ drive 4800 7 0x10781 ∷ drive 4890 7 0x10581 ∷ drive 5290 0 0x00200 ∷ drive 5380 7 0x10000 ∷ drive 5380 0 0x02a00 ∷ drive 5780 0 0x06a00 ∷ drive 5780 7 0x101c0 ∷ drive 5835 7 0x181c0 ∷ drive 5835 0 0x02a00 ∷ drive 5835 7 0x10000 ∷ drive 5835 0 0x06a00 ∷ drive 5835 7 0x10020 ∷ drive 5890 7 0x18020 ∷ drive 5890 0 0x02a00 ∷ drive 5890 7 0x10000 ∷ drive 5890 0 0x06a00 ∷ drive 5890 7 0x00001 ∷ drive 5980 7 0x08001 ∷ drive 5980 0 0x02a00 ∷ drive 5980 7 0x00000 ∷ drive 5980 0 0x00a00 ∷ drive 6380 0 0x04a00 ∷ drive 6380 7 0x00100 ∷ drive 6435 7 0x08100 ∷ drive 6435 0 0x00a00 ∷ drive 6435 7 0x00000 ∷ drive 6435 0 0x04a00 ∷ drive 6435 7 0x00100 ∷ drive 6490 7 0x08100 ∷ drive 6490 0 0x00a00 ∷ drive 6490 7 0x00000 ∷ drive 6490 0 0x04a00 ∷ drive 6490 7 0x00100 ∷ drive 6545 7 0x08100 ∷ drive 6545 0 0x00a00 ∷ drive 6545 7 0x00000 ∷ drive 6545 0 0x04a00 ∷ drive 6545 7 0x00100 ∷ drive 6600 7 0x08100 ∷ drive 6600 0 0x00a00 ∷ drive 6600 7 0x00000 ∷ drive 6600 0 0x04a00 ∷ drive 6600 7 0x00100 ∷ drive 6655 7 0x08100 ∷ drive 6655 0 0x00a00 ∷ drive 6655 7 0x00000 ∷ drive 6655 0 0x04a00 ∷ drive 6655 7 0x00100 ∷ drive 6710 7 0x08100 ∷ drive 6710 0 0x00a00 ∷ drive 6710 7 0x00000 ∷ drive 6710 0 0x03a00 ∷ drive 7510 0 0x03a04 ∷ drive 7565 0 0x07a04 ∷ drive 7565 7 0x08000 ∷ drive 7565 0 0x03a00 ∷ drive 7565 7 0x00000 ∷ drive 7565 0 0x00000 ∷ drive 8765 7 0x00280 ∷ drive 8765 6 0x00240 ∷ drive 11165 7 0x00680 ∷ drive 11165 6 0x00000 ∷ drive 12365 7 0x10781 ∷ drive 12455 7 0x10581 ∷ drive 12855 0 0x00200 ∷ drive 12945 7 0x10000 ∷ drive 12945 0 0x02a00 ∷ drive 13345 0 0x06a00 ∷ drive 13345 7 0x100c1 ∷ drive 13400 7 0x180c1 ∷ drive 13400 0 0x02a00 ∷ drive 13400 7 0x10000 ∷ drive 13400 0 0x06a00 ∷ drive 13400 7 0x10020 ∷ drive 13455 7 0x18020 ∷ drive 13455 0 0x02a00 ∷ drive 13455 7 0x10000 ∷ drive 13455 0 0x06a00 ∷ drive 13455 7 0x00001 ∷ drive 13545 7 0x08001 ∷ drive 13545 0 0x02a00 ∷ drive 13545 7 0x00000 ∷ drive 13545 0 0x00a00 ∷ drive 13945 0 0x04a00 ∷ drive 13945 7 0x00100 ∷ drive 14000 7 0x08100 ∷ drive 14000 0 0x00a00 ∷ drive 14000 7 0x00000 ∷ drive 14000 0 0x04a00 ∷ drive 14000 7 0x00100 ∷ drive 14055 7 0x08100 ∷ drive 14055 0 0x00a00 ∷ drive 14055 7 0x00000 ∷ drive 14055 0 0x04a00 ∷ drive 14055 7 0x00100 ∷ drive 14110 7 0x08100 ∷ drive 14110 0 0x00a00 ∷ drive 14110 7 0x00000 ∷ drive 14110 0 0x04a00 ∷ drive 14110 7 0x00100 ∷ drive 14165 7 0x08100 ∷ drive 14165 0 0x00a00 ∷ drive 14165 7 0x00000 ∷ drive 14165 0 0x04a00 ∷ drive 14165 7 0x00100 ∷ drive 14220 7 0x08100 ∷ drive 14220 0 0x00a00 ∷ drive 14220 7 0x00000 ∷ drive 14220 0 0x04a00 ∷ drive 14220 7 0x00100 ∷ drive 14275 7 0x08100 ∷ drive 14275 0 0x00a00 ∷ drive 14275 7 0x00000 ∷ drive 14275 0 0x03a00 ∷ drive 15075 0 0x03a04 ∷ drive 15130 0 0x07a04 ∷ drive 15130 7 0x08000 ∷ drive 15130 0 0x03a00 ∷ drive 15130 7 0x00000 ∷ drive 15130 0 0x00000 ∷ drive 16330 6 0x00240 ∷ drive 18730 6 0x00640 ∷ drive 19930 6 0x10741 ∷ drive 20020 6 0x10541 ∷ drive 20420 0 0x00200 ∷ drive 20510 6 0x10000 ∷ drive 20510 0 0x02a00 ∷ drive 20910 0 0x06a00 ∷ drive 20910 6 0x101c0 ∷ drive 20965 6 0x181c0 ∷ drive 20965 0 0x02a00 ∷ drive 20965 6 0x10000 ∷ drive 20965 0 0x06a00 ∷ drive 20965 6 0x10020 ∷ drive 21020 6 0x18020 ∷ drive 21020 0 0x02a00 ∷ drive 21020 6 0x10000 ∷ drive 21020 0 0x06a00 ∷ drive 21020 6 0x00001 ∷ drive 21110 6 0x08001 ∷ drive 21110 0 0x02a00 ∷ drive 21110 6 0x00000 ∷ drive 21110 0 0x00a00 ∷ drive 21510 0 0x04a00 ∷ drive 21510 6 0x00100 ∷ drive 21565 6 0x08100 ∷ drive 21565 0 0x00a00 ∷ drive 21565 6 0x00000 ∷ drive 21565 0 0x04a00 ∷ drive 21565 6 0x00100 ∷ drive 21620 6 0x08100 ∷ drive 21620 0 0x00a00 ∷ drive 21620 6 0x00000 ∷ drive 21620 0 0x04a00 ∷ drive 21620 6 0x00100 ∷ drive 21675 6 0x08100 ∷ drive 21675 0 0x00a00 ∷ drive 21675 6 0x00000 ∷ drive 21675 0 0x04a00 ∷ drive 21675 6 0x00100 ∷ drive 21730 6 0x08100 ∷ drive 21730 0 0x00a00 ∷ drive 21730 6 0x00000 ∷ drive 21730 0 0x04a00 ∷ drive 21730 6 0x00100 ∷ drive 21785 6 0x08100 ∷ drive 21785 0 0x00a00 ∷ drive 21785 6 0x00000 ∷ drive 21785 0 0x04a00 ∷ drive 21785 6 0x00100 ∷ drive 21840 6 0x08100 ∷ drive 21840 0 0x00a00 ∷ drive 21840 6 0x00000 ∷ drive 21840 0 0x03a00 ∷ drive 22640 0 0x03a04 ∷ drive 22695 0 0x07a04 ∷ drive 22695 6 0x08000 ∷ drive 22695 0 0x03a00 ∷ drive 22695 6 0x00000 ∷ drive 22695 0 0x00000 ∷ drive 23895 7 0x00280 ∷ drive 26295 7 0x00680 ∷ drive 27495 7 0x10781 ∷ drive 27585 7 0x10581 ∷ drive 27985 0 0x00200 ∷ drive 28075 7 0x10000 ∷ drive 28075 0 0x02a00 ∷ drive 28475 0 0x06a00 ∷ drive 28475 7 0x10080 ∷ drive 28530 7 0x18080 ∷ drive 28530 0 0x02a00 ∷ drive 28530 7 0x10000 ∷ drive 28530 0 0x06a00 ∷ drive 28530 7 0x00106 ∷ drive 28620 7 0x08106 ∷ drive 28620 0 0x02a00 ∷ drive 28620 7 0x00000 ∷ drive 28620 0 0x00000 ∷ drive 74275 0 0x00201 ∷ drive 76675 0 0x00601 ∷ drive 77875 0 0x01781 ∷ drive 77965 0 0x01581 ∷ drive 78365 7 0x00200 ∷ drive 78365 0 0x01781 ∷ drive 78455 0 0x03b81 ∷ drive 78455 7 0x00000 ∷ drive 78855 0 0x07b81 ∷ drive 78855 7 0x08000 ∷ drive 78855 0 0x03a20 ∷ drive 78855 7 0x00000 ∷ drive 78910 0 0x07a20 ∷ drive 78910 7 0x08000 ∷ drive 78910 0 0x03a01 ∷ drive 78910 7 0x00000 ∷ drive 78965 0 0x07a01 ∷ drive 78965 7 0x08000 ∷ drive 78965 0 0x03a00 ∷ drive 78965 7 0x00000 ∷ drive 78965 0 0x01b00 ∷ drive 79365 0 0x05b00 ∷ drive 79365 7 0x08000 ∷ drive 79365 0 0x01a00 ∷ drive 79365 7 0x00000 ∷ drive 79365 0 0x03b00 ∷ drive 79765 0 0x07b00 ∷ drive 79765 7 0x08000 ∷ drive 79765 0 0x03a00 ∷ drive 79765 7 0x00000 ∷ drive 79765 0 0x00000 ∷ drive 88620 0 0x00201 ∷ drive 91020 0 0x00601 ∷ drive 92220 0 0x01741 ∷ drive 92310 0 0x01541 ∷ drive 92710 6 0x00200 ∷ drive 92710 0 0x01741 ∷ drive 92800 0 0x03a80 ∷ drive 92800 6 0x00000 ∷ drive 93200 0 0x07a80 ∷ drive 93200 6 0x08000 ∷ drive 93200 0 0x03a20 ∷ drive 93200 6 0x00000 ∷ drive 93255 0 0x07a20 ∷ drive 93255 6 0x08000 ∷ drive 93255 0 0x03a01 ∷ drive 93255 6 0x00000 ∷ drive 93310 0 0x07a01 ∷ drive 93310 6 0x08000 ∷ drive 93310 0 0x03a00 ∷ drive 93310 6 0x00000 ∷ drive 93310 0 0x01b00 ∷ drive 93710 0 0x05b00 ∷ drive 93710 6 0x08000 ∷ drive 93710 0 0x01a00 ∷ drive 93710 6 0x00000 ∷ drive 93710 0 0x03b00 ∷ drive 94110 0 0x07b00 ∷ drive 94110 6 0x08000 ∷ drive 94110 0 0x03a00 ∷ drive 94110 6 0x00000 ∷ drive 94110 0 0x00000 ∷ []
+
+abbrev all_of_one_initiator_at_one_unit_guard_events : List Event
+all_of_one_initiator_at_one_unit_guard_events = events.Accept (command 1) ∷ events.Accept (command 3) ∷ events.Accept (command 2) ∷ events.Aborted 7 0 0 aborts.All ∷ events.Run (command 3) ∷ events.End (command 3) 0 ∷ events.Run (command 2) ∷ events.End (command 2) 0 ∷ []
+
+abbrev pub all_of_one_initiator_at_one_unit_guard_shown : Shows
+all_of_one_initiator_at_one_unit_guard_shown = record { rows = reverse all_of_one_initiator_at_one_unit_guard_rows; history = reverse all_of_one_initiator_at_one_unit_guard_events; ended = true }
+
+all_of_one_initiator_at_one_unit_guard_run : shows (run_by_due all_of_one_initiator_at_one_unit_guard 265) ≡ all_of_one_initiator_at_one_unit_guard_shown
+unfolding need_of sent_of ones union_below line_of form_out form_in least run_from
+all_of_one_initiator_at_one_unit_guard_run = refl
+
 -- ---- calling_in_vain_leaves_the_offer_guard
 
 abbrev pub calling_in_vain_leaves_the_offer_guard : ScenarioValue
@@ -179,6 +263,34 @@ device_leaves_another_target_guard_shown = record { rows = reverse device_leaves
 device_leaves_another_target_guard_run : shows (run_by_due device_leaves_another_target_guard 279) ≡ device_leaves_another_target_guard_shown
 unfolding need_of sent_of ones union_below line_of form_out form_in least run_from
 device_leaves_another_target_guard_run = refl
+
+-- ---- device_of_one_target_guard
+
+abbrev pub device_of_one_target_guard : ScenarioValue
+device_of_one_target_guard = record {
+  version = 1;
+  hosts = record { dev = 7; latency = 0; most = 8; retries = 2; period = 0; offset = 0; lag = 0; offers = true } ∷ record { dev = 6; latency = 0; most = 8; retries = 2; period = 0; offset = 0; lag = 0; offers = true } ∷ [];
+  targets = record { dev = 0; latency = 0; retries = 2; disc = policies.Command; pick = picks.First; seek = 60000; period = 0; offset = 0; begins = false } ∷ record { dev = 1; latency = 0; retries = 2; disc = policies.Command; pick = picks.First; seek = 60000; period = 0; offset = 0; begins = false } ∷ [];
+  units = record { target = 0; unit = 0; blocks = 1; size = 16; depth = 4 } ∷ record { target = 1; unit = 0; blocks = 1; size = 16; depth = 4 } ∷ [];
+  fills = [];
+  commands = record { host = 7; target = 0; unit = 0; at = 0; tag = tags.Simple 1; cdb = (0 ∷ 0 ∷ 0 ∷ 0 ∷ 0 ∷ 0 ∷ []); payload = payloads.Nothing } ∷ record { host = 7; target = 1; unit = 0; at = 0; tag = tags.Simple 1; cdb = (0 ∷ 0 ∷ 0 ∷ 0 ∷ 0 ∷ 0 ∷ []); payload = payloads.Nothing } ∷ [];
+  aborts = record { host = 6; target = 0; unit = 0; at = 20000; what = aborts.Device } ∷ [];
+  resets = [];
+  faults = [];
+}
+
+abbrev pub device_of_one_target_guard_rows : List Row
+device_of_one_target_guard_rows = drive 1200 7 0x00280 ∷ drive 3600 7 0x00680 ∷ drive 4800 7 0x10781 ∷ drive 4890 7 0x10581 ∷ drive 5290 0 0x00200 ∷ drive 5380 7 0x10000 ∷ drive 5380 0 0x02a00 ∷ drive 5780 0 0x06a00 ∷ drive 5780 7 0x101c0 ∷ drive 5835 7 0x181c0 ∷ drive 5835 0 0x02a00 ∷ drive 5835 7 0x10000 ∷ drive 5835 0 0x06a00 ∷ drive 5835 7 0x10020 ∷ drive 5890 7 0x18020 ∷ drive 5890 0 0x02a00 ∷ drive 5890 7 0x10000 ∷ drive 5890 0 0x06a00 ∷ drive 5890 7 0x00001 ∷ drive 5980 7 0x08001 ∷ drive 5980 0 0x02a00 ∷ drive 5980 7 0x00000 ∷ drive 5980 0 0x00a00 ∷ drive 6380 0 0x04a00 ∷ drive 6380 7 0x00100 ∷ drive 6435 7 0x08100 ∷ drive 6435 0 0x00a00 ∷ drive 6435 7 0x00000 ∷ drive 6435 0 0x04a00 ∷ drive 6435 7 0x00100 ∷ drive 6490 7 0x08100 ∷ drive 6490 0 0x00a00 ∷ drive 6490 7 0x00000 ∷ drive 6490 0 0x04a00 ∷ drive 6490 7 0x00100 ∷ drive 6545 7 0x08100 ∷ drive 6545 0 0x00a00 ∷ drive 6545 7 0x00000 ∷ drive 6545 0 0x04a00 ∷ drive 6545 7 0x00100 ∷ drive 6600 7 0x08100 ∷ drive 6600 0 0x00a00 ∷ drive 6600 7 0x00000 ∷ drive 6600 0 0x04a00 ∷ drive 6600 7 0x00100 ∷ drive 6655 7 0x08100 ∷ drive 6655 0 0x00a00 ∷ drive 6655 7 0x00000 ∷ drive 6655 0 0x04a00 ∷ drive 6655 7 0x00100 ∷ drive 6710 7 0x08100 ∷ drive 6710 0 0x00a00 ∷ drive 6710 7 0x00000 ∷ drive 6710 0 0x03a00 ∷ drive 7510 0 0x03a04 ∷ drive 7565 0 0x07a04 ∷ drive 7565 7 0x08000 ∷ drive 7565 0 0x03a00 ∷ drive 7565 7 0x00000 ∷ drive 7565 0 0x00000 ∷ drive 8765 7 0x00280 ∷ drive 11165 7 0x00680 ∷ drive 12365 7 0x10782 ∷ drive 12455 7 0x10582 ∷ drive 12855 1 0x00200 ∷ drive 12945 7 0x10000 ∷ drive 12945 1 0x02a00 ∷ drive 13345 1 0x06a00 ∷ drive 13345 7 0x101c0 ∷ drive 13400 7 0x181c0 ∷ drive 13400 1 0x02a00 ∷ drive 13400 7 0x10000 ∷ drive 13400 1 0x06a00 ∷ drive 13400 7 0x10020 ∷ drive 13455 7 0x18020 ∷ drive 13455 1 0x02a00 ∷ drive 13455 7 0x10000 ∷ drive 13455 1 0x06a00 ∷ drive 13455 7 0x00001 ∷ drive 13545 7 0x08001 ∷ drive 13545 1 0x02a00 ∷ drive 13545 7 0x00000 ∷ drive 13545 1 0x00a00 ∷ drive 13945 1 0x04a00 ∷ drive 13945 7 0x00100 ∷ drive 14000 7 0x08100 ∷ drive 14000 1 0x00a00 ∷ drive 14000 7 0x00000 ∷ drive 14000 1 0x04a00 ∷ drive 14000 7 0x00100 ∷ drive 14055 7 0x08100 ∷ drive 14055 1 0x00a00 ∷ drive 14055 7 0x00000 ∷ drive 14055 1 0x04a00 ∷ drive 14055 7 0x00100 ∷ drive 14110 7 0x08100 ∷ drive 14110 1 0x00a00 ∷ drive 14110 7 0x00000 ∷ drive 14110 1 0x04a00 ∷ drive 14110 7 0x00100 ∷ drive 14165 7 0x08100 ∷ drive 14165 1 0x00a00 ∷ drive 14165 7 0x00000 ∷ drive 14165 1 0x04a00 ∷ drive 14165 7 0x00100 ∷ drive 14220 7 0x08100 ∷ drive 14220 1 0x00a00 ∷ drive 14220 7 0x00000 ∷ drive 14220 1 0x04a00 ∷ drive 14220 7 0x00100 ∷ drive 14275 7 0x08100 ∷ drive 14275 1 0x00a00 ∷ drive 14275 7 0x00000 ∷ drive 14275 1 0x03a00 ∷ drive 15075 1 0x03a04 ∷ drive 15130 1 0x07a04 ∷ drive 15130 7 0x08000 ∷ drive 15130 1 0x03a00 ∷ drive 15130 7 0x00000 ∷ drive 15130 1 0x00000 ∷ drive 20000 6 0x00240 ∷ drive 22400 6 0x00640 ∷ drive 23600 6 0x10741 ∷ drive 23690 6 0x10541 ∷ drive 24090 0 0x00200 ∷ drive 24180 6 0x10000 ∷ drive 24180 0 0x02a00 ∷ drive 24580 0 0x06a00 ∷ drive 24580 6 0x10080 ∷ drive 24635 6 0x18080 ∷ drive 24635 0 0x02a00 ∷ drive 24635 6 0x10000 ∷ drive 24635 0 0x06a00 ∷ drive 24635 6 0x0010c ∷ drive 24725 6 0x0810c ∷ drive 24725 0 0x02a00 ∷ drive 24725 6 0x00000 ∷ drive 24725 0 0x00000 ∷ drive 74275 1 0x00202 ∷ drive 76675 1 0x00602 ∷ drive 77875 1 0x01782 ∷ drive 77965 1 0x01582 ∷ drive 78365 7 0x00200 ∷ drive 78365 1 0x01782 ∷ drive 78455 1 0x03a80 ∷ drive 78455 7 0x00000 ∷ drive 78855 1 0x07a80 ∷ drive 78855 7 0x08000 ∷ drive 78855 1 0x03a20 ∷ drive 78855 7 0x00000 ∷ drive 78910 1 0x07a20 ∷ drive 78910 7 0x08000 ∷ drive 78910 1 0x03a01 ∷ drive 78910 7 0x00000 ∷ drive 78965 1 0x07a01 ∷ drive 78965 7 0x08000 ∷ drive 78965 1 0x03a00 ∷ drive 78965 7 0x00000 ∷ drive 78965 1 0x01b00 ∷ drive 79365 1 0x05b00 ∷ drive 79365 7 0x08000 ∷ drive 79365 1 0x01a00 ∷ drive 79365 7 0x00000 ∷ drive 79365 1 0x03b00 ∷ drive 79765 1 0x07b00 ∷ drive 79765 7 0x08000 ∷ drive 79765 1 0x03a00 ∷ drive 79765 7 0x00000 ∷ drive 79765 1 0x00000 ∷ []
+
+abbrev device_of_one_target_guard_events : List Event
+device_of_one_target_guard_events = events.Accept (command 1) ∷ events.Accept (command 2) ∷ events.Aborted 6 0 0 aborts.Device ∷ events.Run (command 2) ∷ events.End (command 2) 0 ∷ []
+
+abbrev pub device_of_one_target_guard_shown : Shows
+device_of_one_target_guard_shown = record { rows = reverse device_of_one_target_guard_rows; history = reverse device_of_one_target_guard_events; ended = true }
+
+device_of_one_target_guard_run : shows (run_by_due device_of_one_target_guard 170) ≡ device_of_one_target_guard_shown
+unfolding need_of sent_of ones union_below line_of form_out form_in least run_from
+device_of_one_target_guard_run = refl
 
 -- ---- disconnect_struck_is_counted_guard
 

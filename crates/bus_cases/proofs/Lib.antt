@@ -1,5 +1,6 @@
 mod ArrayCases
 mod GuardCases
+mod RightCases
 mod RuleCases
 mod RunCases
 mod SeamCases
