@@ -29,13 +29,14 @@ TOKEN = re.compile(
 CASES = [
     ("bus_reactions", "Cases"), ("bus_dialogue", "Cases"), ("bus_dialogue", "HearingCases"), ("bus_dialogue", "WantCases"), ("bus_story", "Small"),
     ("disk_array", "Stories"), ("bus_story", "Cases"), ("bus_cases", "RuleCases"), ("bus_due", "RunCases"), ("bus_cases", "RunCases"),
-    ("bus_cases", "GuardCases"), ("bus_cases", "ArrayCases"), ("bus_cases", "RightCases"),
+    ("bus_cases", "GuardCases"), ("bus_cases", "ArrayCases"), ("bus_cases", "RightCases"), ("bus_cases", "DialogueCases"), ("bus_cases", "StoryCases"),
+    ("bus_cases", "DueCases"),
     ("sync_nego", "Cases"), ("mixed_bus", "MixedTraces"), ("bus_due", "SeamCases"), ("bus_cases", "SeamCases"),
     ("bus_laws", "Cases"), ("bus_laws", "HeardCases"), ("bus_laws", "WrittenCases"), ("bus_books", "Cases"), ("bus_books", "StoryCases"),
     ("bus_books", "CauseRunCases"), ("disk_target", "AttendedCases"), ("right_laws", "Cases"), ("right_laws", "GivenCases"), ("progress_laws", "DebtCases"),
 ]
 # So many of these are of the definitions themselves, the others of the laws above them.
-NEAR = 17
+NEAR = 20
 BINARY = {"||": (30, "r"), "&&": (35, "r"), "==": (50, "n"), "++": (65, "l"), "+": (65, "l"), "-": (65, "l"), "∷": (67, "r"),
           "*": (70, "l"), "/": (70, "l"), "%": (70, "l"), "^": (75, "r")}
 # What std's words compute, each with the number of its arguments.

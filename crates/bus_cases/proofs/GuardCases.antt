@@ -208,6 +208,34 @@ calling_in_vain_leaves_the_offer_guard_run : shows (run_by_due calling_in_vain_l
 unfolding need_of sent_of ones union_below line_of form_out form_in least run_from
 calling_in_vain_leaves_the_offer_guard_run = refl
 
+-- ---- device_concerns_each_unit_guard
+
+abbrev pub device_concerns_each_unit_guard : ScenarioValue
+device_concerns_each_unit_guard = record {
+  version = 1;
+  hosts = record { dev = 7; latency = 0; most = 4; retries = 2; period = 0; offset = 0; lag = 0; offers = true } ∷ record { dev = 6; latency = 0; most = 4; retries = 2; period = 0; offset = 0; lag = 0; offers = true } ∷ [];
+  targets = record { dev = 0; latency = 0; retries = 2; disc = policies.Never; pick = picks.First; seek = 0; period = 0; offset = 0; begins = false } ∷ [];
+  units = record { target = 0; unit = 0; blocks = 1; size = 16; depth = 4 } ∷ record { target = 0; unit = 1; blocks = 1; size = 16; depth = 4 } ∷ [];
+  fills = [];
+  commands = record { host = 6; target = 0; unit = 1; at = 0; tag = tags.Untagged; cdb = (8 ∷ 0 ∷ 0 ∷ 1 ∷ 1 ∷ 0 ∷ []); payload = payloads.Nothing } ∷ record { host = 7; target = 0; unit = 1; at = 6000; tag = tags.Untagged; cdb = (0 ∷ 0 ∷ 0 ∷ 0 ∷ 0 ∷ 0 ∷ []); payload = payloads.Nothing } ∷ record { host = 7; target = 0; unit = 1; at = 30000; tag = tags.Untagged; cdb = (0 ∷ 0 ∷ 0 ∷ 0 ∷ 0 ∷ 0 ∷ []); payload = payloads.Nothing } ∷ record { host = 6; target = 0; unit = 1; at = 60000; tag = tags.Untagged; cdb = (3 ∷ 0 ∷ 0 ∷ 0 ∷ 18 ∷ 0 ∷ []); payload = payloads.Nothing } ∷ [];
+  aborts = record { host = 7; target = 0; unit = 0; at = 10000; what = aborts.Device } ∷ [];
+  resets = [];
+  faults = [];
+}
+
+abbrev pub device_concerns_each_unit_guard_rows : List Row
+device_concerns_each_unit_guard_rows = drive 1200 6 0x00240 ∷ drive 3600 6 0x00640 ∷ drive 4800 6 0x10741 ∷ drive 4890 6 0x10541 ∷ drive 5290 0 0x00200 ∷ drive 5380 6 0x10000 ∷ drive 5380 0 0x02a00 ∷ drive 5780 0 0x06a00 ∷ drive 5780 6 0x000c1 ∷ drive 5870 6 0x080c1 ∷ drive 5870 0 0x02a00 ∷ drive 5870 6 0x00000 ∷ drive 5870 0 0x00a00 ∷ drive 6270 0 0x04a00 ∷ drive 6270 6 0x00008 ∷ drive 6325 6 0x08008 ∷ drive 6325 0 0x00a00 ∷ drive 6325 6 0x00000 ∷ drive 6325 0 0x04a00 ∷ drive 6325 6 0x00100 ∷ drive 6380 6 0x08100 ∷ drive 6380 0 0x00a00 ∷ drive 6380 6 0x00000 ∷ drive 6380 0 0x04a00 ∷ drive 6380 6 0x00100 ∷ drive 6435 6 0x08100 ∷ drive 6435 0 0x00a00 ∷ drive 6435 6 0x00000 ∷ drive 6435 0 0x04a00 ∷ drive 6435 6 0x00001 ∷ drive 6490 6 0x08001 ∷ drive 6490 0 0x00a00 ∷ drive 6490 6 0x00000 ∷ drive 6490 0 0x04a00 ∷ drive 6490 6 0x00001 ∷ drive 6545 6 0x08001 ∷ drive 6545 0 0x00a00 ∷ drive 6545 6 0x00000 ∷ drive 6545 0 0x04a00 ∷ drive 6545 6 0x00100 ∷ drive 6600 6 0x08100 ∷ drive 6600 0 0x00a00 ∷ drive 6600 6 0x00000 ∷ drive 6600 0 0x01a00 ∷ drive 7400 0 0x01a02 ∷ drive 7455 0 0x05a02 ∷ drive 7455 6 0x08000 ∷ drive 7455 0 0x01a00 ∷ drive 7455 6 0x00000 ∷ drive 7455 0 0x03b00 ∷ drive 7855 0 0x07b00 ∷ drive 7855 6 0x08000 ∷ drive 7855 0 0x03a00 ∷ drive 7855 6 0x00000 ∷ drive 7855 0 0x00000 ∷ drive 9055 7 0x00280 ∷ drive 9055 6 0x00240 ∷ drive 11455 7 0x00680 ∷ drive 11455 6 0x00000 ∷ drive 12655 7 0x10781 ∷ drive 12745 7 0x10581 ∷ drive 13145 0 0x00200 ∷ drive 13235 7 0x10000 ∷ drive 13235 0 0x02a00 ∷ drive 13635 0 0x06a00 ∷ drive 13635 7 0x000c1 ∷ drive 13725 7 0x080c1 ∷ drive 13725 0 0x02a00 ∷ drive 13725 7 0x00000 ∷ drive 13725 0 0x00a00 ∷ drive 14125 0 0x04a00 ∷ drive 14125 7 0x00100 ∷ drive 14180 7 0x08100 ∷ drive 14180 0 0x00a00 ∷ drive 14180 7 0x00000 ∷ drive 14180 0 0x04a00 ∷ drive 14180 7 0x00100 ∷ drive 14235 7 0x08100 ∷ drive 14235 0 0x00a00 ∷ drive 14235 7 0x00000 ∷ drive 14235 0 0x04a00 ∷ drive 14235 7 0x00100 ∷ drive 14290 7 0x08100 ∷ drive 14290 0 0x00a00 ∷ drive 14290 7 0x00000 ∷ drive 14290 0 0x04a00 ∷ drive 14290 7 0x00100 ∷ drive 14345 7 0x08100 ∷ drive 14345 0 0x00a00 ∷ drive 14345 7 0x00000 ∷ drive 14345 0 0x04a00 ∷ drive 14345 7 0x00100 ∷ drive 14400 7 0x08100 ∷ drive 14400 0 0x00a00 ∷ drive 14400 7 0x00000 ∷ drive 14400 0 0x04a00 ∷ drive 14400 7 0x00100 ∷ drive 14455 7 0x08100 ∷ drive 14455 0 0x00a00 ∷ drive 14455 7 0x00000 ∷ drive 14455 0 0x03a00 ∷ drive 15255 0 0x03a04 ∷ drive 15310 0 0x07a04 ∷ drive 15310 7 0x08000 ∷ drive 15310 0 0x03a00 ∷ drive 15310 7 0x00000 ∷ drive 15310 0 0x00000 ∷ drive 16510 7 0x00280 ∷ drive 16510 6 0x00240 ∷ drive 18910 7 0x00680 ∷ drive 18910 6 0x00000 ∷ drive 20110 7 0x10781 ∷ drive 20200 7 0x10581 ∷ drive 20600 0 0x00200 ∷ drive 20690 7 0x10000 ∷ drive 20690 0 0x02a00 ∷ drive 21090 0 0x06a00 ∷ drive 21090 7 0x10080 ∷ drive 21145 7 0x18080 ∷ drive 21145 0 0x02a00 ∷ drive 21145 7 0x10000 ∷ drive 21145 0 0x06a00 ∷ drive 21145 7 0x0010c ∷ drive 21235 7 0x0810c ∷ drive 21235 0 0x02a00 ∷ drive 21235 7 0x00000 ∷ drive 21235 0 0x00000 ∷ drive 30000 7 0x00280 ∷ drive 32400 7 0x00680 ∷ drive 33600 7 0x10781 ∷ drive 33690 7 0x10581 ∷ drive 34090 0 0x00200 ∷ drive 34180 7 0x10000 ∷ drive 34180 0 0x02a00 ∷ drive 34580 0 0x06a00 ∷ drive 34580 7 0x000c1 ∷ drive 34670 7 0x080c1 ∷ drive 34670 0 0x02a00 ∷ drive 34670 7 0x00000 ∷ drive 34670 0 0x00a00 ∷ drive 35070 0 0x04a00 ∷ drive 35070 7 0x00100 ∷ drive 35125 7 0x08100 ∷ drive 35125 0 0x00a00 ∷ drive 35125 7 0x00000 ∷ drive 35125 0 0x04a00 ∷ drive 35125 7 0x00100 ∷ drive 35180 7 0x08100 ∷ drive 35180 0 0x00a00 ∷ drive 35180 7 0x00000 ∷ drive 35180 0 0x04a00 ∷ drive 35180 7 0x00100 ∷ drive 35235 7 0x08100 ∷ drive 35235 0 0x00a00 ∷ drive 35235 7 0x00000 ∷ drive 35235 0 0x04a00 ∷ drive 35235 7 0x00100 ∷ drive 35290 7 0x08100 ∷ drive 35290 0 0x00a00 ∷ drive 35290 7 0x00000 ∷ drive 35290 0 0x04a00 ∷ drive 35290 7 0x00100 ∷ drive 35345 7 0x08100 ∷ drive 35345 0 0x00a00 ∷ drive 35345 7 0x00000 ∷ drive 35345 0 0x04a00 ∷ drive 35345 7 0x00100 ∷ drive 35400 7 0x08100 ∷ drive 35400 0 0x00a00 ∷ drive 35400 7 0x00000 ∷ drive 35400 0 0x01a00 ∷ drive 36200 0 0x01a02 ∷ drive 36255 0 0x05a02 ∷ drive 36255 7 0x08000 ∷ drive 36255 0 0x01a00 ∷ drive 36255 7 0x00000 ∷ drive 36255 0 0x03b00 ∷ drive 36655 0 0x07b00 ∷ drive 36655 7 0x08000 ∷ drive 36655 0 0x03a00 ∷ drive 36655 7 0x00000 ∷ drive 36655 0 0x00000 ∷ drive 37855 7 0x00280 ∷ drive 40255 7 0x00680 ∷ drive 41455 7 0x10781 ∷ drive 41545 7 0x10581 ∷ drive 41945 0 0x00200 ∷ drive 42035 7 0x10000 ∷ drive 42035 0 0x02a00 ∷ drive 42435 0 0x06a00 ∷ drive 42435 7 0x00181 ∷ drive 42525 7 0x08181 ∷ drive 42525 0 0x02a00 ∷ drive 42525 7 0x00000 ∷ drive 42525 0 0x00a00 ∷ drive 42925 0 0x04a00 ∷ drive 42925 7 0x00103 ∷ drive 42980 7 0x08103 ∷ drive 42980 0 0x00a00 ∷ drive 42980 7 0x00000 ∷ drive 42980 0 0x04a00 ∷ drive 42980 7 0x00100 ∷ drive 43035 7 0x08100 ∷ drive 43035 0 0x00a00 ∷ drive 43035 7 0x00000 ∷ drive 43035 0 0x04a00 ∷ drive 43035 7 0x00100 ∷ drive 43090 7 0x08100 ∷ drive 43090 0 0x00a00 ∷ drive 43090 7 0x00000 ∷ drive 43090 0 0x04a00 ∷ drive 43090 7 0x00100 ∷ drive 43145 7 0x08100 ∷ drive 43145 0 0x00a00 ∷ drive 43145 7 0x00000 ∷ drive 43145 0 0x04a00 ∷ drive 43145 7 0x00112 ∷ drive 43200 7 0x08112 ∷ drive 43200 0 0x00a00 ∷ drive 43200 7 0x00000 ∷ drive 43200 0 0x04a00 ∷ drive 43200 7 0x00100 ∷ drive 43255 7 0x08100 ∷ drive 43255 0 0x00a00 ∷ drive 43255 7 0x00000 ∷ drive 43255 0 0x01200 ∷ drive 44055 0 0x01270 ∷ drive 44110 0 0x05270 ∷ drive 44110 7 0x08000 ∷ drive 44110 0 0x01300 ∷ drive 44110 7 0x00000 ∷ drive 44165 0 0x05300 ∷ drive 44165 7 0x08000 ∷ drive 44165 0 0x01306 ∷ drive 44165 7 0x00000 ∷ drive 44220 0 0x05306 ∷ drive 44220 7 0x08000 ∷ drive 44220 0 0x01300 ∷ drive 44220 7 0x00000 ∷ drive 44275 0 0x05300 ∷ drive 44275 7 0x08000 ∷ drive 44275 0 0x01300 ∷ drive 44275 7 0x00000 ∷ drive 44330 0 0x05300 ∷ drive 44330 7 0x08000 ∷ drive 44330 0 0x01300 ∷ drive 44330 7 0x00000 ∷ drive 44385 0 0x05300 ∷ drive 44385 7 0x08000 ∷ drive 44385 0 0x01300 ∷ drive 44385 7 0x00000 ∷ drive 44440 0 0x05300 ∷ drive 44440 7 0x08000 ∷ drive 44440 0 0x0130a ∷ drive 44440 7 0x00000 ∷ drive 44495 0 0x0530a ∷ drive 44495 7 0x08000 ∷ drive 44495 0 0x01300 ∷ drive 44495 7 0x00000 ∷ drive 44550 0 0x05300 ∷ drive 44550 7 0x08000 ∷ drive 44550 0 0x01300 ∷ drive 44550 7 0x00000 ∷ drive 44605 0 0x05300 ∷ drive 44605 7 0x08000 ∷ drive 44605 0 0x01300 ∷ drive 44605 7 0x00000 ∷ drive 44660 0 0x05300 ∷ drive 44660 7 0x08000 ∷ drive 44660 0 0x01300 ∷ drive 44660 7 0x00000 ∷ drive 44715 0 0x05300 ∷ drive 44715 7 0x08000 ∷ drive 44715 0 0x01229 ∷ drive 44715 7 0x00000 ∷ drive 44770 0 0x05229 ∷ drive 44770 7 0x08000 ∷ drive 44770 0 0x01300 ∷ drive 44770 7 0x00000 ∷ drive 44825 0 0x05300 ∷ drive 44825 7 0x08000 ∷ drive 44825 0 0x01300 ∷ drive 44825 7 0x00000 ∷ drive 44880 0 0x05300 ∷ drive 44880 7 0x08000 ∷ drive 44880 0 0x01300 ∷ drive 44880 7 0x00000 ∷ drive 44935 0 0x05300 ∷ drive 44935 7 0x08000 ∷ drive 44935 0 0x01300 ∷ drive 44935 7 0x00000 ∷ drive 44990 0 0x05300 ∷ drive 44990 7 0x08000 ∷ drive 44990 0 0x01300 ∷ drive 44990 7 0x00000 ∷ drive 45045 0 0x05300 ∷ drive 45045 7 0x08000 ∷ drive 45045 0 0x01200 ∷ drive 45045 7 0x00000 ∷ drive 45045 0 0x01b00 ∷ drive 45445 0 0x05b00 ∷ drive 45445 7 0x08000 ∷ drive 45445 0 0x01a00 ∷ drive 45445 7 0x00000 ∷ drive 45445 0 0x03b00 ∷ drive 45845 0 0x07b00 ∷ drive 45845 7 0x08000 ∷ drive 45845 0 0x03a00 ∷ drive 45845 7 0x00000 ∷ drive 45845 0 0x00000 ∷ drive 60000 6 0x00240 ∷ drive 62400 6 0x00640 ∷ drive 63600 6 0x10741 ∷ drive 63690 6 0x10541 ∷ drive 64090 0 0x00200 ∷ drive 64180 6 0x10000 ∷ drive 64180 0 0x02a00 ∷ drive 64580 0 0x06a00 ∷ drive 64580 6 0x000c1 ∷ drive 64670 6 0x080c1 ∷ drive 64670 0 0x02a00 ∷ drive 64670 6 0x00000 ∷ drive 64670 0 0x00a00 ∷ drive 65070 0 0x04a00 ∷ drive 65070 6 0x00103 ∷ drive 65125 6 0x08103 ∷ drive 65125 0 0x00a00 ∷ drive 65125 6 0x00000 ∷ drive 65125 0 0x04a00 ∷ drive 65125 6 0x00100 ∷ drive 65180 6 0x08100 ∷ drive 65180 0 0x00a00 ∷ drive 65180 6 0x00000 ∷ drive 65180 0 0x04a00 ∷ drive 65180 6 0x00100 ∷ drive 65235 6 0x08100 ∷ drive 65235 0 0x00a00 ∷ drive 65235 6 0x00000 ∷ drive 65235 0 0x04a00 ∷ drive 65235 6 0x00100 ∷ drive 65290 6 0x08100 ∷ drive 65290 0 0x00a00 ∷ drive 65290 6 0x00000 ∷ drive 65290 0 0x04a00 ∷ drive 65290 6 0x00112 ∷ drive 65345 6 0x08112 ∷ drive 65345 0 0x00a00 ∷ drive 65345 6 0x00000 ∷ drive 65345 0 0x04a00 ∷ drive 65345 6 0x00100 ∷ drive 65400 6 0x08100 ∷ drive 65400 0 0x00a00 ∷ drive 65400 6 0x00000 ∷ drive 65400 0 0x01200 ∷ drive 66200 0 0x01270 ∷ drive 66255 0 0x05270 ∷ drive 66255 6 0x08000 ∷ drive 66255 0 0x01300 ∷ drive 66255 6 0x00000 ∷ drive 66310 0 0x05300 ∷ drive 66310 6 0x08000 ∷ drive 66310 0 0x01300 ∷ drive 66310 6 0x00000 ∷ drive 66365 0 0x05300 ∷ drive 66365 6 0x08000 ∷ drive 66365 0 0x01300 ∷ drive 66365 6 0x00000 ∷ drive 66420 0 0x05300 ∷ drive 66420 6 0x08000 ∷ drive 66420 0 0x01300 ∷ drive 66420 6 0x00000 ∷ drive 66475 0 0x05300 ∷ drive 66475 6 0x08000 ∷ drive 66475 0 0x01300 ∷ drive 66475 6 0x00000 ∷ drive 66530 0 0x05300 ∷ drive 66530 6 0x08000 ∷ drive 66530 0 0x01300 ∷ drive 66530 6 0x00000 ∷ drive 66585 0 0x05300 ∷ drive 66585 6 0x08000 ∷ drive 66585 0 0x0130a ∷ drive 66585 6 0x00000 ∷ drive 66640 0 0x0530a ∷ drive 66640 6 0x08000 ∷ drive 66640 0 0x01300 ∷ drive 66640 6 0x00000 ∷ drive 66695 0 0x05300 ∷ drive 66695 6 0x08000 ∷ drive 66695 0 0x01300 ∷ drive 66695 6 0x00000 ∷ drive 66750 0 0x05300 ∷ drive 66750 6 0x08000 ∷ drive 66750 0 0x01300 ∷ drive 66750 6 0x00000 ∷ drive 66805 0 0x05300 ∷ drive 66805 6 0x08000 ∷ drive 66805 0 0x01300 ∷ drive 66805 6 0x00000 ∷ drive 66860 0 0x05300 ∷ drive 66860 6 0x08000 ∷ drive 66860 0 0x01300 ∷ drive 66860 6 0x00000 ∷ drive 66915 0 0x05300 ∷ drive 66915 6 0x08000 ∷ drive 66915 0 0x01300 ∷ drive 66915 6 0x00000 ∷ drive 66970 0 0x05300 ∷ drive 66970 6 0x08000 ∷ drive 66970 0 0x01300 ∷ drive 66970 6 0x00000 ∷ drive 67025 0 0x05300 ∷ drive 67025 6 0x08000 ∷ drive 67025 0 0x01300 ∷ drive 67025 6 0x00000 ∷ drive 67080 0 0x05300 ∷ drive 67080 6 0x08000 ∷ drive 67080 0 0x01300 ∷ drive 67080 6 0x00000 ∷ drive 67135 0 0x05300 ∷ drive 67135 6 0x08000 ∷ drive 67135 0 0x01300 ∷ drive 67135 6 0x00000 ∷ drive 67190 0 0x05300 ∷ drive 67190 6 0x08000 ∷ drive 67190 0 0x01200 ∷ drive 67190 6 0x00000 ∷ drive 67190 0 0x01b00 ∷ drive 67590 0 0x05b00 ∷ drive 67590 6 0x08000 ∷ drive 67590 0 0x01a00 ∷ drive 67590 6 0x00000 ∷ drive 67590 0 0x03b00 ∷ drive 67990 0 0x07b00 ∷ drive 67990 6 0x08000 ∷ drive 67990 0 0x03a00 ∷ drive 67990 6 0x00000 ∷ drive 67990 0 0x00000 ∷ []
+
+abbrev device_concerns_each_unit_guard_events : List Event
+device_concerns_each_unit_guard_events = events.Accept (command 1) ∷ events.Run (command 1) ∷ events.End (command 1) 2 ∷ events.Accept (command 2) ∷ events.Aborted 7 0 0 aborts.Device ∷ events.Accept (command 3) ∷ events.Run (command 3) ∷ events.End (command 3) 2 ∷ events.Accept (sense 3) ∷ events.Run (sense 3) ∷ events.End (sense 3) 0 ∷ events.Accept (command 4) ∷ events.Run (command 4) ∷ events.End (command 4) 0 ∷ []
+
+abbrev pub device_concerns_each_unit_guard_shown : Shows
+device_concerns_each_unit_guard_shown = record { rows = reverse device_concerns_each_unit_guard_rows; history = reverse device_concerns_each_unit_guard_events; ended = true }
+
+device_concerns_each_unit_guard_run : shows (run_by_due device_concerns_each_unit_guard 439) ≡ device_concerns_each_unit_guard_shown
+unfolding need_of sent_of ones union_below line_of form_out form_in least run_from
+device_concerns_each_unit_guard_run = refl
+
 -- ---- device_ends_the_hold_of_another_guard
 
 abbrev pub device_ends_the_hold_of_another_guard : ScenarioValue
@@ -292,6 +320,62 @@ device_of_one_target_guard_run : shows (run_by_due device_of_one_target_guard 17
 unfolding need_of sent_of ones union_below line_of form_out form_in least run_from
 device_of_one_target_guard_run = refl
 
+-- ---- device_reset_in_text_one_guard
+
+abbrev pub device_reset_in_text_one_guard : ScenarioValue
+device_reset_in_text_one_guard = record {
+  version = 1;
+  hosts = record { dev = 7; latency = 0; most = 1; retries = 2; period = 50; offset = 8; lag = 0; offers = true } ∷ record { dev = 6; latency = 0; most = 1; retries = 2; period = 0; offset = 0; lag = 0; offers = true } ∷ [];
+  targets = record { dev = 0; latency = 0; retries = 2; disc = policies.Never; pick = picks.First; seek = 0; period = 50; offset = 8; begins = false } ∷ record { dev = 1; latency = 0; retries = 2; disc = policies.Never; pick = picks.First; seek = 0; period = 50; offset = 8; begins = false } ∷ [];
+  units = record { target = 0; unit = 0; blocks = 1; size = 16; depth = 1 } ∷ record { target = 1; unit = 0; blocks = 1; size = 16; depth = 1 } ∷ [];
+  fills = [];
+  commands = record { host = 7; target = 0; unit = 0; at = 50000; tag = tags.Untagged; cdb = (18 ∷ 0 ∷ 0 ∷ 0 ∷ 4 ∷ 0 ∷ []); payload = payloads.Nothing } ∷ record { host = 7; target = 1; unit = 0; at = 50000; tag = tags.Untagged; cdb = (18 ∷ 0 ∷ 0 ∷ 0 ∷ 4 ∷ 0 ∷ []); payload = payloads.Nothing } ∷ [];
+  aborts = record { host = 6; target = 0; unit = 0; at = 0; what = aborts.Device } ∷ [];
+  resets = [];
+  faults = [];
+}
+
+abbrev pub device_reset_in_text_one_guard_rows : List Row
+device_reset_in_text_one_guard_rows = drive 1200 6 0x00240 ∷ drive 3600 6 0x00640 ∷ drive 4800 6 0x10741 ∷ drive 4890 6 0x10541 ∷ drive 5290 0 0x00200 ∷ drive 5380 6 0x10000 ∷ drive 5380 0 0x02a00 ∷ drive 5780 0 0x06a00 ∷ drive 5780 6 0x10080 ∷ drive 5835 6 0x18080 ∷ drive 5835 0 0x02a00 ∷ drive 5835 6 0x10000 ∷ drive 5835 0 0x06a00 ∷ drive 5835 6 0x0010c ∷ drive 5925 6 0x0810c ∷ drive 5925 0 0x02a00 ∷ drive 5925 6 0x00000 ∷ drive 5925 0 0x00000 ∷ drive 50000 7 0x00280 ∷ drive 52400 7 0x00680 ∷ drive 53600 7 0x10781 ∷ drive 53690 7 0x10581 ∷ drive 54090 0 0x00200 ∷ drive 54180 7 0x10000 ∷ drive 54180 0 0x02a00 ∷ drive 54580 0 0x06a00 ∷ drive 54580 7 0x001c0 ∷ drive 54670 7 0x081c0 ∷ drive 54670 0 0x02a00 ∷ drive 54670 7 0x00000 ∷ drive 54670 0 0x00a00 ∷ drive 55070 0 0x04a00 ∷ drive 55070 7 0x00112 ∷ drive 55125 7 0x08112 ∷ drive 55125 0 0x00a00 ∷ drive 55125 7 0x00000 ∷ drive 55125 0 0x04a00 ∷ drive 55125 7 0x00100 ∷ drive 55180 7 0x08100 ∷ drive 55180 0 0x00a00 ∷ drive 55180 7 0x00000 ∷ drive 55180 0 0x04a00 ∷ drive 55180 7 0x00100 ∷ drive 55235 7 0x08100 ∷ drive 55235 0 0x00a00 ∷ drive 55235 7 0x00000 ∷ drive 55235 0 0x04a00 ∷ drive 55235 7 0x00100 ∷ drive 55290 7 0x08100 ∷ drive 55290 0 0x00a00 ∷ drive 55290 7 0x00000 ∷ drive 55290 0 0x04a00 ∷ drive 55290 7 0x00004 ∷ drive 55345 7 0x08004 ∷ drive 55345 0 0x00a00 ∷ drive 55345 7 0x00000 ∷ drive 55345 0 0x04a00 ∷ drive 55345 7 0x00100 ∷ drive 55400 7 0x08100 ∷ drive 55400 0 0x00a00 ∷ drive 55400 7 0x00000 ∷ drive 55400 0 0x01200 ∷ drive 56200 0 0x01300 ∷ drive 56255 0 0x05300 ∷ drive 56255 7 0x08000 ∷ drive 56255 0 0x01300 ∷ drive 56255 7 0x00000 ∷ drive 56310 0 0x05300 ∷ drive 56310 7 0x08000 ∷ drive 56310 0 0x01202 ∷ drive 56310 7 0x00000 ∷ drive 56365 0 0x05202 ∷ drive 56365 7 0x08000 ∷ drive 56365 0 0x01202 ∷ drive 56365 7 0x00000 ∷ drive 56420 0 0x05202 ∷ drive 56420 7 0x08000 ∷ drive 56420 0 0x01200 ∷ drive 56420 7 0x00000 ∷ drive 56420 0 0x01b00 ∷ drive 56820 0 0x05b00 ∷ drive 56820 7 0x08000 ∷ drive 56820 0 0x01a00 ∷ drive 56820 7 0x00000 ∷ drive 56820 0 0x03b00 ∷ drive 57220 0 0x07b00 ∷ drive 57220 7 0x08000 ∷ drive 57220 0 0x03a00 ∷ drive 57220 7 0x00000 ∷ drive 57220 0 0x00000 ∷ drive 58420 7 0x00280 ∷ drive 60820 7 0x00680 ∷ drive 62020 7 0x10782 ∷ drive 62110 7 0x10582 ∷ drive 62510 1 0x00200 ∷ drive 62600 7 0x10000 ∷ drive 62600 1 0x02a00 ∷ drive 63000 1 0x06a00 ∷ drive 63000 7 0x101c0 ∷ drive 63055 7 0x181c0 ∷ drive 63055 1 0x02a00 ∷ drive 63055 7 0x10000 ∷ drive 63055 1 0x06a00 ∷ drive 63055 7 0x10001 ∷ drive 63110 7 0x18001 ∷ drive 63110 1 0x02a00 ∷ drive 63110 7 0x10000 ∷ drive 63110 1 0x06a00 ∷ drive 63110 7 0x10103 ∷ drive 63165 7 0x18103 ∷ drive 63165 1 0x02a00 ∷ drive 63165 7 0x10000 ∷ drive 63165 1 0x06a00 ∷ drive 63165 7 0x10001 ∷ drive 63220 7 0x18001 ∷ drive 63220 1 0x02a00 ∷ drive 63220 7 0x10000 ∷ drive 63220 1 0x06a00 ∷ drive 63220 7 0x10032 ∷ drive 63275 7 0x18032 ∷ drive 63275 1 0x02a00 ∷ drive 63275 7 0x10000 ∷ drive 63275 1 0x06a00 ∷ drive 63275 7 0x00008 ∷ drive 63365 7 0x08008 ∷ drive 63365 1 0x02a00 ∷ drive 63365 7 0x00000 ∷ drive 63365 1 0x03a00 ∷ drive 64165 1 0x03a01 ∷ drive 64220 1 0x07a01 ∷ drive 64220 7 0x08000 ∷ drive 64220 1 0x03b03 ∷ drive 64220 7 0x00000 ∷ drive 64275 1 0x07b03 ∷ drive 64275 7 0x08000 ∷ drive 64275 1 0x03a01 ∷ drive 64275 7 0x00000 ∷ drive 64330 1 0x07a01 ∷ drive 64330 7 0x08000 ∷ drive 64330 1 0x03a32 ∷ drive 64330 7 0x00000 ∷ drive 64385 1 0x07a32 ∷ drive 64385 7 0x08000 ∷ drive 64385 1 0x03a08 ∷ drive 64385 7 0x00000 ∷ drive 64440 1 0x07a08 ∷ drive 64440 7 0x08000 ∷ drive 64440 1 0x03a00 ∷ drive 64440 7 0x00000 ∷ drive 64440 1 0x00a00 ∷ drive 64840 1 0x04a00 ∷ drive 64840 7 0x00112 ∷ drive 64895 7 0x08112 ∷ drive 64895 1 0x00a00 ∷ drive 64895 7 0x00000 ∷ drive 64895 1 0x04a00 ∷ drive 64895 7 0x00100 ∷ drive 64950 7 0x08100 ∷ drive 64950 1 0x00a00 ∷ drive 64950 7 0x00000 ∷ drive 64950 1 0x04a00 ∷ drive 64950 7 0x00100 ∷ drive 65005 7 0x08100 ∷ drive 65005 1 0x00a00 ∷ drive 65005 7 0x00000 ∷ drive 65005 1 0x04a00 ∷ drive 65005 7 0x00100 ∷ drive 65060 7 0x08100 ∷ drive 65060 1 0x00a00 ∷ drive 65060 7 0x00000 ∷ drive 65060 1 0x04a00 ∷ drive 65060 7 0x00004 ∷ drive 65115 7 0x08004 ∷ drive 65115 1 0x00a00 ∷ drive 65115 7 0x00000 ∷ drive 65115 1 0x04a00 ∷ drive 65115 7 0x00100 ∷ drive 65170 7 0x08100 ∷ drive 65170 1 0x00a00 ∷ drive 65170 7 0x00000 ∷ drive 65170 1 0x01200 ∷ drive 65970 1 0x01300 ∷ drive 66025 1 0x05300 ∷ drive 66025 7 0x08000 ∷ drive 66115 7 0x00000 ∷ drive 66115 1 0x01300 ∷ drive 66225 1 0x05300 ∷ drive 66225 7 0x08000 ∷ drive 66315 7 0x00000 ∷ drive 66315 1 0x01300 ∷ drive 66325 1 0x01202 ∷ drive 66425 1 0x05202 ∷ drive 66425 7 0x08000 ∷ drive 66515 7 0x00000 ∷ drive 66515 1 0x01202 ∷ drive 66625 1 0x05202 ∷ drive 66625 7 0x08000 ∷ drive 66715 7 0x00000 ∷ drive 66715 1 0x01202 ∷ drive 66725 1 0x01200 ∷ drive 66725 1 0x01b00 ∷ drive 67125 1 0x05b00 ∷ drive 67125 7 0x08000 ∷ drive 67125 1 0x01a00 ∷ drive 67125 7 0x00000 ∷ drive 67125 1 0x03b00 ∷ drive 67525 1 0x07b00 ∷ drive 67525 7 0x08000 ∷ drive 67525 1 0x03a00 ∷ drive 67525 7 0x00000 ∷ drive 67525 1 0x00000 ∷ []
+
+abbrev device_reset_in_text_one_guard_events : List Event
+device_reset_in_text_one_guard_events = events.Aborted 6 0 0 aborts.Device ∷ events.Accept (command 1) ∷ events.Run (command 1) ∷ events.End (command 1) 0 ∷ events.Accept (command 2) ∷ events.Run (command 2) ∷ events.End (command 2) 0 ∷ []
+
+abbrev pub device_reset_in_text_one_guard_shown : Shows
+device_reset_in_text_one_guard_shown = record { rows = reverse device_reset_in_text_one_guard_rows; history = reverse device_reset_in_text_one_guard_events; ended = true }
+
+device_reset_in_text_one_guard_run : shows (run_by_due device_reset_in_text_one_guard 212) ≡ device_reset_in_text_one_guard_shown
+unfolding need_of sent_of ones union_below line_of form_out form_in least run_from
+device_reset_in_text_one_guard_run = refl
+
+-- ---- device_reset_of_one_target_guard
+
+abbrev pub device_reset_of_one_target_guard : ScenarioValue
+device_reset_of_one_target_guard = record {
+  version = 2;
+  hosts = record { dev = 7; latency = 0; most = 1; retries = 2; period = 50; offset = 8; lag = 0; offers = true } ∷ [];
+  targets = record { dev = 0; latency = 0; retries = 2; disc = policies.Never; pick = picks.First; seek = 0; period = 50; offset = 8; begins = false } ∷ record { dev = 1; latency = 0; retries = 2; disc = policies.Never; pick = picks.First; seek = 0; period = 50; offset = 8; begins = false } ∷ [];
+  units = record { target = 0; unit = 0; blocks = 1; size = 16; depth = 1 } ∷ record { target = 1; unit = 0; blocks = 1; size = 16; depth = 1 } ∷ [];
+  fills = [];
+  commands = record { host = 7; target = 1; unit = 0; at = 0; tag = tags.Untagged; cdb = (0 ∷ 0 ∷ 0 ∷ 0 ∷ 0 ∷ 0 ∷ []); payload = payloads.Nothing } ∷ record { host = 7; target = 1; unit = 0; at = 50000; tag = tags.Untagged; cdb = (0 ∷ 0 ∷ 0 ∷ 0 ∷ 0 ∷ 0 ∷ []); payload = payloads.Nothing } ∷ [];
+  aborts = record { host = 7; target = 0; unit = 0; at = 20000; what = aborts.Device } ∷ [];
+  resets = [];
+  faults = [];
+}
+
+abbrev pub device_reset_of_one_target_guard_rows : List Row
+device_reset_of_one_target_guard_rows = drive 1200 7 0x00280 ∷ drive 3600 7 0x00680 ∷ drive 4800 7 0x10782 ∷ drive 4890 7 0x10582 ∷ drive 5290 1 0x00200 ∷ drive 5380 7 0x10000 ∷ drive 5380 1 0x02a00 ∷ drive 5780 1 0x06a00 ∷ drive 5780 7 0x101c0 ∷ drive 5835 7 0x181c0 ∷ drive 5835 1 0x02a00 ∷ drive 5835 7 0x10000 ∷ drive 5835 1 0x06a00 ∷ drive 5835 7 0x10001 ∷ drive 5890 7 0x18001 ∷ drive 5890 1 0x02a00 ∷ drive 5890 7 0x10000 ∷ drive 5890 1 0x06a00 ∷ drive 5890 7 0x10103 ∷ drive 5945 7 0x18103 ∷ drive 5945 1 0x02a00 ∷ drive 5945 7 0x10000 ∷ drive 5945 1 0x06a00 ∷ drive 5945 7 0x10001 ∷ drive 6000 7 0x18001 ∷ drive 6000 1 0x02a00 ∷ drive 6000 7 0x10000 ∷ drive 6000 1 0x06a00 ∷ drive 6000 7 0x10032 ∷ drive 6055 7 0x18032 ∷ drive 6055 1 0x02a00 ∷ drive 6055 7 0x10000 ∷ drive 6055 1 0x06a00 ∷ drive 6055 7 0x00008 ∷ drive 6145 7 0x08008 ∷ drive 6145 1 0x02a00 ∷ drive 6145 7 0x00000 ∷ drive 6145 1 0x03a00 ∷ drive 6945 1 0x03a01 ∷ drive 7000 1 0x07a01 ∷ drive 7000 7 0x08000 ∷ drive 7000 1 0x03b03 ∷ drive 7000 7 0x00000 ∷ drive 7055 1 0x07b03 ∷ drive 7055 7 0x08000 ∷ drive 7055 1 0x03a01 ∷ drive 7055 7 0x00000 ∷ drive 7110 1 0x07a01 ∷ drive 7110 7 0x08000 ∷ drive 7110 1 0x03a32 ∷ drive 7110 7 0x00000 ∷ drive 7165 1 0x07a32 ∷ drive 7165 7 0x08000 ∷ drive 7165 1 0x03a08 ∷ drive 7165 7 0x00000 ∷ drive 7220 1 0x07a08 ∷ drive 7220 7 0x08000 ∷ drive 7220 1 0x03a00 ∷ drive 7220 7 0x00000 ∷ drive 7220 1 0x00a00 ∷ drive 7620 1 0x04a00 ∷ drive 7620 7 0x00100 ∷ drive 7675 7 0x08100 ∷ drive 7675 1 0x00a00 ∷ drive 7675 7 0x00000 ∷ drive 7675 1 0x04a00 ∷ drive 7675 7 0x00100 ∷ drive 7730 7 0x08100 ∷ drive 7730 1 0x00a00 ∷ drive 7730 7 0x00000 ∷ drive 7730 1 0x04a00 ∷ drive 7730 7 0x00100 ∷ drive 7785 7 0x08100 ∷ drive 7785 1 0x00a00 ∷ drive 7785 7 0x00000 ∷ drive 7785 1 0x04a00 ∷ drive 7785 7 0x00100 ∷ drive 7840 7 0x08100 ∷ drive 7840 1 0x00a00 ∷ drive 7840 7 0x00000 ∷ drive 7840 1 0x04a00 ∷ drive 7840 7 0x00100 ∷ drive 7895 7 0x08100 ∷ drive 7895 1 0x00a00 ∷ drive 7895 7 0x00000 ∷ drive 7895 1 0x04a00 ∷ drive 7895 7 0x00100 ∷ drive 7950 7 0x08100 ∷ drive 7950 1 0x00a00 ∷ drive 7950 7 0x00000 ∷ drive 7950 1 0x01a00 ∷ drive 8750 1 0x01b00 ∷ drive 8805 1 0x05b00 ∷ drive 8805 7 0x08000 ∷ drive 8805 1 0x01a00 ∷ drive 8805 7 0x00000 ∷ drive 8805 1 0x03b00 ∷ drive 9205 1 0x07b00 ∷ drive 9205 7 0x08000 ∷ drive 9205 1 0x03a00 ∷ drive 9205 7 0x00000 ∷ drive 9205 1 0x00000 ∷ drive 20000 7 0x00280 ∷ drive 22400 7 0x00680 ∷ drive 23600 7 0x10781 ∷ drive 23690 7 0x10581 ∷ drive 24090 0 0x00200 ∷ drive 24180 7 0x10000 ∷ drive 24180 0 0x02a00 ∷ drive 24580 0 0x06a00 ∷ drive 24580 7 0x10080 ∷ drive 24635 7 0x18080 ∷ drive 24635 0 0x02a00 ∷ drive 24635 7 0x10000 ∷ drive 24635 0 0x06a00 ∷ drive 24635 7 0x0010c ∷ drive 24725 7 0x0810c ∷ drive 24725 0 0x02a00 ∷ drive 24725 7 0x00000 ∷ drive 24725 0 0x00000 ∷ drive 50000 7 0x00280 ∷ drive 52400 7 0x00680 ∷ drive 53600 7 0x10782 ∷ drive 53690 7 0x10582 ∷ drive 54090 1 0x00200 ∷ drive 54180 7 0x10000 ∷ drive 54180 1 0x02a00 ∷ drive 54580 1 0x06a00 ∷ drive 54580 7 0x001c0 ∷ drive 54670 7 0x081c0 ∷ drive 54670 1 0x02a00 ∷ drive 54670 7 0x00000 ∷ drive 54670 1 0x00a00 ∷ drive 55070 1 0x04a00 ∷ drive 55070 7 0x00100 ∷ drive 55125 7 0x08100 ∷ drive 55125 1 0x00a00 ∷ drive 55125 7 0x00000 ∷ drive 55125 1 0x04a00 ∷ drive 55125 7 0x00100 ∷ drive 55180 7 0x08100 ∷ drive 55180 1 0x00a00 ∷ drive 55180 7 0x00000 ∷ drive 55180 1 0x04a00 ∷ drive 55180 7 0x00100 ∷ drive 55235 7 0x08100 ∷ drive 55235 1 0x00a00 ∷ drive 55235 7 0x00000 ∷ drive 55235 1 0x04a00 ∷ drive 55235 7 0x00100 ∷ drive 55290 7 0x08100 ∷ drive 55290 1 0x00a00 ∷ drive 55290 7 0x00000 ∷ drive 55290 1 0x04a00 ∷ drive 55290 7 0x00100 ∷ drive 55345 7 0x08100 ∷ drive 55345 1 0x00a00 ∷ drive 55345 7 0x00000 ∷ drive 55345 1 0x04a00 ∷ drive 55345 7 0x00100 ∷ drive 55400 7 0x08100 ∷ drive 55400 1 0x00a00 ∷ drive 55400 7 0x00000 ∷ drive 55400 1 0x01a00 ∷ drive 56200 1 0x01b00 ∷ drive 56255 1 0x05b00 ∷ drive 56255 7 0x08000 ∷ drive 56255 1 0x01a00 ∷ drive 56255 7 0x00000 ∷ drive 56255 1 0x03b00 ∷ drive 56655 1 0x07b00 ∷ drive 56655 7 0x08000 ∷ drive 56655 1 0x03a00 ∷ drive 56655 7 0x00000 ∷ drive 56655 1 0x00000 ∷ []
+
+abbrev device_reset_of_one_target_guard_events : List Event
+device_reset_of_one_target_guard_events = events.Accept (command 1) ∷ events.Run (command 1) ∷ events.End (command 1) 0 ∷ events.Aborted 7 0 0 aborts.Device ∷ events.Accept (command 2) ∷ events.Run (command 2) ∷ events.End (command 2) 0 ∷ []
+
+abbrev pub device_reset_of_one_target_guard_shown : Shows
+device_reset_of_one_target_guard_shown = record { rows = reverse device_reset_of_one_target_guard_rows; history = reverse device_reset_of_one_target_guard_events; ended = true }
+
+device_reset_of_one_target_guard_run : shows (run_by_due device_reset_of_one_target_guard 176) ≡ device_reset_of_one_target_guard_shown
+unfolding need_of sent_of ones union_below line_of form_out form_in least run_from
+device_reset_of_one_target_guard_run = refl
+
 -- ---- disconnect_struck_is_counted_guard
 
 abbrev pub disconnect_struck_is_counted_guard : ScenarioValue
@@ -348,6 +432,34 @@ faulty_inquiry_of_no_unit_guard_run : shows (run_by_due faulty_inquiry_of_no_uni
 unfolding need_of sent_of ones union_below line_of form_out form_in least run_from
 faulty_inquiry_of_no_unit_guard_run = refl
 
+-- ---- faulty_inquiry_with_attention_guard
+
+abbrev pub faulty_inquiry_with_attention_guard : ScenarioValue
+faulty_inquiry_with_attention_guard = record {
+  version = 1;
+  hosts = record { dev = 7; latency = 0; most = 4; retries = 2; period = 0; offset = 0; lag = 0; offers = true } ∷ [];
+  targets = record { dev = 0; latency = 0; retries = 2; disc = policies.Never; pick = picks.First; seek = 0; period = 0; offset = 0; begins = false } ∷ [];
+  units = record { target = 0; unit = 0; blocks = 1; size = 16; depth = 4 } ∷ [];
+  fills = [];
+  commands = record { host = 7; target = 0; unit = 0; at = 60000; tag = tags.Untagged; cdb = (18 ∷ 0 ∷ 0 ∷ 0 ∷ 36 ∷ 1 ∷ []); payload = payloads.Nothing } ∷ record { host = 7; target = 0; unit = 0; at = 60000; tag = tags.Untagged; cdb = (0 ∷ 0 ∷ 0 ∷ 0 ∷ 0 ∷ 0 ∷ []); payload = payloads.Nothing } ∷ [];
+  aborts = [];
+  resets = record { dev = 7; at = 1000 } ∷ [];
+  faults = [];
+}
+
+abbrev pub faulty_inquiry_with_attention_guard_rows : List Row
+faulty_inquiry_with_attention_guard_rows = drive 1000 7 0x20000 ∷ drive 26000 7 0x00000 ∷ drive 60000 7 0x00280 ∷ drive 62400 7 0x00680 ∷ drive 63600 7 0x10781 ∷ drive 63690 7 0x10581 ∷ drive 64090 0 0x00200 ∷ drive 64180 7 0x10000 ∷ drive 64180 0 0x02a00 ∷ drive 64580 0 0x06a00 ∷ drive 64580 7 0x001c0 ∷ drive 64670 7 0x081c0 ∷ drive 64670 0 0x02a00 ∷ drive 64670 7 0x00000 ∷ drive 64670 0 0x00a00 ∷ drive 65070 0 0x04a00 ∷ drive 65070 7 0x00112 ∷ drive 65125 7 0x08112 ∷ drive 65125 0 0x00a00 ∷ drive 65125 7 0x00000 ∷ drive 65125 0 0x04a00 ∷ drive 65125 7 0x00100 ∷ drive 65180 7 0x08100 ∷ drive 65180 0 0x00a00 ∷ drive 65180 7 0x00000 ∷ drive 65180 0 0x04a00 ∷ drive 65180 7 0x00100 ∷ drive 65235 7 0x08100 ∷ drive 65235 0 0x00a00 ∷ drive 65235 7 0x00000 ∷ drive 65235 0 0x04a00 ∷ drive 65235 7 0x00100 ∷ drive 65290 7 0x08100 ∷ drive 65290 0 0x00a00 ∷ drive 65290 7 0x00000 ∷ drive 65290 0 0x04a00 ∷ drive 65290 7 0x00124 ∷ drive 65345 7 0x08124 ∷ drive 65345 0 0x00a00 ∷ drive 65345 7 0x00000 ∷ drive 65345 0 0x04a00 ∷ drive 65345 7 0x00001 ∷ drive 65400 7 0x08001 ∷ drive 65400 0 0x00a00 ∷ drive 65400 7 0x00000 ∷ drive 65400 0 0x01a00 ∷ drive 66200 0 0x01a02 ∷ drive 66255 0 0x05a02 ∷ drive 66255 7 0x08000 ∷ drive 66255 0 0x01a00 ∷ drive 66255 7 0x00000 ∷ drive 66255 0 0x03b00 ∷ drive 66655 0 0x07b00 ∷ drive 66655 7 0x08000 ∷ drive 66655 0 0x03a00 ∷ drive 66655 7 0x00000 ∷ drive 66655 0 0x00000 ∷ drive 67855 7 0x00280 ∷ drive 70255 7 0x00680 ∷ drive 71455 7 0x10781 ∷ drive 71545 7 0x10581 ∷ drive 71945 0 0x00200 ∷ drive 72035 7 0x10000 ∷ drive 72035 0 0x02a00 ∷ drive 72435 0 0x06a00 ∷ drive 72435 7 0x00080 ∷ drive 72525 7 0x08080 ∷ drive 72525 0 0x02a00 ∷ drive 72525 7 0x00000 ∷ drive 72525 0 0x00a00 ∷ drive 72925 0 0x04a00 ∷ drive 72925 7 0x00103 ∷ drive 72980 7 0x08103 ∷ drive 72980 0 0x00a00 ∷ drive 72980 7 0x00000 ∷ drive 72980 0 0x04a00 ∷ drive 72980 7 0x00100 ∷ drive 73035 7 0x08100 ∷ drive 73035 0 0x00a00 ∷ drive 73035 7 0x00000 ∷ drive 73035 0 0x04a00 ∷ drive 73035 7 0x00100 ∷ drive 73090 7 0x08100 ∷ drive 73090 0 0x00a00 ∷ drive 73090 7 0x00000 ∷ drive 73090 0 0x04a00 ∷ drive 73090 7 0x00100 ∷ drive 73145 7 0x08100 ∷ drive 73145 0 0x00a00 ∷ drive 73145 7 0x00000 ∷ drive 73145 0 0x04a00 ∷ drive 73145 7 0x00112 ∷ drive 73200 7 0x08112 ∷ drive 73200 0 0x00a00 ∷ drive 73200 7 0x00000 ∷ drive 73200 0 0x04a00 ∷ drive 73200 7 0x00100 ∷ drive 73255 7 0x08100 ∷ drive 73255 0 0x00a00 ∷ drive 73255 7 0x00000 ∷ drive 73255 0 0x01200 ∷ drive 74055 0 0x01270 ∷ drive 74110 0 0x05270 ∷ drive 74110 7 0x08000 ∷ drive 74110 0 0x01300 ∷ drive 74110 7 0x00000 ∷ drive 74165 0 0x05300 ∷ drive 74165 7 0x08000 ∷ drive 74165 0 0x01305 ∷ drive 74165 7 0x00000 ∷ drive 74220 0 0x05305 ∷ drive 74220 7 0x08000 ∷ drive 74220 0 0x01300 ∷ drive 74220 7 0x00000 ∷ drive 74275 0 0x05300 ∷ drive 74275 7 0x08000 ∷ drive 74275 0 0x01300 ∷ drive 74275 7 0x00000 ∷ drive 74330 0 0x05300 ∷ drive 74330 7 0x08000 ∷ drive 74330 0 0x01300 ∷ drive 74330 7 0x00000 ∷ drive 74385 0 0x05300 ∷ drive 74385 7 0x08000 ∷ drive 74385 0 0x01300 ∷ drive 74385 7 0x00000 ∷ drive 74440 0 0x05300 ∷ drive 74440 7 0x08000 ∷ drive 74440 0 0x0130a ∷ drive 74440 7 0x00000 ∷ drive 74495 0 0x0530a ∷ drive 74495 7 0x08000 ∷ drive 74495 0 0x01300 ∷ drive 74495 7 0x00000 ∷ drive 74550 0 0x05300 ∷ drive 74550 7 0x08000 ∷ drive 74550 0 0x01300 ∷ drive 74550 7 0x00000 ∷ drive 74605 0 0x05300 ∷ drive 74605 7 0x08000 ∷ drive 74605 0 0x01300 ∷ drive 74605 7 0x00000 ∷ drive 74660 0 0x05300 ∷ drive 74660 7 0x08000 ∷ drive 74660 0 0x01300 ∷ drive 74660 7 0x00000 ∷ drive 74715 0 0x05300 ∷ drive 74715 7 0x08000 ∷ drive 74715 0 0x01324 ∷ drive 74715 7 0x00000 ∷ drive 74770 0 0x05324 ∷ drive 74770 7 0x08000 ∷ drive 74770 0 0x01300 ∷ drive 74770 7 0x00000 ∷ drive 74825 0 0x05300 ∷ drive 74825 7 0x08000 ∷ drive 74825 0 0x01300 ∷ drive 74825 7 0x00000 ∷ drive 74880 0 0x05300 ∷ drive 74880 7 0x08000 ∷ drive 74880 0 0x01300 ∷ drive 74880 7 0x00000 ∷ drive 74935 0 0x05300 ∷ drive 74935 7 0x08000 ∷ drive 74935 0 0x01300 ∷ drive 74935 7 0x00000 ∷ drive 74990 0 0x05300 ∷ drive 74990 7 0x08000 ∷ drive 74990 0 0x01300 ∷ drive 74990 7 0x00000 ∷ drive 75045 0 0x05300 ∷ drive 75045 7 0x08000 ∷ drive 75045 0 0x01200 ∷ drive 75045 7 0x00000 ∷ drive 75045 0 0x01b00 ∷ drive 75445 0 0x05b00 ∷ drive 75445 7 0x08000 ∷ drive 75445 0 0x01a00 ∷ drive 75445 7 0x00000 ∷ drive 75445 0 0x03b00 ∷ drive 75845 0 0x07b00 ∷ drive 75845 7 0x08000 ∷ drive 75845 0 0x03a00 ∷ drive 75845 7 0x00000 ∷ drive 75845 0 0x00000 ∷ drive 77045 7 0x00280 ∷ drive 79445 7 0x00680 ∷ drive 80645 7 0x10781 ∷ drive 80735 7 0x10581 ∷ drive 81135 0 0x00200 ∷ drive 81225 7 0x10000 ∷ drive 81225 0 0x02a00 ∷ drive 81625 0 0x06a00 ∷ drive 81625 7 0x001c0 ∷ drive 81715 7 0x081c0 ∷ drive 81715 0 0x02a00 ∷ drive 81715 7 0x00000 ∷ drive 81715 0 0x00a00 ∷ drive 82115 0 0x04a00 ∷ drive 82115 7 0x00100 ∷ drive 82170 7 0x08100 ∷ drive 82170 0 0x00a00 ∷ drive 82170 7 0x00000 ∷ drive 82170 0 0x04a00 ∷ drive 82170 7 0x00100 ∷ drive 82225 7 0x08100 ∷ drive 82225 0 0x00a00 ∷ drive 82225 7 0x00000 ∷ drive 82225 0 0x04a00 ∷ drive 82225 7 0x00100 ∷ drive 82280 7 0x08100 ∷ drive 82280 0 0x00a00 ∷ drive 82280 7 0x00000 ∷ drive 82280 0 0x04a00 ∷ drive 82280 7 0x00100 ∷ drive 82335 7 0x08100 ∷ drive 82335 0 0x00a00 ∷ drive 82335 7 0x00000 ∷ drive 82335 0 0x04a00 ∷ drive 82335 7 0x00100 ∷ drive 82390 7 0x08100 ∷ drive 82390 0 0x00a00 ∷ drive 82390 7 0x00000 ∷ drive 82390 0 0x04a00 ∷ drive 82390 7 0x00100 ∷ drive 82445 7 0x08100 ∷ drive 82445 0 0x00a00 ∷ drive 82445 7 0x00000 ∷ drive 82445 0 0x01a00 ∷ drive 83245 0 0x01a02 ∷ drive 83300 0 0x05a02 ∷ drive 83300 7 0x08000 ∷ drive 83300 0 0x01a00 ∷ drive 83300 7 0x00000 ∷ drive 83300 0 0x03b00 ∷ drive 83700 0 0x07b00 ∷ drive 83700 7 0x08000 ∷ drive 83700 0 0x03a00 ∷ drive 83700 7 0x00000 ∷ drive 83700 0 0x00000 ∷ drive 84900 7 0x00280 ∷ drive 87300 7 0x00680 ∷ drive 88500 7 0x10781 ∷ drive 88590 7 0x10581 ∷ drive 88990 0 0x00200 ∷ drive 89080 7 0x10000 ∷ drive 89080 0 0x02a00 ∷ drive 89480 0 0x06a00 ∷ drive 89480 7 0x00080 ∷ drive 89570 7 0x08080 ∷ drive 89570 0 0x02a00 ∷ drive 89570 7 0x00000 ∷ drive 89570 0 0x00a00 ∷ drive 89970 0 0x04a00 ∷ drive 89970 7 0x00103 ∷ drive 90025 7 0x08103 ∷ drive 90025 0 0x00a00 ∷ drive 90025 7 0x00000 ∷ drive 90025 0 0x04a00 ∷ drive 90025 7 0x00100 ∷ drive 90080 7 0x08100 ∷ drive 90080 0 0x00a00 ∷ drive 90080 7 0x00000 ∷ drive 90080 0 0x04a00 ∷ drive 90080 7 0x00100 ∷ drive 90135 7 0x08100 ∷ drive 90135 0 0x00a00 ∷ drive 90135 7 0x00000 ∷ drive 90135 0 0x04a00 ∷ drive 90135 7 0x00100 ∷ drive 90190 7 0x08100 ∷ drive 90190 0 0x00a00 ∷ drive 90190 7 0x00000 ∷ drive 90190 0 0x04a00 ∷ drive 90190 7 0x00112 ∷ drive 90245 7 0x08112 ∷ drive 90245 0 0x00a00 ∷ drive 90245 7 0x00000 ∷ drive 90245 0 0x04a00 ∷ drive 90245 7 0x00100 ∷ drive 90300 7 0x08100 ∷ drive 90300 0 0x00a00 ∷ drive 90300 7 0x00000 ∷ drive 90300 0 0x01200 ∷ drive 91100 0 0x01270 ∷ drive 91155 0 0x05270 ∷ drive 91155 7 0x08000 ∷ drive 91155 0 0x01300 ∷ drive 91155 7 0x00000 ∷ drive 91210 0 0x05300 ∷ drive 91210 7 0x08000 ∷ drive 91210 0 0x01306 ∷ drive 91210 7 0x00000 ∷ drive 91265 0 0x05306 ∷ drive 91265 7 0x08000 ∷ drive 91265 0 0x01300 ∷ drive 91265 7 0x00000 ∷ drive 91320 0 0x05300 ∷ drive 91320 7 0x08000 ∷ drive 91320 0 0x01300 ∷ drive 91320 7 0x00000 ∷ drive 91375 0 0x05300 ∷ drive 91375 7 0x08000 ∷ drive 91375 0 0x01300 ∷ drive 91375 7 0x00000 ∷ drive 91430 0 0x05300 ∷ drive 91430 7 0x08000 ∷ drive 91430 0 0x01300 ∷ drive 91430 7 0x00000 ∷ drive 91485 0 0x05300 ∷ drive 91485 7 0x08000 ∷ drive 91485 0 0x0130a ∷ drive 91485 7 0x00000 ∷ drive 91540 0 0x0530a ∷ drive 91540 7 0x08000 ∷ drive 91540 0 0x01300 ∷ drive 91540 7 0x00000 ∷ drive 91595 0 0x05300 ∷ drive 91595 7 0x08000 ∷ drive 91595 0 0x01300 ∷ drive 91595 7 0x00000 ∷ drive 91650 0 0x05300 ∷ drive 91650 7 0x08000 ∷ drive 91650 0 0x01300 ∷ drive 91650 7 0x00000 ∷ drive 91705 0 0x05300 ∷ drive 91705 7 0x08000 ∷ drive 91705 0 0x01300 ∷ drive 91705 7 0x00000 ∷ drive 91760 0 0x05300 ∷ drive 91760 7 0x08000 ∷ drive 91760 0 0x01229 ∷ drive 91760 7 0x00000 ∷ drive 91815 0 0x05229 ∷ drive 91815 7 0x08000 ∷ drive 91815 0 0x01300 ∷ drive 91815 7 0x00000 ∷ drive 91870 0 0x05300 ∷ drive 91870 7 0x08000 ∷ drive 91870 0 0x01300 ∷ drive 91870 7 0x00000 ∷ drive 91925 0 0x05300 ∷ drive 91925 7 0x08000 ∷ drive 91925 0 0x01300 ∷ drive 91925 7 0x00000 ∷ drive 91980 0 0x05300 ∷ drive 91980 7 0x08000 ∷ drive 91980 0 0x01300 ∷ drive 91980 7 0x00000 ∷ drive 92035 0 0x05300 ∷ drive 92035 7 0x08000 ∷ drive 92035 0 0x01300 ∷ drive 92035 7 0x00000 ∷ drive 92090 0 0x05300 ∷ drive 92090 7 0x08000 ∷ drive 92090 0 0x01200 ∷ drive 92090 7 0x00000 ∷ drive 92090 0 0x01b00 ∷ drive 92490 0 0x05b00 ∷ drive 92490 7 0x08000 ∷ drive 92490 0 0x01a00 ∷ drive 92490 7 0x00000 ∷ drive 92490 0 0x03b00 ∷ drive 92890 0 0x07b00 ∷ drive 92890 7 0x08000 ∷ drive 92890 0 0x03a00 ∷ drive 92890 7 0x00000 ∷ drive 92890 0 0x00000 ∷ []
+
+abbrev faulty_inquiry_with_attention_guard_events : List Event
+faulty_inquiry_with_attention_guard_events = events.Reset 7 ∷ events.Accept (command 1) ∷ events.Run (command 1) ∷ events.End (command 1) 2 ∷ events.Accept (sense 1) ∷ events.Run (sense 1) ∷ events.End (sense 1) 0 ∷ events.Accept (command 2) ∷ events.Run (command 2) ∷ events.End (command 2) 2 ∷ events.Accept (sense 2) ∷ events.Run (sense 2) ∷ events.End (sense 2) 0 ∷ []
+
+abbrev pub faulty_inquiry_with_attention_guard_shown : Shows
+faulty_inquiry_with_attention_guard_shown = record { rows = reverse faulty_inquiry_with_attention_guard_rows; history = reverse faulty_inquiry_with_attention_guard_events; ended = true }
+
+faulty_inquiry_with_attention_guard_run : shows (run_by_due faulty_inquiry_with_attention_guard 369) ≡ faulty_inquiry_with_attention_guard_shown
+unfolding need_of sent_of ones union_below line_of form_out form_in least run_from
+faulty_inquiry_with_attention_guard_run = refl
+
 -- ---- faulty_sense_with_attention_guard
 
 abbrev pub faulty_sense_with_attention_guard : ScenarioValue
@@ -375,6 +487,34 @@ faulty_sense_with_attention_guard_shown = record { rows = reverse faulty_sense_w
 faulty_sense_with_attention_guard_run : shows (run_by_due faulty_sense_with_attention_guard 369) ≡ faulty_sense_with_attention_guard_shown
 unfolding need_of sent_of ones union_below line_of form_out form_in least run_from
 faulty_sense_with_attention_guard_run = refl
+
+-- ---- never_behind_a_current_process_guard
+
+abbrev pub never_behind_a_current_process_guard : ScenarioValue
+never_behind_a_current_process_guard = record {
+  version = 1;
+  hosts = record { dev = 7; latency = 0; most = 1; retries = 2; period = 0; offset = 0; lag = 0; offers = true } ∷ record { dev = 6; latency = 0; most = 1; retries = 2; period = 0; offset = 0; lag = 0; offers = true } ∷ [];
+  targets = record { dev = 0; latency = 0; retries = 2; disc = policies.Never; pick = picks.First; seek = 9000; period = 0; offset = 0; begins = false } ∷ [];
+  units = record { target = 0; unit = 0; blocks = 1; size = 16; depth = 4 } ∷ [];
+  fills = [];
+  commands = record { host = 6; target = 0; unit = 0; at = 0; tag = tags.Untagged; cdb = (8 ∷ 0 ∷ 0 ∷ 9 ∷ 1 ∷ 0 ∷ []); payload = payloads.Nothing } ∷ record { host = 7; target = 0; unit = 0; at = 5000; tag = tags.Untagged; cdb = (0 ∷ 0 ∷ 0 ∷ 0 ∷ 0 ∷ 0 ∷ []); payload = payloads.Nothing } ∷ record { host = 6; target = 0; unit = 0; at = 0; tag = tags.Untagged; cdb = (0 ∷ 0 ∷ 0 ∷ 0 ∷ 0 ∷ 0 ∷ []); payload = payloads.Nothing } ∷ [];
+  aborts = [];
+  resets = [];
+  faults = [];
+}
+
+abbrev pub never_behind_a_current_process_guard_rows : List Row
+never_behind_a_current_process_guard_rows = drive 1200 6 0x00240 ∷ drive 3600 6 0x00640 ∷ drive 4800 6 0x10741 ∷ drive 4890 6 0x10541 ∷ drive 5290 0 0x00200 ∷ drive 5380 6 0x10000 ∷ drive 5380 0 0x02a00 ∷ drive 5780 0 0x06a00 ∷ drive 5780 6 0x001c0 ∷ drive 5870 6 0x081c0 ∷ drive 5870 0 0x02a00 ∷ drive 5870 6 0x00000 ∷ drive 5870 0 0x00a00 ∷ drive 6270 0 0x04a00 ∷ drive 6270 6 0x00008 ∷ drive 6325 6 0x08008 ∷ drive 6325 0 0x00a00 ∷ drive 6325 6 0x00000 ∷ drive 6325 0 0x04a00 ∷ drive 6325 6 0x00100 ∷ drive 6380 6 0x08100 ∷ drive 6380 0 0x00a00 ∷ drive 6380 6 0x00000 ∷ drive 6380 0 0x04a00 ∷ drive 6380 6 0x00100 ∷ drive 6435 6 0x08100 ∷ drive 6435 0 0x00a00 ∷ drive 6435 6 0x00000 ∷ drive 6435 0 0x04a00 ∷ drive 6435 6 0x00109 ∷ drive 6490 6 0x08109 ∷ drive 6490 0 0x00a00 ∷ drive 6490 6 0x00000 ∷ drive 6490 0 0x04a00 ∷ drive 6490 6 0x00001 ∷ drive 6545 6 0x08001 ∷ drive 6545 0 0x00a00 ∷ drive 6545 6 0x00000 ∷ drive 6545 0 0x04a00 ∷ drive 6545 6 0x00100 ∷ drive 6600 6 0x08100 ∷ drive 6600 0 0x00a00 ∷ drive 6600 6 0x00000 ∷ drive 15600 0 0x01a00 ∷ drive 16400 0 0x01a02 ∷ drive 16455 0 0x05a02 ∷ drive 16455 6 0x08000 ∷ drive 16455 0 0x01a00 ∷ drive 16455 6 0x00000 ∷ drive 16455 0 0x03b00 ∷ drive 16855 0 0x07b00 ∷ drive 16855 6 0x08000 ∷ drive 16855 0 0x03a00 ∷ drive 16855 6 0x00000 ∷ drive 16855 0 0x00000 ∷ drive 18055 7 0x00280 ∷ drive 18055 6 0x00240 ∷ drive 20455 7 0x00680 ∷ drive 20455 6 0x00000 ∷ drive 21655 7 0x10781 ∷ drive 21745 7 0x10581 ∷ drive 22145 0 0x00200 ∷ drive 22235 7 0x10000 ∷ drive 22235 0 0x02a00 ∷ drive 22635 0 0x06a00 ∷ drive 22635 7 0x001c0 ∷ drive 22725 7 0x081c0 ∷ drive 22725 0 0x02a00 ∷ drive 22725 7 0x00000 ∷ drive 22725 0 0x00a00 ∷ drive 23125 0 0x04a00 ∷ drive 23125 7 0x00100 ∷ drive 23180 7 0x08100 ∷ drive 23180 0 0x00a00 ∷ drive 23180 7 0x00000 ∷ drive 23180 0 0x04a00 ∷ drive 23180 7 0x00100 ∷ drive 23235 7 0x08100 ∷ drive 23235 0 0x00a00 ∷ drive 23235 7 0x00000 ∷ drive 23235 0 0x04a00 ∷ drive 23235 7 0x00100 ∷ drive 23290 7 0x08100 ∷ drive 23290 0 0x00a00 ∷ drive 23290 7 0x00000 ∷ drive 23290 0 0x04a00 ∷ drive 23290 7 0x00100 ∷ drive 23345 7 0x08100 ∷ drive 23345 0 0x00a00 ∷ drive 23345 7 0x00000 ∷ drive 23345 0 0x04a00 ∷ drive 23345 7 0x00100 ∷ drive 23400 7 0x08100 ∷ drive 23400 0 0x00a00 ∷ drive 23400 7 0x00000 ∷ drive 23400 0 0x04a00 ∷ drive 23400 7 0x00100 ∷ drive 23455 7 0x08100 ∷ drive 23455 0 0x00a00 ∷ drive 23455 7 0x00000 ∷ drive 23455 0 0x03a00 ∷ drive 24255 0 0x03a04 ∷ drive 24310 0 0x07a04 ∷ drive 24310 7 0x08000 ∷ drive 24310 0 0x03a00 ∷ drive 24310 7 0x00000 ∷ drive 24310 0 0x00000 ∷ drive 25510 6 0x00240 ∷ drive 27910 6 0x00640 ∷ drive 29110 6 0x10741 ∷ drive 29200 6 0x10541 ∷ drive 29600 0 0x00200 ∷ drive 29690 6 0x10000 ∷ drive 29690 0 0x02a00 ∷ drive 30090 0 0x06a00 ∷ drive 30090 6 0x00080 ∷ drive 30180 6 0x08080 ∷ drive 30180 0 0x02a00 ∷ drive 30180 6 0x00000 ∷ drive 30180 0 0x00a00 ∷ drive 30580 0 0x04a00 ∷ drive 30580 6 0x00103 ∷ drive 30635 6 0x08103 ∷ drive 30635 0 0x00a00 ∷ drive 30635 6 0x00000 ∷ drive 30635 0 0x04a00 ∷ drive 30635 6 0x00100 ∷ drive 30690 6 0x08100 ∷ drive 30690 0 0x00a00 ∷ drive 30690 6 0x00000 ∷ drive 30690 0 0x04a00 ∷ drive 30690 6 0x00100 ∷ drive 30745 6 0x08100 ∷ drive 30745 0 0x00a00 ∷ drive 30745 6 0x00000 ∷ drive 30745 0 0x04a00 ∷ drive 30745 6 0x00100 ∷ drive 30800 6 0x08100 ∷ drive 30800 0 0x00a00 ∷ drive 30800 6 0x00000 ∷ drive 30800 0 0x04a00 ∷ drive 30800 6 0x00112 ∷ drive 30855 6 0x08112 ∷ drive 30855 0 0x00a00 ∷ drive 30855 6 0x00000 ∷ drive 30855 0 0x04a00 ∷ drive 30855 6 0x00100 ∷ drive 30910 6 0x08100 ∷ drive 30910 0 0x00a00 ∷ drive 30910 6 0x00000 ∷ drive 30910 0 0x01200 ∷ drive 31710 0 0x01270 ∷ drive 31765 0 0x05270 ∷ drive 31765 6 0x08000 ∷ drive 31765 0 0x01300 ∷ drive 31765 6 0x00000 ∷ drive 31820 0 0x05300 ∷ drive 31820 6 0x08000 ∷ drive 31820 0 0x01305 ∷ drive 31820 6 0x00000 ∷ drive 31875 0 0x05305 ∷ drive 31875 6 0x08000 ∷ drive 31875 0 0x01300 ∷ drive 31875 6 0x00000 ∷ drive 31930 0 0x05300 ∷ drive 31930 6 0x08000 ∷ drive 31930 0 0x01300 ∷ drive 31930 6 0x00000 ∷ drive 31985 0 0x05300 ∷ drive 31985 6 0x08000 ∷ drive 31985 0 0x01300 ∷ drive 31985 6 0x00000 ∷ drive 32040 0 0x05300 ∷ drive 32040 6 0x08000 ∷ drive 32040 0 0x01300 ∷ drive 32040 6 0x00000 ∷ drive 32095 0 0x05300 ∷ drive 32095 6 0x08000 ∷ drive 32095 0 0x0130a ∷ drive 32095 6 0x00000 ∷ drive 32150 0 0x0530a ∷ drive 32150 6 0x08000 ∷ drive 32150 0 0x01300 ∷ drive 32150 6 0x00000 ∷ drive 32205 0 0x05300 ∷ drive 32205 6 0x08000 ∷ drive 32205 0 0x01300 ∷ drive 32205 6 0x00000 ∷ drive 32260 0 0x05300 ∷ drive 32260 6 0x08000 ∷ drive 32260 0 0x01300 ∷ drive 32260 6 0x00000 ∷ drive 32315 0 0x05300 ∷ drive 32315 6 0x08000 ∷ drive 32315 0 0x01300 ∷ drive 32315 6 0x00000 ∷ drive 32370 0 0x05300 ∷ drive 32370 6 0x08000 ∷ drive 32370 0 0x01321 ∷ drive 32370 6 0x00000 ∷ drive 32425 0 0x05321 ∷ drive 32425 6 0x08000 ∷ drive 32425 0 0x01300 ∷ drive 32425 6 0x00000 ∷ drive 32480 0 0x05300 ∷ drive 32480 6 0x08000 ∷ drive 32480 0 0x01300 ∷ drive 32480 6 0x00000 ∷ drive 32535 0 0x05300 ∷ drive 32535 6 0x08000 ∷ drive 32535 0 0x01300 ∷ drive 32535 6 0x00000 ∷ drive 32590 0 0x05300 ∷ drive 32590 6 0x08000 ∷ drive 32590 0 0x01300 ∷ drive 32590 6 0x00000 ∷ drive 32645 0 0x05300 ∷ drive 32645 6 0x08000 ∷ drive 32645 0 0x01300 ∷ drive 32645 6 0x00000 ∷ drive 32700 0 0x05300 ∷ drive 32700 6 0x08000 ∷ drive 32700 0 0x01200 ∷ drive 32700 6 0x00000 ∷ drive 32700 0 0x01b00 ∷ drive 33100 0 0x05b00 ∷ drive 33100 6 0x08000 ∷ drive 33100 0 0x01a00 ∷ drive 33100 6 0x00000 ∷ drive 33100 0 0x03b00 ∷ drive 33500 0 0x07b00 ∷ drive 33500 6 0x08000 ∷ drive 33500 0 0x03a00 ∷ drive 33500 6 0x00000 ∷ drive 33500 0 0x00000 ∷ drive 34700 6 0x00240 ∷ drive 37100 6 0x00640 ∷ drive 38300 6 0x10741 ∷ drive 38390 6 0x10541 ∷ drive 38790 0 0x00200 ∷ drive 38880 6 0x10000 ∷ drive 38880 0 0x02a00 ∷ drive 39280 0 0x06a00 ∷ drive 39280 6 0x001c0 ∷ drive 39370 6 0x081c0 ∷ drive 39370 0 0x02a00 ∷ drive 39370 6 0x00000 ∷ drive 39370 0 0x00a00 ∷ drive 39770 0 0x04a00 ∷ drive 39770 6 0x00100 ∷ drive 39825 6 0x08100 ∷ drive 39825 0 0x00a00 ∷ drive 39825 6 0x00000 ∷ drive 39825 0 0x04a00 ∷ drive 39825 6 0x00100 ∷ drive 39880 6 0x08100 ∷ drive 39880 0 0x00a00 ∷ drive 39880 6 0x00000 ∷ drive 39880 0 0x04a00 ∷ drive 39880 6 0x00100 ∷ drive 39935 6 0x08100 ∷ drive 39935 0 0x00a00 ∷ drive 39935 6 0x00000 ∷ drive 39935 0 0x04a00 ∷ drive 39935 6 0x00100 ∷ drive 39990 6 0x08100 ∷ drive 39990 0 0x00a00 ∷ drive 39990 6 0x00000 ∷ drive 39990 0 0x04a00 ∷ drive 39990 6 0x00100 ∷ drive 40045 6 0x08100 ∷ drive 40045 0 0x00a00 ∷ drive 40045 6 0x00000 ∷ drive 40045 0 0x04a00 ∷ drive 40045 6 0x00100 ∷ drive 40100 6 0x08100 ∷ drive 40100 0 0x00a00 ∷ drive 40100 6 0x00000 ∷ drive 40100 0 0x03a00 ∷ drive 40900 0 0x03a04 ∷ drive 40955 0 0x07a04 ∷ drive 40955 6 0x08000 ∷ drive 40955 0 0x03a00 ∷ drive 40955 6 0x00000 ∷ drive 40955 0 0x00000 ∷ drive 42500 0 0x00201 ∷ drive 44900 0 0x00601 ∷ drive 46100 0 0x01781 ∷ drive 46190 0 0x01581 ∷ drive 46590 7 0x00200 ∷ drive 46590 0 0x01781 ∷ drive 46680 0 0x03a80 ∷ drive 46680 7 0x00000 ∷ drive 47080 0 0x07a80 ∷ drive 47080 7 0x08000 ∷ drive 47080 0 0x03a00 ∷ drive 47080 7 0x00000 ∷ drive 47080 0 0x01b00 ∷ drive 47480 0 0x05b00 ∷ drive 47480 7 0x08000 ∷ drive 47480 0 0x01a00 ∷ drive 47480 7 0x00000 ∷ drive 47480 0 0x03b00 ∷ drive 47880 0 0x07b00 ∷ drive 47880 7 0x08000 ∷ drive 47880 0 0x03a00 ∷ drive 47880 7 0x00000 ∷ drive 47880 0 0x00000 ∷ drive 56880 0 0x00201 ∷ drive 59280 0 0x00601 ∷ drive 60480 0 0x01741 ∷ drive 60570 0 0x01541 ∷ drive 60970 6 0x00200 ∷ drive 60970 0 0x01741 ∷ drive 61060 0 0x03a80 ∷ drive 61060 6 0x00000 ∷ drive 61460 0 0x07a80 ∷ drive 61460 6 0x08000 ∷ drive 61460 0 0x03a00 ∷ drive 61460 6 0x00000 ∷ drive 61460 0 0x01b00 ∷ drive 61860 0 0x05b00 ∷ drive 61860 6 0x08000 ∷ drive 61860 0 0x01a00 ∷ drive 61860 6 0x00000 ∷ drive 61860 0 0x03b00 ∷ drive 62260 0 0x07b00 ∷ drive 62260 6 0x08000 ∷ drive 62260 0 0x03a00 ∷ drive 62260 6 0x00000 ∷ drive 62260 0 0x00000 ∷ []
+
+abbrev never_behind_a_current_process_guard_events : List Event
+never_behind_a_current_process_guard_events = events.Accept (command 1) ∷ events.Run (command 1) ∷ events.End (command 1) 2 ∷ events.Accept (command 2) ∷ events.Accept (sense 1) ∷ events.Run (sense 1) ∷ events.End (sense 1) 0 ∷ events.Accept (command 3) ∷ events.Run (command 2) ∷ events.End (command 2) 0 ∷ events.Run (command 3) ∷ events.End (command 3) 0 ∷ []
+
+abbrev pub never_behind_a_current_process_guard_shown : Shows
+never_behind_a_current_process_guard_shown = record { rows = reverse never_behind_a_current_process_guard_rows; history = reverse never_behind_a_current_process_guard_events; ended = true }
+
+never_behind_a_current_process_guard_run : shows (run_by_due never_behind_a_current_process_guard 332) ≡ never_behind_a_current_process_guard_shown
+unfolding need_of sent_of ones union_below line_of form_out form_in least run_from
+never_behind_a_current_process_guard_run = refl
 
 -- ---- own_sense_and_device_guard
 
@@ -431,6 +571,34 @@ own_sense_and_queue_guard_shown = record { rows = reverse own_sense_and_queue_gu
 own_sense_and_queue_guard_run : shows (run_by_due own_sense_and_queue_guard 202) ≡ own_sense_and_queue_guard_shown
 unfolding need_of sent_of ones union_below line_of form_out form_in least run_from
 own_sense_and_queue_guard_run = refl
+
+-- ---- own_sense_and_tag_guard
+
+abbrev pub own_sense_and_tag_guard : ScenarioValue
+own_sense_and_tag_guard = record {
+  version = 1;
+  hosts = record { dev = 7; latency = 0; most = 4; retries = 2; period = 0; offset = 0; lag = 0; offers = true } ∷ [];
+  targets = record { dev = 0; latency = 0; retries = 2; disc = policies.Never; pick = picks.First; seek = 0; period = 0; offset = 0; begins = false } ∷ [];
+  units = record { target = 0; unit = 0; blocks = 1; size = 16; depth = 4 } ∷ [];
+  fills = [];
+  commands = record { host = 7; target = 0; unit = 0; at = 0; tag = tags.Untagged; cdb = (8 ∷ 0 ∷ 0 ∷ 1 ∷ 1 ∷ 0 ∷ []); payload = payloads.Nothing } ∷ [];
+  aborts = record { host = 7; target = 0; unit = 0; at = 5000; what = (aborts.Tag 5) } ∷ [];
+  resets = [];
+  faults = [];
+}
+
+abbrev pub own_sense_and_tag_guard_rows : List Row
+own_sense_and_tag_guard_rows = drive 1200 7 0x00280 ∷ drive 3600 7 0x00680 ∷ drive 4800 7 0x10781 ∷ drive 4890 7 0x10581 ∷ drive 5290 0 0x00200 ∷ drive 5380 7 0x10000 ∷ drive 5380 0 0x02a00 ∷ drive 5780 0 0x06a00 ∷ drive 5780 7 0x001c0 ∷ drive 5870 7 0x081c0 ∷ drive 5870 0 0x02a00 ∷ drive 5870 7 0x00000 ∷ drive 5870 0 0x00a00 ∷ drive 6270 0 0x04a00 ∷ drive 6270 7 0x00008 ∷ drive 6325 7 0x08008 ∷ drive 6325 0 0x00a00 ∷ drive 6325 7 0x00000 ∷ drive 6325 0 0x04a00 ∷ drive 6325 7 0x00100 ∷ drive 6380 7 0x08100 ∷ drive 6380 0 0x00a00 ∷ drive 6380 7 0x00000 ∷ drive 6380 0 0x04a00 ∷ drive 6380 7 0x00100 ∷ drive 6435 7 0x08100 ∷ drive 6435 0 0x00a00 ∷ drive 6435 7 0x00000 ∷ drive 6435 0 0x04a00 ∷ drive 6435 7 0x00001 ∷ drive 6490 7 0x08001 ∷ drive 6490 0 0x00a00 ∷ drive 6490 7 0x00000 ∷ drive 6490 0 0x04a00 ∷ drive 6490 7 0x00001 ∷ drive 6545 7 0x08001 ∷ drive 6545 0 0x00a00 ∷ drive 6545 7 0x00000 ∷ drive 6545 0 0x04a00 ∷ drive 6545 7 0x00100 ∷ drive 6600 7 0x08100 ∷ drive 6600 0 0x00a00 ∷ drive 6600 7 0x00000 ∷ drive 6600 0 0x01a00 ∷ drive 7400 0 0x01a02 ∷ drive 7455 0 0x05a02 ∷ drive 7455 7 0x08000 ∷ drive 7455 0 0x01a00 ∷ drive 7455 7 0x00000 ∷ drive 7455 0 0x03b00 ∷ drive 7855 0 0x07b00 ∷ drive 7855 7 0x08000 ∷ drive 7855 0 0x03a00 ∷ drive 7855 7 0x00000 ∷ drive 7855 0 0x00000 ∷ drive 9055 7 0x00280 ∷ drive 11455 7 0x00680 ∷ drive 12655 7 0x10781 ∷ drive 12745 7 0x10581 ∷ drive 13145 0 0x00200 ∷ drive 13235 7 0x10000 ∷ drive 13235 0 0x02a00 ∷ drive 13635 0 0x06a00 ∷ drive 13635 7 0x10080 ∷ drive 13690 7 0x18080 ∷ drive 13690 0 0x02a00 ∷ drive 13690 7 0x10000 ∷ drive 13690 0 0x06a00 ∷ drive 13690 7 0x10020 ∷ drive 13745 7 0x18020 ∷ drive 13745 0 0x02a00 ∷ drive 13745 7 0x10000 ∷ drive 13745 0 0x06a00 ∷ drive 13745 7 0x10105 ∷ drive 13800 7 0x18105 ∷ drive 13800 0 0x02a00 ∷ drive 13800 7 0x10000 ∷ drive 13800 0 0x06a00 ∷ drive 13800 7 0x0000d ∷ drive 13890 7 0x0800d ∷ drive 13890 0 0x02a00 ∷ drive 13890 7 0x00000 ∷ drive 13890 0 0x00000 ∷ drive 15090 7 0x00280 ∷ drive 17490 7 0x00680 ∷ drive 18690 7 0x10781 ∷ drive 18780 7 0x10581 ∷ drive 19180 0 0x00200 ∷ drive 19270 7 0x10000 ∷ drive 19270 0 0x02a00 ∷ drive 19670 0 0x06a00 ∷ drive 19670 7 0x00080 ∷ drive 19760 7 0x08080 ∷ drive 19760 0 0x02a00 ∷ drive 19760 7 0x00000 ∷ drive 19760 0 0x00a00 ∷ drive 20160 0 0x04a00 ∷ drive 20160 7 0x00103 ∷ drive 20215 7 0x08103 ∷ drive 20215 0 0x00a00 ∷ drive 20215 7 0x00000 ∷ drive 20215 0 0x04a00 ∷ drive 20215 7 0x00100 ∷ drive 20270 7 0x08100 ∷ drive 20270 0 0x00a00 ∷ drive 20270 7 0x00000 ∷ drive 20270 0 0x04a00 ∷ drive 20270 7 0x00100 ∷ drive 20325 7 0x08100 ∷ drive 20325 0 0x00a00 ∷ drive 20325 7 0x00000 ∷ drive 20325 0 0x04a00 ∷ drive 20325 7 0x00100 ∷ drive 20380 7 0x08100 ∷ drive 20380 0 0x00a00 ∷ drive 20380 7 0x00000 ∷ drive 20380 0 0x04a00 ∷ drive 20380 7 0x00112 ∷ drive 20435 7 0x08112 ∷ drive 20435 0 0x00a00 ∷ drive 20435 7 0x00000 ∷ drive 20435 0 0x04a00 ∷ drive 20435 7 0x00100 ∷ drive 20490 7 0x08100 ∷ drive 20490 0 0x00a00 ∷ drive 20490 7 0x00000 ∷ drive 20490 0 0x01200 ∷ drive 21290 0 0x01270 ∷ drive 21345 0 0x05270 ∷ drive 21345 7 0x08000 ∷ drive 21345 0 0x01300 ∷ drive 21345 7 0x00000 ∷ drive 21400 0 0x05300 ∷ drive 21400 7 0x08000 ∷ drive 21400 0 0x01305 ∷ drive 21400 7 0x00000 ∷ drive 21455 0 0x05305 ∷ drive 21455 7 0x08000 ∷ drive 21455 0 0x01300 ∷ drive 21455 7 0x00000 ∷ drive 21510 0 0x05300 ∷ drive 21510 7 0x08000 ∷ drive 21510 0 0x01300 ∷ drive 21510 7 0x00000 ∷ drive 21565 0 0x05300 ∷ drive 21565 7 0x08000 ∷ drive 21565 0 0x01300 ∷ drive 21565 7 0x00000 ∷ drive 21620 0 0x05300 ∷ drive 21620 7 0x08000 ∷ drive 21620 0 0x01300 ∷ drive 21620 7 0x00000 ∷ drive 21675 0 0x05300 ∷ drive 21675 7 0x08000 ∷ drive 21675 0 0x0130a ∷ drive 21675 7 0x00000 ∷ drive 21730 0 0x0530a ∷ drive 21730 7 0x08000 ∷ drive 21730 0 0x01300 ∷ drive 21730 7 0x00000 ∷ drive 21785 0 0x05300 ∷ drive 21785 7 0x08000 ∷ drive 21785 0 0x01300 ∷ drive 21785 7 0x00000 ∷ drive 21840 0 0x05300 ∷ drive 21840 7 0x08000 ∷ drive 21840 0 0x01300 ∷ drive 21840 7 0x00000 ∷ drive 21895 0 0x05300 ∷ drive 21895 7 0x08000 ∷ drive 21895 0 0x01300 ∷ drive 21895 7 0x00000 ∷ drive 21950 0 0x05300 ∷ drive 21950 7 0x08000 ∷ drive 21950 0 0x01321 ∷ drive 21950 7 0x00000 ∷ drive 22005 0 0x05321 ∷ drive 22005 7 0x08000 ∷ drive 22005 0 0x01300 ∷ drive 22005 7 0x00000 ∷ drive 22060 0 0x05300 ∷ drive 22060 7 0x08000 ∷ drive 22060 0 0x01300 ∷ drive 22060 7 0x00000 ∷ drive 22115 0 0x05300 ∷ drive 22115 7 0x08000 ∷ drive 22115 0 0x01300 ∷ drive 22115 7 0x00000 ∷ drive 22170 0 0x05300 ∷ drive 22170 7 0x08000 ∷ drive 22170 0 0x01300 ∷ drive 22170 7 0x00000 ∷ drive 22225 0 0x05300 ∷ drive 22225 7 0x08000 ∷ drive 22225 0 0x01300 ∷ drive 22225 7 0x00000 ∷ drive 22280 0 0x05300 ∷ drive 22280 7 0x08000 ∷ drive 22280 0 0x01200 ∷ drive 22280 7 0x00000 ∷ drive 22280 0 0x01b00 ∷ drive 22680 0 0x05b00 ∷ drive 22680 7 0x08000 ∷ drive 22680 0 0x01a00 ∷ drive 22680 7 0x00000 ∷ drive 22680 0 0x03b00 ∷ drive 23080 0 0x07b00 ∷ drive 23080 7 0x08000 ∷ drive 23080 0 0x03a00 ∷ drive 23080 7 0x00000 ∷ drive 23080 0 0x00000 ∷ []
+
+abbrev own_sense_and_tag_guard_events : List Event
+own_sense_and_tag_guard_events = events.Accept (command 1) ∷ events.Run (command 1) ∷ events.End (command 1) 2 ∷ events.Aborted 7 0 0 (aborts.Tag 5) ∷ events.Accept (sense 1) ∷ events.Run (sense 1) ∷ events.End (sense 1) 0 ∷ []
+
+abbrev pub own_sense_and_tag_guard_shown : Shows
+own_sense_and_tag_guard_shown = record { rows = reverse own_sense_and_tag_guard_rows; history = reverse own_sense_and_tag_guard_events; ended = true }
+
+own_sense_and_tag_guard_run : shows (run_by_due own_sense_and_tag_guard 212) ≡ own_sense_and_tag_guard_shown
+unfolding need_of sent_of ones union_below line_of form_out form_in least run_from
+own_sense_and_tag_guard_run = refl
 
 -- ---- pick_of_each_target_guard
 
@@ -544,6 +712,34 @@ read_and_write_conflict_guard_run : shows (run_by_due read_and_write_conflict_gu
 unfolding need_of sent_of ones union_below line_of form_out form_in least run_from
 read_and_write_conflict_guard_run = refl
 
+-- ---- refused_status_struck_guard
+
+abbrev pub refused_status_struck_guard : ScenarioValue
+refused_status_struck_guard = record {
+  version = 1;
+  hosts = record { dev = 7; latency = 0; most = 2; retries = 2; period = 0; offset = 0; lag = 0; offers = true } ∷ [];
+  targets = record { dev = 5; latency = 0; retries = 2; disc = policies.Command; pick = picks.First; seek = 40000; period = 0; offset = 0; begins = false } ∷ [];
+  units = record { target = 5; unit = 0; blocks = 1; size = 16; depth = 1 } ∷ [];
+  fills = [];
+  commands = record { host = 7; target = 5; unit = 0; at = 0; tag = tags.Simple 1; cdb = (0 ∷ 0 ∷ 0 ∷ 0 ∷ 0 ∷ 0 ∷ []); payload = payloads.Nothing } ∷ record { host = 7; target = 5; unit = 0; at = 0; tag = tags.Simple 2; cdb = (0 ∷ 0 ∷ 0 ∷ 0 ∷ 0 ∷ 0 ∷ []); payload = payloads.Nothing } ∷ [];
+  aborts = [];
+  resets = [];
+  faults = record { at = 15000; bit = 0 } ∷ [];
+}
+
+abbrev pub refused_status_struck_guard_rows : List Row
+refused_status_struck_guard_rows = drive 1200 7 0x00280 ∷ drive 3600 7 0x00680 ∷ drive 4800 7 0x107a0 ∷ drive 4890 7 0x105a0 ∷ drive 5290 5 0x00200 ∷ drive 5380 7 0x10000 ∷ drive 5380 5 0x02a00 ∷ drive 5780 5 0x06a00 ∷ drive 5780 7 0x101c0 ∷ drive 5835 7 0x181c0 ∷ drive 5835 5 0x02a00 ∷ drive 5835 7 0x10000 ∷ drive 5835 5 0x06a00 ∷ drive 5835 7 0x10020 ∷ drive 5890 7 0x18020 ∷ drive 5890 5 0x02a00 ∷ drive 5890 7 0x10000 ∷ drive 5890 5 0x06a00 ∷ drive 5890 7 0x00001 ∷ drive 5980 7 0x08001 ∷ drive 5980 5 0x02a00 ∷ drive 5980 7 0x00000 ∷ drive 5980 5 0x00a00 ∷ drive 6380 5 0x04a00 ∷ drive 6380 7 0x00100 ∷ drive 6435 7 0x08100 ∷ drive 6435 5 0x00a00 ∷ drive 6435 7 0x00000 ∷ drive 6435 5 0x04a00 ∷ drive 6435 7 0x00100 ∷ drive 6490 7 0x08100 ∷ drive 6490 5 0x00a00 ∷ drive 6490 7 0x00000 ∷ drive 6490 5 0x04a00 ∷ drive 6490 7 0x00100 ∷ drive 6545 7 0x08100 ∷ drive 6545 5 0x00a00 ∷ drive 6545 7 0x00000 ∷ drive 6545 5 0x04a00 ∷ drive 6545 7 0x00100 ∷ drive 6600 7 0x08100 ∷ drive 6600 5 0x00a00 ∷ drive 6600 7 0x00000 ∷ drive 6600 5 0x04a00 ∷ drive 6600 7 0x00100 ∷ drive 6655 7 0x08100 ∷ drive 6655 5 0x00a00 ∷ drive 6655 7 0x00000 ∷ drive 6655 5 0x04a00 ∷ drive 6655 7 0x00100 ∷ drive 6710 7 0x08100 ∷ drive 6710 5 0x00a00 ∷ drive 6710 7 0x00000 ∷ drive 6710 5 0x03a00 ∷ drive 7510 5 0x03a04 ∷ drive 7565 5 0x07a04 ∷ drive 7565 7 0x08000 ∷ drive 7565 5 0x03a00 ∷ drive 7565 7 0x00000 ∷ drive 7565 5 0x00000 ∷ drive 8765 7 0x00280 ∷ drive 11165 7 0x00680 ∷ drive 12365 7 0x107a0 ∷ drive 12455 7 0x105a0 ∷ drive 12855 5 0x00200 ∷ drive 12945 7 0x10000 ∷ drive 12945 5 0x02a00 ∷ drive 13345 5 0x06a00 ∷ drive 13345 7 0x101c0 ∷ drive 13400 7 0x181c0 ∷ drive 13400 5 0x02a00 ∷ drive 13400 7 0x10000 ∷ drive 13400 5 0x06a00 ∷ drive 13400 7 0x10020 ∷ drive 13455 7 0x18020 ∷ drive 13455 5 0x02a00 ∷ drive 13455 7 0x10000 ∷ drive 13455 5 0x06a00 ∷ drive 13455 7 0x00002 ∷ drive 13545 7 0x08002 ∷ drive 13545 5 0x02a00 ∷ drive 13545 7 0x00000 ∷ drive 13545 5 0x00a00 ∷ drive 13945 5 0x04a00 ∷ drive 13945 7 0x00100 ∷ drive 14000 7 0x08100 ∷ drive 14000 5 0x00a00 ∷ drive 14000 7 0x00000 ∷ drive 14000 5 0x04a00 ∷ drive 14000 7 0x00100 ∷ drive 14055 7 0x08100 ∷ drive 14055 5 0x00a00 ∷ drive 14055 7 0x00000 ∷ drive 14055 5 0x04a00 ∷ drive 14055 7 0x00100 ∷ drive 14110 7 0x08100 ∷ drive 14110 5 0x00a00 ∷ drive 14110 7 0x00000 ∷ drive 14110 5 0x04a00 ∷ drive 14110 7 0x00100 ∷ drive 14165 7 0x08100 ∷ drive 14165 5 0x00a00 ∷ drive 14165 7 0x00000 ∷ drive 14165 5 0x04a00 ∷ drive 14165 7 0x00100 ∷ drive 14220 7 0x08100 ∷ drive 14220 5 0x00a00 ∷ drive 14220 7 0x00000 ∷ drive 14220 5 0x04a00 ∷ drive 14220 7 0x00100 ∷ drive 14275 7 0x08100 ∷ drive 14275 5 0x00a00 ∷ drive 14275 7 0x00000 ∷ drive 14275 5 0x01a00 ∷ drive 15075 5 0x01b28 ∷ drive 15130 5 0x05b28 ∷ strike 15130 7 0 ∷ drive 15130 7 0x18000 ∷ drive 15130 5 0x01a00 ∷ drive 15220 7 0x10000 ∷ drive 15220 5 0x02a00 ∷ drive 15620 5 0x06a00 ∷ drive 15620 7 0x00105 ∷ drive 15710 7 0x08105 ∷ drive 15710 5 0x02a00 ∷ drive 15710 7 0x00000 ∷ drive 15710 5 0x03a00 ∷ drive 16510 5 0x03b03 ∷ drive 16565 5 0x07b03 ∷ drive 16565 7 0x08000 ∷ drive 16565 5 0x03a00 ∷ drive 16565 7 0x00000 ∷ drive 16565 5 0x01b28 ∷ drive 16965 5 0x05b28 ∷ drive 16965 7 0x08000 ∷ drive 16965 5 0x01a00 ∷ drive 16965 7 0x00000 ∷ drive 16965 5 0x03b00 ∷ drive 17365 5 0x07b00 ∷ drive 17365 7 0x08000 ∷ drive 17365 5 0x03a00 ∷ drive 17365 7 0x00000 ∷ drive 17365 5 0x00000 ∷ drive 46710 5 0x00220 ∷ drive 49110 5 0x00620 ∷ drive 50310 5 0x017a0 ∷ drive 50400 5 0x015a0 ∷ drive 50800 7 0x00200 ∷ drive 50800 5 0x017a0 ∷ drive 50890 5 0x03a80 ∷ drive 50890 7 0x00000 ∷ drive 51290 5 0x07a80 ∷ drive 51290 7 0x08000 ∷ drive 51290 5 0x03a20 ∷ drive 51290 7 0x00000 ∷ drive 51345 5 0x07a20 ∷ drive 51345 7 0x08000 ∷ drive 51345 5 0x03a01 ∷ drive 51345 7 0x00000 ∷ drive 51400 5 0x07a01 ∷ drive 51400 7 0x08000 ∷ drive 51400 5 0x03a00 ∷ drive 51400 7 0x00000 ∷ drive 51400 5 0x01b00 ∷ drive 51800 5 0x05b00 ∷ drive 51800 7 0x08000 ∷ drive 51800 5 0x01a00 ∷ drive 51800 7 0x00000 ∷ drive 51800 5 0x03b00 ∷ drive 52200 5 0x07b00 ∷ drive 52200 7 0x08000 ∷ drive 52200 5 0x03a00 ∷ drive 52200 7 0x00000 ∷ drive 52200 5 0x00000 ∷ []
+
+abbrev refused_status_struck_guard_events : List Event
+refused_status_struck_guard_events = events.Accept (command 1) ∷ events.Refuse (command 2) ∷ events.End (command 2) 40 ∷ events.Run (command 1) ∷ events.End (command 1) 0 ∷ []
+
+abbrev pub refused_status_struck_guard_shown : Shows
+refused_status_struck_guard_shown = record { rows = reverse refused_status_struck_guard_rows; history = reverse refused_status_struck_guard_events; ended = true }
+
+refused_status_struck_guard_run : shows (run_by_due refused_status_struck_guard 175) ≡ refused_status_struck_guard_shown
+unfolding need_of sent_of ones union_below line_of form_out form_in least run_from
+refused_status_struck_guard_run = refl
+
 -- ---- reset_attention_stays_guard
 
 abbrev pub reset_attention_stays_guard : ScenarioValue
@@ -571,6 +767,34 @@ reset_attention_stays_guard_shown = record { rows = reverse reset_attention_stay
 reset_attention_stays_guard_run : shows (run_by_due reset_attention_stays_guard 300) ≡ reset_attention_stays_guard_shown
 unfolding need_of sent_of ones union_below line_of form_out form_in least run_from
 reset_attention_stays_guard_run = refl
+
+-- ---- reset_in_a_calling_is_no_try_guard
+
+abbrev pub reset_in_a_calling_is_no_try_guard : ScenarioValue
+reset_in_a_calling_is_no_try_guard = record {
+  version = 1;
+  hosts = record { dev = 7; latency = 0; most = 1; retries = 0; period = 0; offset = 0; lag = 0; offers = true } ∷ [];
+  targets = record { dev = 0; latency = 0; retries = 2; disc = policies.Never; pick = picks.First; seek = 0; period = 0; offset = 0; begins = false } ∷ [];
+  units = record { target = 0; unit = 0; blocks = 1; size = 16; depth = 1 } ∷ [];
+  fills = [];
+  commands = record { host = 7; target = 0; unit = 0; at = 0; tag = tags.Untagged; cdb = (0 ∷ 0 ∷ 0 ∷ 0 ∷ 0 ∷ 0 ∷ []); payload = payloads.Nothing } ∷ [];
+  aborts = [];
+  resets = record { dev = 0; at = 5000 } ∷ [];
+  faults = [];
+}
+
+abbrev pub reset_in_a_calling_is_no_try_guard_rows : List Row
+reset_in_a_calling_is_no_try_guard_rows = drive 1200 7 0x00280 ∷ drive 3600 7 0x00680 ∷ drive 4800 7 0x10781 ∷ drive 4890 7 0x10581 ∷ drive 5000 0 0x20000 ∷ drive 5000 7 0x00000 ∷ drive 30000 0 0x00000 ∷ drive 31200 7 0x00280 ∷ drive 33600 7 0x00680 ∷ drive 34800 7 0x10781 ∷ drive 34890 7 0x10581 ∷ drive 35290 0 0x00200 ∷ drive 35380 7 0x10000 ∷ drive 35380 0 0x02a00 ∷ drive 35780 0 0x06a00 ∷ drive 35780 7 0x001c0 ∷ drive 35870 7 0x081c0 ∷ drive 35870 0 0x02a00 ∷ drive 35870 7 0x00000 ∷ drive 35870 0 0x00a00 ∷ drive 36270 0 0x04a00 ∷ drive 36270 7 0x00100 ∷ drive 36325 7 0x08100 ∷ drive 36325 0 0x00a00 ∷ drive 36325 7 0x00000 ∷ drive 36325 0 0x04a00 ∷ drive 36325 7 0x00100 ∷ drive 36380 7 0x08100 ∷ drive 36380 0 0x00a00 ∷ drive 36380 7 0x00000 ∷ drive 36380 0 0x04a00 ∷ drive 36380 7 0x00100 ∷ drive 36435 7 0x08100 ∷ drive 36435 0 0x00a00 ∷ drive 36435 7 0x00000 ∷ drive 36435 0 0x04a00 ∷ drive 36435 7 0x00100 ∷ drive 36490 7 0x08100 ∷ drive 36490 0 0x00a00 ∷ drive 36490 7 0x00000 ∷ drive 36490 0 0x04a00 ∷ drive 36490 7 0x00100 ∷ drive 36545 7 0x08100 ∷ drive 36545 0 0x00a00 ∷ drive 36545 7 0x00000 ∷ drive 36545 0 0x04a00 ∷ drive 36545 7 0x00100 ∷ drive 36600 7 0x08100 ∷ drive 36600 0 0x00a00 ∷ drive 36600 7 0x00000 ∷ drive 36600 0 0x01a00 ∷ drive 37400 0 0x01a02 ∷ drive 37455 0 0x05a02 ∷ drive 37455 7 0x08000 ∷ drive 37455 0 0x01a00 ∷ drive 37455 7 0x00000 ∷ drive 37455 0 0x03b00 ∷ drive 37855 0 0x07b00 ∷ drive 37855 7 0x08000 ∷ drive 37855 0 0x03a00 ∷ drive 37855 7 0x00000 ∷ drive 37855 0 0x00000 ∷ drive 39055 7 0x00280 ∷ drive 41455 7 0x00680 ∷ drive 42655 7 0x10781 ∷ drive 42745 7 0x10581 ∷ drive 43145 0 0x00200 ∷ drive 43235 7 0x10000 ∷ drive 43235 0 0x02a00 ∷ drive 43635 0 0x06a00 ∷ drive 43635 7 0x00080 ∷ drive 43725 7 0x08080 ∷ drive 43725 0 0x02a00 ∷ drive 43725 7 0x00000 ∷ drive 43725 0 0x00a00 ∷ drive 44125 0 0x04a00 ∷ drive 44125 7 0x00103 ∷ drive 44180 7 0x08103 ∷ drive 44180 0 0x00a00 ∷ drive 44180 7 0x00000 ∷ drive 44180 0 0x04a00 ∷ drive 44180 7 0x00100 ∷ drive 44235 7 0x08100 ∷ drive 44235 0 0x00a00 ∷ drive 44235 7 0x00000 ∷ drive 44235 0 0x04a00 ∷ drive 44235 7 0x00100 ∷ drive 44290 7 0x08100 ∷ drive 44290 0 0x00a00 ∷ drive 44290 7 0x00000 ∷ drive 44290 0 0x04a00 ∷ drive 44290 7 0x00100 ∷ drive 44345 7 0x08100 ∷ drive 44345 0 0x00a00 ∷ drive 44345 7 0x00000 ∷ drive 44345 0 0x04a00 ∷ drive 44345 7 0x00112 ∷ drive 44400 7 0x08112 ∷ drive 44400 0 0x00a00 ∷ drive 44400 7 0x00000 ∷ drive 44400 0 0x04a00 ∷ drive 44400 7 0x00100 ∷ drive 44455 7 0x08100 ∷ drive 44455 0 0x00a00 ∷ drive 44455 7 0x00000 ∷ drive 44455 0 0x01200 ∷ drive 45255 0 0x01270 ∷ drive 45310 0 0x05270 ∷ drive 45310 7 0x08000 ∷ drive 45310 0 0x01300 ∷ drive 45310 7 0x00000 ∷ drive 45365 0 0x05300 ∷ drive 45365 7 0x08000 ∷ drive 45365 0 0x01306 ∷ drive 45365 7 0x00000 ∷ drive 45420 0 0x05306 ∷ drive 45420 7 0x08000 ∷ drive 45420 0 0x01300 ∷ drive 45420 7 0x00000 ∷ drive 45475 0 0x05300 ∷ drive 45475 7 0x08000 ∷ drive 45475 0 0x01300 ∷ drive 45475 7 0x00000 ∷ drive 45530 0 0x05300 ∷ drive 45530 7 0x08000 ∷ drive 45530 0 0x01300 ∷ drive 45530 7 0x00000 ∷ drive 45585 0 0x05300 ∷ drive 45585 7 0x08000 ∷ drive 45585 0 0x01300 ∷ drive 45585 7 0x00000 ∷ drive 45640 0 0x05300 ∷ drive 45640 7 0x08000 ∷ drive 45640 0 0x0130a ∷ drive 45640 7 0x00000 ∷ drive 45695 0 0x0530a ∷ drive 45695 7 0x08000 ∷ drive 45695 0 0x01300 ∷ drive 45695 7 0x00000 ∷ drive 45750 0 0x05300 ∷ drive 45750 7 0x08000 ∷ drive 45750 0 0x01300 ∷ drive 45750 7 0x00000 ∷ drive 45805 0 0x05300 ∷ drive 45805 7 0x08000 ∷ drive 45805 0 0x01300 ∷ drive 45805 7 0x00000 ∷ drive 45860 0 0x05300 ∷ drive 45860 7 0x08000 ∷ drive 45860 0 0x01300 ∷ drive 45860 7 0x00000 ∷ drive 45915 0 0x05300 ∷ drive 45915 7 0x08000 ∷ drive 45915 0 0x01229 ∷ drive 45915 7 0x00000 ∷ drive 45970 0 0x05229 ∷ drive 45970 7 0x08000 ∷ drive 45970 0 0x01300 ∷ drive 45970 7 0x00000 ∷ drive 46025 0 0x05300 ∷ drive 46025 7 0x08000 ∷ drive 46025 0 0x01300 ∷ drive 46025 7 0x00000 ∷ drive 46080 0 0x05300 ∷ drive 46080 7 0x08000 ∷ drive 46080 0 0x01300 ∷ drive 46080 7 0x00000 ∷ drive 46135 0 0x05300 ∷ drive 46135 7 0x08000 ∷ drive 46135 0 0x01300 ∷ drive 46135 7 0x00000 ∷ drive 46190 0 0x05300 ∷ drive 46190 7 0x08000 ∷ drive 46190 0 0x01300 ∷ drive 46190 7 0x00000 ∷ drive 46245 0 0x05300 ∷ drive 46245 7 0x08000 ∷ drive 46245 0 0x01200 ∷ drive 46245 7 0x00000 ∷ drive 46245 0 0x01b00 ∷ drive 46645 0 0x05b00 ∷ drive 46645 7 0x08000 ∷ drive 46645 0 0x01a00 ∷ drive 46645 7 0x00000 ∷ drive 46645 0 0x03b00 ∷ drive 47045 0 0x07b00 ∷ drive 47045 7 0x08000 ∷ drive 47045 0 0x03a00 ∷ drive 47045 7 0x00000 ∷ drive 47045 0 0x00000 ∷ []
+
+abbrev reset_in_a_calling_is_no_try_guard_events : List Event
+reset_in_a_calling_is_no_try_guard_events = events.Reset 0 ∷ events.Accept (command 1) ∷ events.Run (command 1) ∷ events.End (command 1) 2 ∷ events.Accept (sense 1) ∷ events.Run (sense 1) ∷ events.End (sense 1) 0 ∷ []
+
+abbrev pub reset_in_a_calling_is_no_try_guard_shown : Shows
+reset_in_a_calling_is_no_try_guard_shown = record { rows = reverse reset_in_a_calling_is_no_try_guard_rows; history = reverse reset_in_a_calling_is_no_try_guard_events; ended = true }
+
+reset_in_a_calling_is_no_try_guard_run : shows (run_by_due reset_in_a_calling_is_no_try_guard 191) ≡ reset_in_a_calling_is_no_try_guard_shown
+unfolding need_of sent_of ones union_below line_of form_out form_in least run_from
+reset_in_a_calling_is_no_try_guard_run = refl
 
 -- ---- sense_of_another_and_device_guard
 

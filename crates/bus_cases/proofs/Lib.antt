@@ -1,6 +1,9 @@
 mod ArrayCases
+mod DialogueCases
+mod DueCases
 mod GuardCases
 mod RightCases
 mod RuleCases
 mod RunCases
 mod SeamCases
+mod StoryCases

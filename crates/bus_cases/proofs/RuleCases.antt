@@ -74,6 +74,10 @@ ids_struck_before_the_calling : judged_whole (reverse (drive 1200 7 0x00280 ∷ 
 unfolding union_below seen_with line_of ones form_out form_in
 ids_struck_before_the_calling = refl
 
+ids_struck_before_the_release : judged_whole (reverse (drive 1200 7 0x00280 ∷ drive 3600 7 0x00680 ∷ drive 4800 7 0x10781 ∷ strike 4889 0 4 ∷ [])) 4889 ≡ Broken 4 2
+unfolding union_below seen_with line_of ones form_out form_in
+ids_struck_before_the_release = refl
+
 ids_struck_after_a_withdrawal : judged_whole (reverse (drive 1200 7 0x00280 ∷ drive 3600 7 0x00680 ∷ drive 4800 7 0x10781 ∷ drive 4890 7 0x10581 ∷ drive 250004890 7 0x10400 ∷ strike 250005000 0 3 ∷ [])) 250005000 ≡ Broken 6 2
 unfolding union_below seen_with line_of ones form_out form_in
 ids_struck_after_a_withdrawal = refl
@@ -502,6 +506,10 @@ caller_takes_bsy_back : judged_whole (reverse (drive 1200 0 0x00201 ∷ drive 36
 unfolding union_below seen_with line_of ones form_out form_in
 caller_takes_bsy_back = refl
 
+req_outside_a_connection : judged_whole (reverse (drive 1200 7 0x00280 ∷ drive 1300 3 0x04000 ∷ [])) 1300 ≡ Lawful
+unfolding union_below seen_with line_of ones form_out form_in
+req_outside_a_connection = refl
+
 resets_with_more : judged_whole (reverse (drive 1200 7 0x00280 ∷ drive 2000 3 0x20008 ∷ [])) 2000 ≡ Broken 2 28
 unfolding union_below seen_with line_of ones form_out form_in
 resets_with_more = refl
@@ -705,6 +713,10 @@ lets_go_early = refl
 command_asked_with_ack_under_an_agreement : judged_whole (reverse (drive 1200 7 0x00280 ∷ drive 3600 7 0x00680 ∷ drive 4800 7 0x10781 ∷ drive 4890 7 0x10581 ∷ drive 5290 0 0x00200 ∷ drive 5380 7 0x10000 ∷ drive 5380 0 0x02a00 ∷ drive 5780 0 0x06a00 ∷ drive 5780 7 0x101c0 ∷ drive 5835 7 0x181c0 ∷ drive 5835 0 0x02a00 ∷ drive 5835 7 0x10000 ∷ drive 5835 0 0x06a00 ∷ drive 5835 7 0x10001 ∷ drive 5890 7 0x18001 ∷ drive 5890 0 0x02a00 ∷ drive 5890 7 0x10000 ∷ drive 5890 0 0x06a00 ∷ drive 5890 7 0x10103 ∷ drive 5945 7 0x18103 ∷ drive 5945 0 0x02a00 ∷ drive 5945 7 0x10000 ∷ drive 5945 0 0x06a00 ∷ drive 5945 7 0x10001 ∷ drive 6000 7 0x18001 ∷ drive 6000 0 0x02a00 ∷ drive 6000 7 0x10000 ∷ drive 6000 0 0x06a00 ∷ drive 6000 7 0x10032 ∷ drive 6055 7 0x18032 ∷ drive 6055 0 0x02a00 ∷ drive 6055 7 0x10000 ∷ drive 6055 0 0x06a00 ∷ drive 6055 7 0x00008 ∷ drive 6145 7 0x08008 ∷ drive 6145 0 0x02a00 ∷ drive 6145 7 0x00000 ∷ drive 6145 0 0x03a00 ∷ drive 6945 0 0x03a01 ∷ drive 7000 0 0x07a01 ∷ drive 7000 7 0x08000 ∷ drive 7000 0 0x03a00 ∷ drive 7000 7 0x00000 ∷ drive 7000 0 0x03b03 ∷ drive 7055 0 0x07b03 ∷ drive 7055 7 0x08000 ∷ drive 7055 0 0x03a00 ∷ drive 7055 7 0x00000 ∷ drive 7055 0 0x03a01 ∷ drive 7110 0 0x07a01 ∷ drive 7110 7 0x08000 ∷ drive 7110 0 0x03a00 ∷ drive 7110 7 0x00000 ∷ drive 7110 0 0x03a32 ∷ drive 7165 0 0x07a32 ∷ drive 7165 7 0x08000 ∷ drive 7165 0 0x03a00 ∷ drive 7165 7 0x00000 ∷ drive 7165 0 0x03a08 ∷ drive 7220 0 0x07a08 ∷ drive 7220 7 0x08000 ∷ drive 7220 0 0x03a00 ∷ drive 7220 7 0x00000 ∷ drive 7220 0 0x00a00 ∷ drive 7620 0 0x04a00 ∷ drive 7620 7 0x00008 ∷ drive 7675 7 0x08008 ∷ drive 7675 0 0x00a00 ∷ drive 7675 7 0x00000 ∷ drive 7675 0 0x04a00 ∷ drive 7675 7 0x00100 ∷ drive 7730 7 0x08100 ∷ drive 7730 0 0x00a00 ∷ drive 7730 7 0x00000 ∷ drive 7730 0 0x04a00 ∷ drive 7730 7 0x00100 ∷ drive 7785 7 0x08100 ∷ drive 7785 0 0x00a00 ∷ drive 7785 7 0x00000 ∷ drive 7785 0 0x04a00 ∷ drive 7785 7 0x00100 ∷ drive 7840 7 0x08100 ∷ drive 7840 0 0x00a00 ∷ drive 7850 0 0x04a00 ∷ [])) 7850 ≡ Broken 84 18
 unfolding union_below seen_with line_of ones form_out form_in
 command_asked_with_ack_under_an_agreement = refl
+
+ack_outside_a_connection : judged_whole (reverse (drive 1200 7 0x00280 ∷ drive 1300 3 0x08000 ∷ [])) 1300 ≡ Lawful
+unfolding union_below seen_with line_of ones form_out form_in
+ack_outside_a_connection = refl
 
 set_up_short : judged_whole (reverse (drive 1200 7 0x00280 ∷ drive 3600 7 0x00680 ∷ drive 4800 7 0x10781 ∷ drive 4890 7 0x10581 ∷ drive 5290 0 0x00200 ∷ drive 5380 7 0x10000 ∷ drive 5380 0 0x02a00 ∷ drive 5780 0 0x06a00 ∷ drive 5780 7 0x001c0 ∷ drive 5870 7 0x081c0 ∷ drive 5870 0 0x02a00 ∷ drive 5870 7 0x00000 ∷ drive 5870 0 0x00a00 ∷ drive 6270 0 0x04a00 ∷ drive 6270 7 0x00008 ∷ drive 6324 7 0x08008 ∷ [])) 6324 ≡ Broken 16 19
 unfolding union_below seen_with line_of ones form_out form_in
@@ -957,6 +969,10 @@ ack_soon_after_atn_in_command = refl
 ack_soon_after_atn_rises : judged_whole (reverse (drive 1200 7 0x00280 ∷ drive 3600 7 0x00680 ∷ drive 4800 7 0x10781 ∷ drive 4890 7 0x10581 ∷ drive 5290 0 0x00200 ∷ drive 5380 7 0x00000 ∷ drive 5380 0 0x02a00 ∷ drive 5780 0 0x06a00 ∷ drive 5780 7 0x001c0 ∷ drive 5835 7 0x101c0 ∷ drive 5840 7 0x181c0 ∷ [])) 5840 ≡ Lawful
 unfolding union_below seen_with line_of ones form_out form_in
 ack_soon_after_atn_rises = refl
+
+attention_outside_a_connection : judged_whole (reverse (drive 1200 7 0x00280 ∷ drive 1300 3 0x1a800 ∷ drive 1400 3 0x0a800 ∷ [])) 1400 ≡ Lawful
+unfolding union_below seen_with line_of ones form_out form_in
+attention_outside_a_connection = refl
 
 opens_with_identify : judged_whole (reverse (drive 1200 7 0x00280 ∷ drive 3600 7 0x00680 ∷ drive 4800 7 0x10781 ∷ drive 4890 7 0x10581 ∷ drive 5290 0 0x00200 ∷ drive 5380 7 0x10000 ∷ drive 5380 0 0x02a00 ∷ drive 5780 0 0x06a00 ∷ drive 5780 7 0x001c0 ∷ drive 5870 7 0x081c0 ∷ drive 5870 0 0x02a00 ∷ drive 5870 7 0x00000 ∷ [])) 5870 ≡ Lawful
 unfolding union_below seen_with line_of ones form_out form_in

@@ -42,6 +42,8 @@ mod queues;
 #[cfg(test)]
 mod scenario_texts;
 #[cfg(test)]
+mod targets;
+#[cfg(test)]
 mod units;
 #[cfg(test)]
 mod words;
