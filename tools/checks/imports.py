@@ -6,12 +6,15 @@
 A crate names what it imports by its home, `Rattle.HOME.specs` or `HOME::`, where its line of crates.txt has HOME; else through one
 crate of that line which hands HOME on, `Rattle.HUB.specs.HOME.specs` or `HUB::the_HOME::`. HUB hands on definitions and lemmas by
 a line `pub use .. HOME` of its specs/Lib.antt, and code by `pub use .. as the_HOME;` in its src/lib.rt. Where several crates of a line
-hand HOME on, the one that hands on most is taken, and of equal ones the first. Without names it goes over all crates; rt fmt puts
-the lines in order afterwards. With --check nothing is written, and the status is 1 where a file would change.
+hand HOME on, the one that hands on most is taken, and of equal ones the first. Where a crate has a hub of names, proofs/Names.antt, its proofs
+take them from there (hubs.py says how). Without names it goes over all crates; rt fmt puts the lines in order afterwards. With --check nothing
+is written, and the status is 1 where a file would change.
 """
 import pathlib
 import re
 import sys
+
+import hubs
 
 ROOT = pathlib.Path(__file__).resolve().parent.parent.parent
 HANDED_LOGIC = re.compile(r"(?m)^pub use Rattle\.(?:\w+\.specs\.)*(\w+)$")
@@ -97,13 +100,19 @@ def main(words):
     changed = 0
     for name in names:
         folder = ROOT / "crates" / name
+        texts = {}
         for path in sorted(path for part in ("src", "specs", "proofs", "must-fail") for path in folder.glob(part + "/**/*.*")):
             if path.suffix not in (".rt", ".antt", ".edit") or path == folder / "specs" / "Lib.antt":
                 continue
             text = path.read_text(encoding="utf-8")
             # The lines that hand on stay as they are, and they are the last of a root file.
             first = min((found.start() for found in HANDING.finditer(text)), default=len(text))
-            new = led(name, text[:first], below(name, known), logic, code) + text[first:]
+            texts[path] = text, led(name, text[:first], below(name, known), logic, code) + text[first:]
+        if hubs.is_hub(folder / "proofs" / hubs.FILE):
+            proofs = {str(path.relative_to(folder / "proofs")): new for path, (_, new) in texts.items() if folder / "proofs" in path.parents}
+            for path, new in hubs.folded(name, list(GRAPH), proofs).items():
+                texts[folder / "proofs" / path] = texts[folder / "proofs" / path][0], new
+        for path, (text, new) in texts.items():
             if new != text:
                 changed += 1
                 print(path.relative_to(ROOT))

@@ -1,31 +1,17 @@
 -- What a device calls for is an item of the scenario, after any rows.
-use Rattle.std.proofs.Common.{ℕ, zero, suc, ◌≡◌, ◌+◌, Bool, true, false, not, ◌&&◌, ◌∙◌, List, [], ◌∷◌, Option, Some, None, refl, sym, ap, subst, arith}
-use Rattle.std.specs.Prelude.{if◌then◌else◌, ◌==◌, nat_le, slice_set, is_some, is_none}
-use Rattle.bus_due.specs.bus_trace.specs.declared.Row.{Row}
-use Rattle.bus_due.specs.bus_trace.specs.declared.Kind.{Kind}
-use Rattle.bus_due.specs.bus_trace.specs.declared.Kind.TheVariants.{Drives, Fault}
-use Rattle.bus_due.specs.bus_trace.specs.declared.connection.Connection.{Connection}
-use Rattle.bus_due.specs.bus_trace.specs.Changes.{falls}
-use Rattle.bus_due.specs.msg_grammar.specs.declared.message.MsgOut.{MsgOut}
-use Rattle.bus_due.specs.msg_grammar.specs.declared.message.MsgIn.{MsgIn}
-use Rattle.bus_due.specs.scenario.specs.declared.value.CmdDef.{CmdDef}
-use Rattle.bus_due.specs.scenario.specs.declared.value.AbortDef.{AbortDef}
-use Rattle.bus_due.specs.scenario.specs.Value.{ScenarioValue}
-use Rattle.bus_due.specs.disk_array.specs.Processes.{process_if, process_by, command_at}
-use Rattle.bus_due.specs.disk_array.specs.Seats.{is_initiator}
-use Rattle.bus_due.specs.bus_story.specs.BusState.{RowReading, row_reading}
-use Rattle.bus_due.specs.bus_story.specs.CarriedBytes.{CarriedBytes}
-use Rattle.bus_due.specs.bus_story.specs.Items.{Item, abort, command_item, sense_item, Sent, is_done, abort_from, is_of_host, sense_from, may_send, open_from, command_from, or_else, item_at}
-use Rattle.bus_due.specs.bus_story.specs.Links.{Link, link_after_name}
-use Rattle.bus_due.specs.bus_story.specs.HistoryEvents.{abort_line_at, carried_if, row_events_by}
-use Rattle.bus_due.specs.bus_story.specs.Story.{Story, empty_story}
-use Rattle.bus_due.specs.bus_story.specs.TraceHistory.{aim_of, is_arbitration_entry, story_with_aim, story_after_calling, story_on_free_bus, story_with_restored, story_after_connection, story_with_carried, story_after_out, story_after_in, story_after_byte, story_after_fault, story_in_connection, story_on_bus, story_by_change, is_parity_error, carried_after_byte_if, carried_after_fault_if}
-use Rattle.bus_due.specs.RunState.{RunState}
-use Rattle.bus_due.specs.RunSteps.{run_state, run_state_after}
-use Rattle.bus_books.specs.Items.{IsItem, is_process, is_abort, AimsAreItems}
-use Rattle.std.proofs.lemmas.Bool.{eqb-true}
-use Rattle.bus_due.specs.bus_base.proofs.Tests.{and_first}
-use Rattle.bus_due.specs.bus_story.proofs.StorySteps.{restored_aims, events_aims, calling_aims, begun_aims}
+use Rattle.bus_books.proofs
+use proofs.Names.{ℕ, zero, suc, ◌≡◌, ◌+◌, Bool, true, false, not, ◌&&◌, ◌∙◌, List, [], ◌∷◌, Option, Some, None, refl}
+use proofs.Names.{sym, ap, subst, arith, eqb-true, if◌then◌else◌, ◌==◌, nat_le, slice_set, is_some, is_none, and_first}
+use proofs.Names.{falls, Kind, Drives, Fault, Row, Connection, MsgIn, MsgOut, ScenarioValue, AbortDef, CmdDef}
+use proofs.Names.{process_if, process_by, command_at, is_initiator, restored_aims, events_aims, calling_aims}
+use proofs.Names.{begun_aims, RowReading, row_reading, CarriedBytes, abort_line_at, carried_if, row_events_by, Item}
+use proofs.Names.{abort, command_item, sense_item, Sent, is_done, abort_from, is_of_host, sense_from, may_send}
+use proofs.Names.{open_from, command_from, or_else, item_at, Link, link_after_name, Story, empty_story, aim_of}
+use proofs.Names.{is_arbitration_entry, story_with_aim, story_after_calling, story_on_free_bus, story_with_restored}
+use proofs.Names.{story_after_connection, story_with_carried, story_after_out, story_after_in, story_after_byte}
+use proofs.Names.{story_after_fault, story_in_connection, story_on_bus, story_by_change, is_parity_error}
+use proofs.Names.{carried_after_byte_if, carried_after_fault_if, RunState, run_state, run_state_after, IsItem}
+use proofs.Names.{is_process, is_abort, AimsAreItems}
 
 -- ---- what an initiator sends next is of the scenario
 

@@ -1,10 +1,8 @@
 -- A byte crosses into an area, and into the block of a command.
-use Rattle.std.proofs.Common.{ℕ, ◌≡◌, ◌≤◌, ◌<◌, ◌+◌, Bool, true, false, List, [], ◌∷◌, ◌++◌, ◌∙◌, ◌⊎◌, inl, inr, length, refl, sym, ap, arith, append_assoc, length-append}
-use Rattle.std.specs.Prelude.{slice_index_or, slice_set, nat_lt, if◌then◌else◌}
-use Rattle.std.proofs.lemmas.Bool.Decides.{nat_tests}
-use Rattle.bus_due.specs.bus_story.specs.CarriedBytes.{Area, CarriedBytes, bytes_with, area_with}
-use Rattle.bus_books.specs.Carrying.{IsFilled, TakesBlock}
-use Rattle.bus_books.proofs.Lists.{word_at, set_same}
+use Rattle.bus_books.proofs
+use proofs.Names.{ℕ, ◌≡◌, ◌≤◌, ◌<◌, ◌+◌, Bool, true, false, List, [], ◌∷◌, ◌++◌, ◌∙◌, ◌⊎◌, inl, inr, length, refl, sym}
+use proofs.Names.{ap, arith, append_assoc, length-append, nat_tests, slice_index_or, slice_set, nat_lt, if◌then◌else◌}
+use proofs.{Names.{Area, CarriedBytes, bytes_with, area_with, IsFilled, TakesBlock}, Lists.{word_at, set_same}}
 
 lt_or_end : (n m : ℕ) → n ≤ m → (nat_lt n m ≡ true) ⊎ ((n ≡ m) × (nat_lt n m ≡ false))
 lt_or_end n m h = grind (arith, nat_tests)

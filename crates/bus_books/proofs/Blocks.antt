@@ -1,14 +1,9 @@
 -- A front of a command block, and when it is whole (6.2.1 of the rules: rule 26).
-use Rattle.std.proofs.Common.{ℕ, ◌≡◌, ◌<◌, ◌+◌, Bool, true, false, ◌&&◌, ◌||◌, ◌∙◌, List, [], ◌∷◌, ◌++◌, length, Option, Some, None, refl, sym, ap, arith, true≢false, append-nil, length-append}
-use Rattle.std.specs.Prelude.{if◌then◌else◌, slice_index, is_some}
-use Rattle.std.proofs.lemmas.Bool.Decides.{nat_tests}
-use Rattle.bus_due.specs.cdb_codec.specs.Cdb.{group_len, is_len, has_group_len}
-use Rattle.bus_due.specs.bus_phases.specs.declared.spoken.CommandBytes.{CommandBytes}
-use Rattle.bus_due.specs.bus_base.specs.Faults.{counted_on}
-use Rattle.bus_due.specs.bus_phases.specs.Dialogue.{command_on}
-use Rattle.bus_due.specs.bus_rules.specs.Messages.{may_take, is_none_or_all, is_below, is_same_length}
-use Rattle.bus_due.specs.bus_story.specs.Right.{same_bytes}
-use Rattle.bus_due.specs.bus_base.proofs.Tests.{eq_self, suc_some}
+use Rattle.bus_books.proofs
+use proofs.Names.{ℕ, ◌≡◌, ◌<◌, ◌+◌, Bool, true, false, ◌&&◌, ◌||◌, ◌∙◌, List, [], ◌∷◌, ◌++◌, length, Option, Some, None}
+use proofs.Names.{refl, sym, ap, arith, true≢false, append-nil, length-append, nat_tests, if◌then◌else◌, slice_index}
+use proofs.Names.{is_some, eq_self, suc_some, counted_on, group_len, is_len, has_group_len, command_on, CommandBytes}
+use proofs.Names.{may_take, is_none_or_all, is_below, is_same_length, same_bytes}
 
 -- while it is not whole, a byte follows
 pub follows_block : (block rest cdb : List ℕ) → block ++ rest ≡ cdb → has_group_len cdb ≡ true → has_group_len block ≡ false → length block < length cdb

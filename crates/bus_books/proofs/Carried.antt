@@ -1,19 +1,11 @@
 -- What is carried, and what the rows make of it: each step keeps that they are the process' own bytes.
-use Rattle.std.proofs.Common.{ℕ, ◌≡◌, ◌<◌, Bool, true, false, List, [], ◌∷◌, ◌++◌, ◌∙◌, length, Some, refl, sym, ap, subst, arith}
-use Rattle.std.specs.Prelude.{slice_index_or, if◌then◌else◌}
-use Rattle.bus_due.specs.bus_base.specs.declared.ProcId.{ProcId}
-use Rattle.bus_due.specs.bus_trace.specs.LineSet.{LineSet}
-use Rattle.bus_due.specs.bus_trace.specs.Phases.{is_command, is_data}
-use Rattle.bus_due.specs.msg_grammar.specs.declared.message.MsgIn.{MsgIn}
-use Rattle.bus_due.specs.msg_grammar.specs.declared.message.MsgIn.TheVariants as to_initiator
-use Rattle.bus_due.specs.cdb_codec.specs.declared.sense.TheConstants.{PARITY_ERROR, INITIATOR_DETECTED_ERROR}
-use Rattle.bus_due.specs.scenario.specs.Value.{ScenarioValue}
-use Rattle.bus_due.specs.disk_array.specs.Processes.{Process, process_of}
-use Rattle.bus_due.specs.bus_story.specs.CarriedBytes.{Area, CarriedBytes, area_with, nothing_carried, with_restored_pointers, carried_after_message, carried_after_byte, carried_after_fault, is_status_phase}
-use Rattle.bus_due.specs.bus_story.specs.Story.{marked_refused, marked_shown}
-use Rattle.bus_due.specs.Tasks.{is_writing}
-use Rattle.bus_books.specs.Carrying.{IsFilled, IsOwn}
-use Rattle.bus_books.proofs.Areas.{puts, takes_on}
+use Rattle.bus_books.proofs
+use proofs.Names.{ℕ, ◌≡◌, ◌<◌, Bool, true, false, List, [], ◌∷◌, ◌++◌, ◌∙◌, length, Some, refl, sym, ap, subst, arith}
+use proofs.Names.{slice_index_or, if◌then◌else◌, ProcId, LineSet, is_command, is_data, PARITY_ERROR}
+use proofs.Names.{INITIATOR_DETECTED_ERROR, MsgIn, ScenarioValue, Process, process_of, Area, CarriedBytes, area_with}
+use proofs.Names.{nothing_carried, with_restored_pointers, carried_after_message, carried_after_byte}
+use proofs.Names.{carried_after_fault, is_status_phase, marked_refused, marked_shown, is_writing, IsFilled, IsOwn}
+use proofs.Areas.{puts, takes_on}
 
 -- ---- the steps
 
@@ -80,15 +72,15 @@ saved_own s c h p e =
     }
 
 pub message_own : (s : ScenarioValue) (c : CarriedBytes) (m : MsgIn) → IsOwn s c → IsOwn s (carried_after_message c m)
-message_own s c to_initiator.CommandComplete h = h
-message_own s c to_initiator.SavePointer h = saved_own s c h
-message_own s c to_initiator.RestorePointers h =
-    own_as s (carried_after_message c to_initiator.RestorePointers) (with_restored_pointers c) (record { id = refl; command = refl; moved = refl; status = refl; block = refl }) (restored_own s c h)
-message_own s c to_initiator.Disconnect h = h
-message_own s c (to_initiator.Identify lun) h = h
-message_own s c (to_initiator.SimpleTag tag) h = h
-message_own s c (to_initiator.Sdtr offer) h = h
-message_own s c to_initiator.Reject h = h
+message_own s c MsgIn.CommandComplete h = h
+message_own s c MsgIn.SavePointer h = saved_own s c h
+message_own s c MsgIn.RestorePointers h =
+    own_as s (carried_after_message c MsgIn.RestorePointers) (with_restored_pointers c) (record { id = refl; command = refl; moved = refl; status = refl; block = refl }) (restored_own s c h)
+message_own s c MsgIn.Disconnect h = h
+message_own s c (MsgIn.Identify lun) h = h
+message_own s c (MsgIn.SimpleTag tag) h = h
+message_own s c (MsgIn.Sdtr offer) h = h
+message_own s c MsgIn.Reject h = h
 
 -- ---- a byte
 

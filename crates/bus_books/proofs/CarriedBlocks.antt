@@ -1,16 +1,9 @@
 -- A command descriptor block that was heard whole is that of the process.
-use Rattle.std.proofs.Common.{ℕ, ◌≡◌, ◌<◌, Bool, true, false, ◌||◌, ◌∙◌, List, length, Option, Some, None, refl, ap, arith}
-use Rattle.bus_due.specs.cdb_codec.specs.Cdb.{has_group_len}
-use Rattle.bus_due.specs.scenario.specs.Value.{ScenarioValue}
-use Rattle.bus_due.specs.disk_array.specs.Processes.{Process, process_of}
-use Rattle.bus_due.specs.bus_story.specs.Items.{Item, process, abort}
-use Rattle.bus_due.specs.bus_story.specs.Right.{same_bytes}
-use Rattle.bus_due.specs.bus_story.proofs.CarriedLists.{carried_id}
-use Rattle.bus_due.specs.Faithful.{is_block_of_process}
-use Rattle.bus_due.specs.RunState.{RunState, process_item, process_served, carried_here}
-use Rattle.bus_books.specs.Carrying.{AllCarryOwn, CarriesOwn}
-use Rattle.bus_books.proofs.Blocks.{follows_block, block_is_all, same_self}
-use Rattle.bus_books.proofs.CarriedRows.{process_id, process_none}
+use Rattle.bus_books.proofs
+use proofs.Names.{ℕ, ◌≡◌, ◌<◌, Bool, true, false, ◌||◌, ◌∙◌, List, length, Option, Some, None, refl, ap, arith}
+use proofs.Names.{has_group_len, ScenarioValue, Process, process_of, carried_id, Item, process, abort, same_bytes}
+use proofs.Names.{is_block_of_process, RunState, process_item, process_served, carried_here, AllCarryOwn, CarriesOwn}
+use proofs.{Blocks.{follows_block, block_is_all, same_self}, CarriedRows.{process_id, process_none}}
 
 -- A process is that of its own number.
 pub process_own : (s : ScenarioValue) (item : Option Item) (p : Process) → process_item s item ≡ Some p → process_of s p.id ≡ Some p

@@ -1,20 +1,10 @@
 -- After any rows each process has carried its own bytes alone, where each byte that crosses is the one at its pointer.
-use Rattle.std.proofs.Common.{◌≡◌, ◌∙◌, List, [], ◌∷◌, Option, Some, None, sym, ap, subst}
-use Rattle.std.specs.Prelude.{◌%◌, ◌<◌, length, slice_index_or}
-use Rattle.bus_due.specs.bus_base.specs.declared.ProcId.{ProcId}
-use Rattle.bus_due.specs.bus_trace.specs.declared.Row.{Row}
-use Rattle.bus_due.specs.scenario.specs.Value.{ScenarioValue}
-use Rattle.bus_due.specs.disk_array.specs.Processes.{Process, process_of}
-use Rattle.bus_due.specs.bus_story.specs.BusState.{RowReading, row_reading}
-use Rattle.bus_due.specs.bus_story.specs.CarriedBytes.{carried_of}
-use Rattle.bus_due.specs.bus_story.specs.Items.{process}
-use Rattle.bus_due.specs.bus_story.specs.Links.{Link}
-use Rattle.bus_due.specs.bus_story.proofs.CarriedLists.{carried_id}
-use Rattle.bus_due.specs.RunState.{RunState, item_of, process_item, process_here}
-use Rattle.bus_due.specs.RunSteps.{run_state, run_state_after}
-use Rattle.bus_books.specs.Carrying.{IsOwn, AllCarryOwn, SendsNext, SendsOwn, AllSendOwn}
-use Rattle.bus_books.proofs.Carried.{restored_own, refused_own, shown_own, fault_own, message_own, IsNext, byte_own, nothing_own}
-use Rattle.bus_books.proofs.CarriedSteps.{IsKept, no_link, row_carried}
+use Rattle.bus_books.proofs
+use proofs.Names.{◌≡◌, ◌∙◌, List, [], ◌∷◌, Option, Some, None, sym, ap, subst, ◌<◌, length, ◌%◌, slice_index_or, ProcId}
+use proofs.Names.{Row, ScenarioValue, Process, process_of, carried_id, RowReading, row_reading, carried_of, process}
+use proofs.Names.{Link, RunState, item_of, process_item, process_here, run_state, run_state_after, IsOwn, AllCarryOwn}
+use proofs.{Names.{SendsNext, SendsOwn, AllSendOwn}, Carried.{restored_own, refused_own, shown_own, fault_own}}
+use proofs.{Carried.{message_own, IsNext, byte_own, nothing_own}, CarriedSteps.{IsKept, no_link, row_carried}}
 pub use Rattle.bus_due.specs.disk_array.proofs.SoundArrays.{id_is as process_id}
 
 pub process_none : (p : Process) → (let a : Option Process = None in a) ≡ Some p → ⊥

@@ -1,35 +1,19 @@
 -- What holds of what is carried of each process, and of what MESSAGE PARITY ERROR would bring back, lasts with each row, where pointers,
 -- messages, marks and faults keep it, and each byte that crosses does (6.4, 6.6.13, 6.6.19).
-use Rattle.std.proofs.Common.{ℕ, ◌≡◌, Bool, true, false, not, ◌&&◌, ◌∙◌, List, [], ◌∷◌, Option, Some, None, refl, sym, ap, subst}
-use Rattle.std.specs.Prelude.{if◌then◌else◌, is_some, is_none, ◌%◌}
-use Rattle.std.proofs.lemmas.Option.{same_Some}
-use Rattle.bus_due.specs.bus_base.specs.declared.ProcId.{ProcId}
-use Rattle.bus_due.specs.bus_base.specs.declared.Event.{Event}
-use Rattle.bus_due.specs.bus_base.specs.declared.Event.TheVariants as events
-use Rattle.bus_due.specs.bus_trace.specs.LineSet.{LineSet}
-use Rattle.bus_due.specs.bus_trace.specs.declared.Row.{Row}
-use Rattle.bus_due.specs.bus_trace.specs.declared.Kind.{Kind}
-use Rattle.bus_due.specs.bus_trace.specs.declared.Kind.TheVariants.{Drives, Fault}
-use Rattle.bus_due.specs.bus_trace.specs.declared.changes.Change.{Change}
-use Rattle.bus_due.specs.bus_trace.specs.declared.connection.Connection.{Connection}
-use Rattle.bus_due.specs.bus_trace.specs.declared.selection.Call.{Call}
-use Rattle.bus_due.specs.bus_trace.specs.declared.selection.Calling.{Calling}
-use Rattle.bus_due.specs.bus_trace.specs.Changes.{falls}
-use Rattle.bus_due.specs.msg_grammar.specs.declared.message.MsgOut.{MsgOut}
-use Rattle.bus_due.specs.msg_grammar.specs.declared.message.MsgIn.{MsgIn}
-use Rattle.bus_due.specs.scenario.specs.Value.{ScenarioValue}
-use Rattle.bus_due.specs.disk_array.specs.Processes.{same_id}
-use Rattle.bus_due.specs.bus_story.specs.BusState.{RowReading, row_reading}
-use Rattle.bus_due.specs.bus_story.specs.CarriedBytes.{CarriedBytes, carried_of, with_carried, with_restored_pointers, carried_after_message, carried_after_byte, carried_after_fault}
-use Rattle.bus_due.specs.bus_story.specs.Items.{Item, process, abort}
-use Rattle.bus_due.specs.bus_story.specs.Links.{Link, link_of, last_out, last_in, link_after_name}
-use Rattle.bus_due.specs.bus_story.specs.HistoryEvents.{carried_if, row_events_by}
-use Rattle.bus_due.specs.bus_story.specs.Story.{Story, by_abort, by_reset, is_aborted, is_sense_stopped, marked_refused, marked_shown, story_with_end, story_after_event, story_after_events}
-use Rattle.bus_due.specs.bus_story.specs.TraceHistory.{aim_of, is_arbitration_entry, story_with_aim, story_without_answer, story_with_try, story_after_calling_by, story_after_calling, story_on_free_bus, story_with_restored, story_with_sent, story_after_connection, story_with_carried, is_parity_error, story_after_out, carried_after_message_if, story_after_message, story_after_in, carried_after_byte_if, story_after_byte, carried_after_fault_if, story_after_fault, story_in_connection, story_on_bus, story_by_change}
-use Rattle.bus_due.specs.RunState.{RunState}
-use Rattle.bus_due.specs.RunSteps.{run_state_after}
-use Rattle.bus_due.specs.bus_story.proofs.StorySteps.{ends_keep, check_keeps}
-use Rattle.bus_due.specs.bus_story.proofs.CarriedLists.{carried_with}
+use Rattle.bus_books.proofs
+use proofs.Names.{ℕ, ◌≡◌, Bool, true, false, not, ◌&&◌, ◌∙◌, List, [], ◌∷◌, Option, Some, None, refl, sym, ap, subst}
+use proofs.Names.{same_Some, if◌then◌else◌, is_some, is_none, ◌%◌, Event, ProcId, falls, LineSet, Kind, Drives, Fault}
+use proofs.Names.{Row, Change, Connection, Call, Calling, MsgIn, MsgOut, ScenarioValue, same_id, carried_with}
+use proofs.Names.{ends_keep, check_keeps, RowReading, row_reading, CarriedBytes, carried_of, with_carried}
+use proofs.Names.{with_restored_pointers, carried_after_message, carried_after_byte, carried_after_fault, carried_if}
+use proofs.Names.{row_events_by, Item, process, abort, Link, link_of, last_out, last_in, link_after_name, Story}
+use proofs.Names.{by_abort, by_reset, is_aborted, is_sense_stopped, marked_refused, marked_shown, story_with_end}
+use proofs.Names.{story_after_event, story_after_events, aim_of, is_arbitration_entry, story_with_aim}
+use proofs.Names.{story_without_answer, story_with_try, story_after_calling_by, story_after_calling, story_on_free_bus}
+use proofs.Names.{story_with_restored, story_with_sent, story_after_connection, story_with_carried, is_parity_error}
+use proofs.Names.{story_after_out, carried_after_message_if, story_after_message, story_after_in, carried_after_byte_if}
+use proofs.Names.{story_after_byte, carried_after_fault_if, story_after_fault, story_in_connection, story_on_bus}
+use proofs.Names.{story_by_change, RunState, run_state_after}
 
 -- Pointers, messages, marks and faults keep it.
 pub record IsKept (q : CarriedBytes → Type 0) : Type 0 where
@@ -75,18 +59,18 @@ link_undo q l h m c e f = h c (ap (λ (x : Link). x.undo) (same_Some l m e) ∙ 
 -- ---- events
 
 event_carried : (q : CarriedBytes → Type 0) → IsKept q → (s : ScenarioValue) (b : Story) (event : Event) → IsCarried q b → IsCarried q (story_after_event s b event)
-event_carried q kept s b (events.Accept id) h = h
-event_carried q kept s b (events.Refuse id) h = record { each = with_each q b.carried (marked_refused (carried_of b.carried id)) h.each (kept.refused (carried_of b.carried id) (h.each id)); undone = h.undone }
-event_carried q kept s b (events.Run id) h = record { each = with_each q b.carried (marked_shown (carried_of b.carried id)) h.each (kept.shown (carried_of b.carried id) (h.each id)); undone = h.undone }
-event_carried q kept s b (events.Fail id code) h = record { each = with_each q b.carried (marked_shown (carried_of b.carried id)) h.each (kept.shown (carried_of b.carried id) (h.each id)); undone = h.undone }
-event_carried q kept s b (events.End id status) h =
-    let k = check_keeps (story_with_end b id _) id status in carried_by q (story_after_event s b (events.End id status)) b k.0 k.1 h
-event_carried q kept s b (events.Lost id) h = record { each = h.each; undone = h.undone }
-event_carried q kept s b (events.Aborted host target unit what) h =
+event_carried q kept s b (Event.Accept id) h = h
+event_carried q kept s b (Event.Refuse id) h = record { each = with_each q b.carried (marked_refused (carried_of b.carried id)) h.each (kept.refused (carried_of b.carried id) (h.each id)); undone = h.undone }
+event_carried q kept s b (Event.Run id) h = record { each = with_each q b.carried (marked_shown (carried_of b.carried id)) h.each (kept.shown (carried_of b.carried id) (h.each id)); undone = h.undone }
+event_carried q kept s b (Event.Fail id code) h = record { each = with_each q b.carried (marked_shown (carried_of b.carried id)) h.each (kept.shown (carried_of b.carried id) (h.each id)); undone = h.undone }
+event_carried q kept s b (Event.End id status) h =
+    let k = check_keeps (story_with_end b id _) id status in carried_by q (story_after_event s b (Event.End id status)) b k.0 k.1 h
+event_carried q kept s b (Event.Lost id) h = record { each = h.each; undone = h.undone }
+event_carried q kept s b (Event.Aborted host target unit what) h =
     let k = ends_keep (is_aborted host target unit what) (is_sense_stopped host target unit what) by_abort 1 s.commands b in
-    carried_by q (story_after_event s b (events.Aborted host target unit what)) b k.0 k.1 h
-event_carried q kept s b (events.Reset dev) h =
-    let k = ends_keep (λ c. true) (λ c. true) by_reset 1 s.commands b in carried_by q (story_after_event s b (events.Reset dev)) b k.0 k.1 h
+    carried_by q (story_after_event s b (Event.Aborted host target unit what)) b k.0 k.1 h
+event_carried q kept s b (Event.Reset dev) h =
+    let k = ends_keep (λ c. true) (λ c. true) by_reset 1 s.commands b in carried_by q (story_after_event s b (Event.Reset dev)) b k.0 k.1 h
 
 events_carried : (q : CarriedBytes → Type 0) → IsKept q → (s : ScenarioValue) (b : Story) (shown : List Event) → IsCarried q b → IsCarried q (story_after_events s b shown)
 events_carried q kept s b [] h = h

@@ -1,18 +1,11 @@
 -- The causes in some runs of `bus_due`: a command that is refused; and processes that a target of limit 0 gives up in DATA OUT, DATA IN
 -- and STATUS, and one of limit 1 in STATUS.
-use Rattle.std.proofs.Common.{ℕ, ◌≡◌, true, false, [], refl, sym, ◌∙◌}
+use Rattle.bus_books.proofs
+use proofs.Names.{ℕ, ◌≡◌, true, false, [], refl, sym, ◌∙◌, ProcId, line_of, union_below, form_out, form_in, need_of}
+use proofs.Names.{sent_of, full_queue_due, full_queue_due_rows, given_up_due, given_up_due_rows, status_given_up_due}
+use proofs.Names.{status_given_up_due_rows, onto, run_state, was_refused, wrong_phases, fault_rows}
+use proofs.Forward.{phases_are, faults_are}
 use lib.Count.{ones}
-use Rattle.bus_due.specs.bus_base.specs.declared.ProcId.{ProcId}
-use Rattle.bus_due.specs.bus_trace.specs.LineSet.{line_of}
-use Rattle.bus_due.specs.bus_trace.specs.View.{union_below}
-use Rattle.bus_due.specs.msg_grammar.specs.Messages.{form_out, form_in}
-use Rattle.bus_due.specs.scenario.specs.Needs.{need_of, sent_of}
-use Rattle.bus_due.specs.RunSteps.{run_state}
-use Rattle.bus_due.proofs.Cases.{full_queue_due, full_queue_due_rows, given_up_due, given_up_due_rows, status_given_up_due, status_given_up_due_rows}
-use Rattle.bus_due.proofs.Seams.{onto}
-use Rattle.bus_books.specs.FullQueues.{was_refused}
-use Rattle.bus_books.specs.WrongParity.{wrong_phases, fault_rows}
-use Rattle.bus_books.proofs.Forward.{phases_are, faults_are}
 
 abbrev command : ℕ → ProcId
 command n = record { command = n; sense = false }

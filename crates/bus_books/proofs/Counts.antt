@@ -1,49 +1,19 @@
 -- A process has no more counted recoveries than phases with wrong parity.
-use Rattle.std.proofs.Common.{ℕ, ◌≡◌, ◌≤◌, Bool, true, false, List, [], ◌∷◌, ◌∙◌, refl, sym, ap, subst, Option, Some, None, arith}
-use Rattle.std.specs.Prelude.{◌+◌, if◌then◌else◌, not, ◌&&◌, ◌||◌, is_some, is_none, nat_lt}
-use Rattle.std.proofs.lemmas.Bool.{and_parts, and_from, or_right}
-use Rattle.bus_due.specs.bus_base.specs.declared.ProcId.{ProcId}
-use Rattle.bus_due.specs.bus_trace.specs.declared.Row.{Row}
-use Rattle.bus_due.specs.bus_trace.specs.declared.connection.Connection.{Connection}
-use Rattle.bus_due.specs.bus_trace.specs.Phases.{is_message_out, changes_phase}
-use Rattle.bus_due.specs.bus_trace.specs.Terms.{is_fault}
-use Rattle.bus_due.specs.bus_trace.specs.declared.agreements.Agreement.{Agreement}
-use Rattle.bus_due.specs.msg_grammar.specs.declared.message.MsgIn.{MsgIn}
-use Rattle.bus_due.specs.scenario.specs.declared.value.Policy.{Policy}
-use Rattle.bus_due.specs.scenario.specs.declared.value.TargetDef.{TargetDef}
-use Rattle.bus_due.specs.scenario.specs.Value.{ScenarioValue}
-use Rattle.bus_due.specs.disk_array.specs.Processes.{Process, same_id}
-use Rattle.bus_due.specs.disk_array.proofs.SoundArrays.{id_is}
-use Rattle.bus_due.specs.bus_story.specs.BusState.{RowReading, row_reading}
-use Rattle.bus_due.specs.bus_story.specs.Items.{Item, process, abort}
-use Rattle.bus_due.specs.bus_dialogue.specs.declared.exchange.Arrival.{Arrival}
-use Rattle.bus_due.specs.bus_dialogue.specs.declared.exchange.Arrival.TheVariants as arrivals
-use Rattle.bus_due.specs.bus_dialogue.specs.declared.exchange.Cause.{Cause}
-use Rattle.bus_due.specs.bus_dialogue.specs.declared.exchange.Cause.TheVariants as causes
-use Rattle.bus_due.specs.bus_dialogue.specs.declared.exchange.Hearing.{Hearing}
-use Rattle.bus_due.specs.bus_dialogue.specs.declared.exchange.Leaving.{Leaving}
-use Rattle.bus_due.specs.bus_dialogue.specs.declared.exchange.Messages.{Messages}
-use Rattle.bus_due.specs.bus_dialogue.specs.declared.exchange.Next.{Next}
-use Rattle.bus_due.specs.bus_dialogue.specs.declared.exchange.Next.TheVariants as nexts
-use Rattle.bus_due.specs.bus_dialogue.specs.declared.exchange.Phase.{Phase}
-use Rattle.bus_due.specs.bus_dialogue.specs.declared.exchange.Phase.TheVariants as phases
-use Rattle.bus_due.specs.bus_dialogue.specs.declared.exchange.Plan.{Plan}
-use Rattle.bus_due.specs.bus_dialogue.specs.declared.exchange.Task.{Task}
-use Rattle.bus_due.specs.bus_dialogue.specs.Exchange.{plan_anew, plan_after_message, struck_plan}
-use Rattle.bus_due.specs.bus_dialogue.specs.DataRuns.{runs_in_all}
-use Rattle.bus_due.specs.bus_dialogue.specs.Arrivals.{policy_of}
-use Rattle.bus_due.specs.bus_dialogue.specs.NextPhase.{Serving, phase_of, phase_leaving, leaving_by, bus_free, phase_entry, recovery, recovery_limit, pointer_restoration, request_or_command, after_offer, message_repetition, message_out_leaving, after_messages, disconnection, disconnect_messages, after_arrival, command_leaving, after_run, data_in_leaving, data_out_leaving, with_task}
-use Rattle.bus_due.specs.bus_dialogue.specs.PhaseBytes.{one_if}
-use Rattle.bus_due.specs.bus_dialogue.specs.Planning.{first_plan, plan_in_phase, plan_in_message_out, plan_with_byte, plan_after}
-use Rattle.bus_due.specs.bus_dialogue.specs.Words.{request_by, is_naming}
-use Rattle.bus_due.specs.Faithful.{same_process}
-use Rattle.bus_due.specs.LastingState.{ProcessProgress, progress_in, progress_with}
-use Rattle.bus_due.specs.RunState.{RunState, bus_of, process_served, process_item}
-use Rattle.bus_due.specs.RunSteps.{run_state, exchange_after, leaving_of, progress_after, progress_by_leaving, may_negotiate, naming_of}
-use Rattle.bus_due.specs.Sights.{hearing_of, serving_of, leaving}
-use Rattle.bus_books.specs.WrongParity.{is_struck_phase, is_complaint, is_wrong_phase, is_left, serves, leaves_wrong_phase, wrong_phases}
-use Rattle.bus_due.specs.bus_base.proofs.Tests.{all_three, wrong, wrong'}
-use Rattle.bus_due.specs.disk_array.proofs.SeatLookups.{same_id_is}
+use Rattle.bus_books.proofs
+use proofs.Names.{ℕ, ◌≡◌, ◌≤◌, Bool, true, false, List, [], ◌∷◌, ◌∙◌, refl, sym, ap, subst, Option, Some, None, arith}
+use proofs.Names.{◌+◌, not, ◌&&◌, ◌||◌, and_parts, and_from, or_right, if◌then◌else◌, is_some, is_none, nat_lt}
+use proofs.Names.{all_three, wrong, wrong', ProcId, is_message_out, changes_phase, is_fault, Row, Agreement, Connection}
+use proofs.Names.{MsgIn, ScenarioValue, Policy, TargetDef, same_id_is, id_is, Process, same_id, RowReading, row_reading}
+use proofs.Names.{Item, process, abort, policy_of, runs_in_all, plan_anew, plan_after_message, struck_plan, Serving}
+use proofs.Names.{phase_of, phase_leaving, leaving_by, bus_free, phase_entry, recovery, recovery_limit}
+use proofs.Names.{pointer_restoration, request_or_command, after_offer, message_repetition, message_out_leaving}
+use proofs.Names.{after_messages, disconnection, disconnect_messages, after_arrival, command_leaving, after_run}
+use proofs.Names.{data_in_leaving, data_out_leaving, with_task, one_if, first_plan, plan_in_phase, plan_in_message_out}
+use proofs.Names.{plan_with_byte, plan_after, request_by, is_naming, Arrival, Cause, Hearing, Leaving, Messages, Next}
+use proofs.Names.{Phase, Plan, Task, same_process, ProcessProgress, progress_in, progress_with, RunState, bus_of}
+use proofs.Names.{process_served, process_item, run_state, exchange_after, leaving_of, progress_after}
+use proofs.Names.{progress_by_leaving, may_negotiate, naming_of, hearing_of, serving_of, leaving, is_struck_phase}
+use proofs.Names.{is_complaint, is_wrong_phase, is_left, serves, leaves_wrong_phase, wrong_phases}
 
 -- ---- what the target takes for struck has a fault row in it
 
@@ -124,36 +94,36 @@ struck_is s (row ∷ rows) h = go (λ e. struck_is s rows e) k.story.bus_state.c
 
 -- By what the target plans.
 abbrev pub is_planned_wrong : Plan → Phase → Bool
-is_planned_wrong plan phases.Command = plan.struck
-is_planned_wrong plan phases.DataOut = plan.struck
-is_planned_wrong plan phases.MessageOut = is_complaint plan plan.cause
+is_planned_wrong plan Phase.Command = plan.struck
+is_planned_wrong plan Phase.DataOut = plan.struck
+is_planned_wrong plan Phase.MessageOut = is_complaint plan plan.cause
 is_planned_wrong plan _ = false
 
 pub planned_wrong : (s : ScenarioValue) (rows : List Row) (phase : Phase) → is_planned_wrong (run_state s rows).exchange.plan phase ≡ true → is_wrong_phase (is_struck_phase s rows) (run_state s rows).exchange.plan phase ≡ true
-planned_wrong s rows phases.Command h = struck_is s rows h
-planned_wrong s rows phases.DataOut h = struck_is s rows h
-planned_wrong s rows phases.MessageOut h = h
-planned_wrong s rows phases.MessageIn h = cc
-planned_wrong s rows phases.DataIn h = cc
-planned_wrong s rows phases.Status h = cc
+planned_wrong s rows Phase.Command h = struck_is s rows h
+planned_wrong s rows Phase.DataOut h = struck_is s rows h
+planned_wrong s rows Phase.MessageOut h = h
+planned_wrong s rows Phase.MessageIn h = cc
+planned_wrong s rows Phase.DataIn h = cc
+planned_wrong s rows Phase.Status h = cc
 
 run_counts : (policy : Policy) (t : Task) → (after_run policy t).counts ≡ false
 run_counts policy t = go (nat_lt (t.runs + 1) (runs_in_all policy t))
   where
-    go : (q : Bool) → (record (if q then disconnection (disconnect_messages policy) else phase_entry phases.Status) { done = true }).counts ≡ false
+    go : (q : Bool) → (record (if q then disconnection (disconnect_messages policy) else phase_entry Phase.Status) { done = true }).counts ≡ false
     go true = refl
     go false = refl
 
 arrival_counts : (def : Option TargetDef) (t : Task) (a : Arrival) → (after_arrival def t a).counts ≡ false
-arrival_counts def t arrivals.Refused = refl
-arrival_counts def t arrivals.Guest = refl
-arrival_counts def t arrivals.AtOnce = refl
-arrival_counts def t arrivals.Queued = refl
+arrival_counts def t Arrival.Refused = refl
+arrival_counts def t Arrival.Guest = refl
+arrival_counts def t Arrival.AtOnce = refl
+arrival_counts def t Arrival.Queued = refl
 
 command_counts : (v : Serving) (a : Arrival) → (command_leaving v a).counts ≡ true → v.plan.struck ≡ true
 command_counts v a h = go v.task v.plan.struck h
   where
-    go : (o : Option Task) (q : Bool) → (with_task o (λ t. if q then recovery v.def t (pointer_restoration nexts.Command) (phase_entry phases.Status) else after_arrival v.def t a)).counts ≡ true → q ≡ true
+    go : (o : Option Task) (q : Bool) → (with_task o (λ t. if q then recovery v.def t (pointer_restoration Next.Command) (phase_entry Phase.Status) else after_arrival v.def t a)).counts ≡ true → q ≡ true
     go o true k = refl
     go None false k = cc
     go (Some t) false k = wrong (sym k ∙ arrival_counts v.def t a)
@@ -161,7 +131,7 @@ command_counts v a h = go v.task v.plan.struck h
 data_out_counts : (v : Serving) → (data_out_leaving v).counts ≡ true → v.plan.struck ≡ true
 data_out_counts v h = go v.task v.plan.struck h
   where
-    go : (o : Option Task) (q : Bool) → (with_task o (λ t. if q then recovery v.def t (pointer_restoration nexts.GoOn) (phase_entry phases.Status) else after_run (policy_of v.def) t)).counts ≡ true → q ≡ true
+    go : (o : Option Task) (q : Bool) → (with_task o (λ t. if q then recovery v.def t (pointer_restoration Next.GoOn) (phase_entry Phase.Status) else after_run (policy_of v.def) t)).counts ≡ true → q ≡ true
     go o true k = refl
     go None false k = cc
     go (Some t) false k = wrong (sym k ∙ run_counts (policy_of v.def) t)
@@ -182,7 +152,7 @@ offer_counts def negotiates (Some x) = refl
 offer_counts def true None = request_counts (request_by def)
 offer_counts def false None = refl
 
-opening_counts : (v : Serving) → (message_out_leaving v causes.Selected).counts ≡ false
+opening_counts : (v : Serving) → (message_out_leaving v Cause.Selected).counts ≡ false
 opening_counts v = go (is_some v.plan.said.aborts)
   where
     go : (a : Bool) → (if a then bus_free else after_offer v.def v.plan.negotiates v.plan.said.offer).counts ≡ false
@@ -190,35 +160,35 @@ opening_counts v = go (is_some v.plan.said.aborts)
     go false = offer_counts v.def v.plan.negotiates v.plan.said.offer
 
 message_out_counts : (v : Serving) (c : Cause) → (message_out_leaving v c).counts ≡ true → is_complaint v.plan c ≡ true
-message_out_counts v causes.Selected h = wrong (sym h ∙ opening_counts v)
-message_out_counts v causes.InMessage h = go v.plan.said.offer h
+message_out_counts v Cause.Selected h = wrong (sym h ∙ opening_counts v)
+message_out_counts v Cause.InMessage h = go v.plan.said.offer h
   where
-    go : (o : Option Agreement) → (if is_some o then phase_entry phases.Command else if is_naming v.plan.messages.first then message_repetition v.plan else with_task v.task (λ t. recovery v.def t (message_repetition v.plan) bus_free)).counts ≡ true → is_none o ≡ true
+    go : (o : Option Agreement) → (if is_some o then phase_entry Phase.Command else if is_naming v.plan.messages.first then message_repetition v.plan else with_task v.task (λ t. recovery v.def t (message_repetition v.plan) bus_free)).counts ≡ true → is_none o ≡ true
     go None k = refl
     go (Some x) k = cc
-message_out_counts v causes.InData h = refl
-message_out_counts v causes.InStatus h = refl
+message_out_counts v Cause.InData h = refl
+message_out_counts v Cause.InStatus h = refl
 
 messages_counts : (v : Serving) (n : Next) → (after_messages v n).counts ≡ false
-messages_counts v nexts.Command = refl
-messages_counts v nexts.Status = refl
-messages_counts v nexts.FreeBus = refl
-messages_counts v nexts.GoOn = go v.task
+messages_counts v Next.Command = refl
+messages_counts v Next.Status = refl
+messages_counts v Next.FreeBus = refl
+messages_counts v Next.GoOn = go v.task
   where
     go : (o : Option Task) → (with_task o (λ t. phase_entry (Rattle.bus_due.specs.bus_dialogue.specs.NextPhase.next_data_phase (policy_of v.def) t t.runs))).counts ≡ false
     go None = refl
     go (Some t) = refl
 
 pub counts_wrong : (v : Serving) (attention : Bool) (phase : Phase) → (phase_leaving v attention phase).counts ≡ true → is_planned_wrong v.plan phase ≡ true
-counts_wrong v attention phases.MessageOut h = message_out_counts v v.plan.cause h
-counts_wrong v attention phases.Command h = command_counts v v.arrival h
-counts_wrong v attention phases.DataOut h = data_out_counts v h
-counts_wrong v true phases.MessageIn h = cc
-counts_wrong v false phases.MessageIn h = wrong (sym h ∙ messages_counts v v.plan.next)
-counts_wrong v true phases.DataIn h = cc
-counts_wrong v false phases.DataIn h = wrong (sym h ∙ data_in_counts v)
-counts_wrong v true phases.Status h = cc
-counts_wrong v false phases.Status h = cc
+counts_wrong v attention Phase.MessageOut h = message_out_counts v v.plan.cause h
+counts_wrong v attention Phase.Command h = command_counts v v.arrival h
+counts_wrong v attention Phase.DataOut h = data_out_counts v h
+counts_wrong v true Phase.MessageIn h = cc
+counts_wrong v false Phase.MessageIn h = wrong (sym h ∙ messages_counts v v.plan.next)
+counts_wrong v true Phase.DataIn h = cc
+counts_wrong v false Phase.DataIn h = wrong (sym h ∙ data_in_counts v)
+counts_wrong v true Phase.Status h = cc
+counts_wrong v false Phase.Status h = cc
 
 -- ---- a row more
 

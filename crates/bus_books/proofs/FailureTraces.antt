@@ -1,33 +1,15 @@
 -- Of a whole trace: a process fails, or is lost, only past the limit of its target.
-use Rattle.std.proofs.Common.{ℕ, ◌≡◌, Bool, true, false, List, [], ◌∷◌, ◌∙◌, refl, sym, Option, Some, None, arith}
-use Rattle.std.specs.Prelude.{◌+◌, if◌then◌else◌, not, ◌&&◌, ◌||◌, ◌==◌, is_some, is_none, nat_lt}
-use Rattle.std.proofs.lemmas.Bool.{and_parts, eqb-true}
-use Rattle.std.proofs.lemmas.Bool.Decides.{nat_tests}
-use Rattle.bus_due.specs.bus_base.specs.declared.Event.TheVariants as events
-use Rattle.bus_due.specs.bus_trace.specs.declared.Row.{Row}
-use Rattle.bus_due.specs.bus_trace.specs.declared.connection.Connection.{Connection}
-use Rattle.bus_due.specs.scenario.specs.declared.value.TargetDef.{TargetDef}
-use Rattle.bus_due.specs.scenario.specs.Value.{ScenarioValue}
-use Rattle.bus_due.specs.disk_array.specs.Processes.{Process, process_of}
-use Rattle.bus_due.specs.bus_story.specs.BusState.{RowReading, row_reading}
-use Rattle.bus_due.specs.bus_story.specs.HistoryEvents.{row_events_by}
-use Rattle.bus_due.specs.bus_story.specs.Items.{Item, process, abort}
-use Rattle.bus_due.specs.bus_dialogue.specs.NextPhase.{phase_of, recovery_limit}
-use Rattle.bus_due.specs.bus_dialogue.specs.PhaseBytes.{one_if}
-use Rattle.bus_due.specs.bus_dialogue.specs.declared.exchange.Task.{Task}
-use Rattle.bus_due.specs.Defs.{target_def_of}
-use Rattle.bus_due.specs.Faithful.{same_process, has_ends, is_true_beginning, is_faithful, is_true_hearing, faithful}
-use Rattle.bus_due.specs.RunState.{RunState, bus_of, process_served, process_item}
-use Rattle.bus_due.specs.RunSteps.{run_state, served_after}
-use Rattle.bus_due.specs.Sights.{leaving}
-use Rattle.bus_due.specs.Tasks.{task_of}
-use Rattle.bus_due.specs.Telling.{is_true_telling, telling}
-use Rattle.bus_books.specs.FullQueues.{has_event}
-use Rattle.bus_books.specs.WrongParity.{is_struck_phase, is_left, serves, is_wrong_phase, leaves_wrong_phase, wrong_phases, is_failure, is_loss, is_past_limit, gives_up, is_left_by, is_left_as_due, left_as_due, has_passed_limit}
-use Rattle.bus_books.proofs.GiveUps.{failure_is, loss_by, fails_connected, lost_connected, lost_calm}
-use Rattle.bus_books.proofs.Struck.{either_list}
-use Rattle.bus_due.specs.disk_array.proofs.SeatLookups.{same_id_is}
-use Rattle.bus_due.specs.bus_base.proofs.Tests.{middle}
+use Rattle.bus_books.proofs
+use proofs.Names.{ℕ, ◌≡◌, Bool, true, false, List, [], ◌∷◌, ◌∙◌, refl, sym, Option, Some, None, arith, ◌+◌, not, ◌&&◌}
+use proofs.Names.{◌||◌, and_parts, eqb-true, nat_tests, if◌then◌else◌, ◌==◌, is_some, is_none, nat_lt, middle, Event}
+use proofs.Names.{Row, Connection, ScenarioValue, TargetDef, same_id_is, Process, process_of, RowReading, row_reading}
+use proofs.Names.{row_events_by, Item, process, abort, phase_of, recovery_limit, one_if, Task, target_def_of}
+use proofs.Names.{same_process, has_ends, is_true_beginning, is_faithful, is_true_hearing, faithful, RunState, bus_of}
+use proofs.Names.{process_served, process_item, run_state, served_after, leaving, task_of, is_true_telling, telling}
+use proofs.Names.{has_event, is_struck_phase, is_left, serves, is_wrong_phase, leaves_wrong_phase, wrong_phases}
+use proofs.Names.{is_failure, is_loss, is_past_limit, gives_up, is_left_by, is_left_as_due, left_as_due}
+use proofs.{Names.{has_passed_limit}, GiveUps.{failure_is, loss_by, fails_connected, lost_connected, lost_calm}}
+use proofs.Struck.{either_list}
 
 -- ---- the ends of a connection are those of the process that its target serves
 
@@ -100,14 +82,14 @@ more_phases s rows row p h = go (recovery_limit (target_def_of s p.target)) (wro
     go limit w true e = grind (arith, nat_tests)
     go limit w false e = grind (arith, nat_tests)
 
-pub failures_are : (s : ScenarioValue) (rows : List Row) (p : Process) (code : ℕ) → faithful s rows ≡ true → telling s rows ≡ true → process_of s p.id ≡ Some p → has_event (run_state s rows).story.history (events.Fail p.id code) ≡ true → has_passed_limit s rows p ≡ true
+pub failures_are : (s : ScenarioValue) (rows : List Row) (p : Process) (code : ℕ) → faithful s rows ≡ true → telling s rows ≡ true → process_of s p.id ≡ Some p → has_event (run_state s rows).story.history (Event.Fail p.id code) ≡ true → has_passed_limit s rows p ≡ true
 failures_are s [] p code f t own h = cc
 failures_are s (row ∷ rows) p code f t own h =
     let k : RunState = run_state s rows in
     let d : RowReading = row_reading k.story.bus_state row in
     let ff = and_parts (faithful s rows) (is_faithful s k d) f in
     let tt2 = and_parts (telling s rows) (is_true_telling s k row d) t in
-    either_list (row_events_by s k.story d row) k.story.history (events.Fail p.id code) (has_passed_limit s (row ∷ rows) p)
+    either_list (row_events_by s k.story d row) k.story.history (Event.Fail p.id code) (has_passed_limit s (row ∷ rows) p)
     (λ x.
     let n = fails_connected s k row d p.id code tt2.1 x in
     gave_up s rows row n.0 p ff.0 n.1 own (and_parts (is_failure k.exchange.plan.cause code (phase_of (bus_of k))) (gives_up s rows row n.0 p.id) (failure_is s rows row n.0 p.id code n.1 tt2.1 x)).1)
@@ -116,7 +98,7 @@ failures_are s (row ∷ rows) p code f t own h =
 free_row : (s : ScenarioValue) (k : RunState) (d : RowReading) (n : Connection) → k.story.bus_state.connection ≡ Some n → d.change.after.rst ≡ false → is_left_as_due s k d ≡ true → is_some d.next ≡ false → is_none (leaving s k n.target).to ≡ true
 free_row s k d n z calm left next = (λ i. sym calm i || sym next i || is_none (leaving s k n.target).to) ∙ (λ i. is_left_by s k d (sym z i)) ∙ left
 
-pub losses_are : (s : ScenarioValue) (rows : List Row) (p : Process) → faithful s rows ≡ true → telling s rows ≡ true → left_as_due s rows ≡ true → process_of s p.id ≡ Some p → has_event (run_state s rows).story.history (events.Lost p.id) ≡ true → has_passed_limit s rows p ≡ true
+pub losses_are : (s : ScenarioValue) (rows : List Row) (p : Process) → faithful s rows ≡ true → telling s rows ≡ true → left_as_due s rows ≡ true → process_of s p.id ≡ Some p → has_event (run_state s rows).story.history (Event.Lost p.id) ≡ true → has_passed_limit s rows p ≡ true
 losses_are s [] p f t l own h = cc
 losses_are s (row ∷ rows) p f t l own h =
     let k : RunState = run_state s rows in
@@ -124,7 +106,7 @@ losses_are s (row ∷ rows) p f t l own h =
     let ff = and_parts (faithful s rows) (is_faithful s k d) f in
     let tt2 = and_parts (telling s rows) (is_true_telling s k row d) t in
     let ll = and_parts (left_as_due s rows) (is_left_as_due s k d) l in
-    either_list (row_events_by s k.story d row) k.story.history (events.Lost p.id) (has_passed_limit s (row ∷ rows) p)
+    either_list (row_events_by s k.story d row) k.story.history (Event.Lost p.id) (has_passed_limit s (row ∷ rows) p)
     (λ x.
     let n = lost_connected s k row d p.id tt2.1 x in
     gave_up s rows row n.0 p ff.0 n.1 own (and_parts (is_loss k.exchange.plan.cause (phase_of (bus_of k))) (gives_up s rows row n.0 p.id) (loss_by s rows row n.0 p n.1 tt2.1 own (free_row s k d n.0 n.1 (lost_calm s k row d p.id tt2.1 x) ll.1) x)).1)

@@ -1,41 +1,21 @@
 -- What a row of a connection tells is what was to be said.
-use Rattle.std.proofs.Common.{ℕ, ◌≡◌, inl, inr, Bool, true, false, not, ◌&&◌, ◌||◌, ◌∙◌, Option, Some, None, refl, sym, ap, true≢false}
-use Rattle.std.specs.Prelude.{if◌then◌else◌, is_some, ◌%◌, ◌==◌, slice_index_or}
-use Rattle.bus_due.specs.bus_trace.specs.LineSet.{LineSet}
-use Rattle.bus_due.specs.bus_trace.specs.declared.Row.{Row}
-use Rattle.bus_due.specs.bus_trace.specs.declared.connection.Connection.{Connection}
-use Rattle.bus_due.specs.bus_trace.specs.Phases.{changes_phase, is_message_out, is_data}
-use Rattle.bus_due.specs.scenario.specs.Value.{ScenarioValue}
-use Rattle.bus_due.specs.disk_array.specs.Processes.{Process}
-use Rattle.bus_due.specs.bus_story.specs.BusState.{row_reading}
-use Rattle.bus_due.specs.bus_story.specs.Items.{Item, process, abort}
-use Rattle.bus_due.specs.bus_dialogue.specs.declared.exchange.Phase.{Phase}
-use Rattle.bus_due.specs.bus_dialogue.specs.declared.exchange.Phase.TheVariants as phases
-use Rattle.bus_due.specs.bus_dialogue.specs.declared.exchange.Task.{Task}
-use Rattle.bus_due.specs.bus_dialogue.specs.Arrivals.{policy_of}
-use Rattle.bus_due.specs.bus_dialogue.specs.DataRuns.{run_at}
-use Rattle.bus_due.specs.bus_dialogue.specs.NextPhase.{phase_of}
-use Rattle.bus_due.specs.Defs.{target_def_of}
-use Rattle.bus_due.specs.Faithful.{same_process, is_known_process, is_true_leaving, is_sent_at, is_true_crossing, is_true_beginning, is_true_hearing, is_faithful}
-use Rattle.bus_due.specs.RunState.{RunState, bus_of, item_of, process_item, process_here, process_served, carried_here}
-use Rattle.bus_due.specs.Tasks.{task_of}
-use Rattle.scsi_device.specs.Lines.{AreUnits}
-use Rattle.scsi_device.specs.Writes.{is_data_out}
-use Rattle.bus_books.specs.Carrying.{AllCarryOwn, SendsOwn}
-use Rattle.bus_books.specs.Hearing.{is_in_phase, is_out_phase, HasPhase, LeavesWhole, MovesRuns}
-use Rattle.bus_books.specs.Knowing.{Knows}
-use Rattle.bus_books.specs.Speaking.{Speaks}
-use Rattle.bus_books.proofs.CarriedBlocks.{block_own}
-use Rattle.bus_books.proofs.Lookups.{self_id}
-use Rattle.bus_books.proofs.Opened.{opening_named}
-use Rattle.bus_due.specs.bus_base.proofs.Tests.{eq_self, unless}
+use Rattle.bus_books.proofs
+use proofs.Names.{ℕ, ◌≡◌, inl, inr, Bool, true, false, not, ◌&&◌, ◌||◌, ◌∙◌, Option, Some, None, refl, sym, ap}
+use proofs.Names.{true≢false, if◌then◌else◌, is_some, ◌%◌, ◌==◌, slice_index_or, eq_self, unless, LineSet}
+use proofs.Names.{changes_phase, is_message_out, is_data, Row, Connection, ScenarioValue, Process, row_reading, Item}
+use proofs.Names.{process, abort, policy_of, run_at, phase_of, Phase, Task, target_def_of, same_process}
+use proofs.Names.{is_known_process, is_true_leaving, is_sent_at, is_true_crossing, is_true_beginning, is_true_hearing}
+use proofs.Names.{is_faithful, RunState, bus_of, item_of, process_item, process_here, process_served, carried_here}
+use proofs.Names.{task_of, AreUnits, is_data_out, AllCarryOwn, SendsOwn, is_in_phase, is_out_phase, HasPhase}
+use proofs.{Names.{LeavesWhole, MovesRuns, Knows, Speaks}, CarriedBlocks.{block_own}, Lookups.{self_id}}
+use proofs.Opened.{opening_named}
 
 -- ---- phases
 
-pub out_lines : (b : LineSet) → phase_of b ≡ phases.MessageOut → (b.msg ≡ true → b.cd ≡ true) → is_message_out b ≡ true
+pub out_lines : (b : LineSet) → phase_of b ≡ Phase.MessageOut → (b.msg ≡ true → b.cd ≡ true) → is_message_out b ≡ true
 out_lines b e h = go b.msg b.cd b.io (ap is_out_phase e) h
   where
-    go : (m c i : Bool) → is_out_phase (if m then (if i then phases.MessageIn else phases.MessageOut) else if c then (if i then phases.Status else phases.Command) else if i then phases.DataIn else phases.DataOut) ≡ true → (m ≡ true → c ≡ true) → (m && c && not i) ≡ true
+    go : (m c i : Bool) → is_out_phase (if m then (if i then Phase.MessageIn else Phase.MessageOut) else if c then (if i then Phase.Status else Phase.Command) else if i then Phase.DataIn else Phase.DataOut) ≡ true → (m ≡ true → c ≡ true) → (m && c && not i) ≡ true
     go true true true z g = z
     go true true false z g = refl
     go true false i z g = absurd (true≢false (sym (g refl)))
@@ -44,10 +24,10 @@ out_lines b e h = go b.msg b.cd b.io (ap is_out_phase e) h
     go false false true z g = z
     go false false false z g = z
 
-data_lines : (b : LineSet) → phase_of b ≡ phases.DataOut → is_data b ≡ true
+data_lines : (b : LineSet) → phase_of b ≡ Phase.DataOut → is_data b ≡ true
 data_lines b e = go b.msg b.cd b.io (ap is_data_out e)
   where
-    go : (m c i : Bool) → is_data_out (if m then (if i then phases.MessageIn else phases.MessageOut) else if c then (if i then phases.Status else phases.Command) else if i then phases.DataIn else phases.DataOut) ≡ true → (not m && not c) ≡ true
+    go : (m c i : Bool) → is_data_out (if m then (if i then Phase.MessageIn else Phase.MessageOut) else if c then (if i then Phase.Status else Phase.Command) else if i then Phase.DataIn else Phase.DataOut) ≡ true → (not m && not c) ≡ true
     go true c true z = z
     go true c false z = z
     go false true true z = z
@@ -72,30 +52,30 @@ known_as : (k : RunState) → item_of k.story.link ≡ k.served → same_process
 known_as k e = ap (same_process k.served) e ∙ same_self k.served
 
 known_left : (s : ScenarioValue) (k : RunState) (n : Connection) → Knows s k n → LeavesWhole s k n → (phase : Phase) → phase_of (bus_of k) ≡ phase → is_known_process k phase ≡ true
-known_left s k n h w phases.MessageOut e = refl
-known_left s k n h w phases.MessageIn e = unless (bus_of k).atn (same_process k.served (item_of k.story.link)) (λ f. known_as k (linked_item s k n h (λ r. w.named r (ap is_out_phase e) ((λ i. is_in_phase (e i) && (bus_of k).atn) ∙ f))))
-known_left s k n h w phases.Command e = known_as k (linked_item s k n h (λ r. w.named r (ap is_out_phase e) (λ i. is_in_phase (e i) && (bus_of k).atn)))
-known_left s k n h w phases.Status e = known_as k (linked_item s k n h (λ r. w.named r (ap is_out_phase e) (λ i. is_in_phase (e i) && (bus_of k).atn)))
-known_left s k n h w phases.DataIn e = known_as k (linked_item s k n h (λ r. w.named r (ap is_out_phase e) (λ i. is_in_phase (e i) && (bus_of k).atn)))
-known_left s k n h w phases.DataOut e = known_as k (linked_item s k n h (λ r. w.named r (ap is_out_phase e) (λ i. is_in_phase (e i) && (bus_of k).atn)))
+known_left s k n h w Phase.MessageOut e = refl
+known_left s k n h w Phase.MessageIn e = unless (bus_of k).atn (same_process k.served (item_of k.story.link)) (λ f. known_as k (linked_item s k n h (λ r. w.named r (ap is_out_phase e) ((λ i. is_in_phase (e i) && (bus_of k).atn) ∙ f))))
+known_left s k n h w Phase.Command e = known_as k (linked_item s k n h (λ r. w.named r (ap is_out_phase e) (λ i. is_in_phase (e i) && (bus_of k).atn)))
+known_left s k n h w Phase.Status e = known_as k (linked_item s k n h (λ r. w.named r (ap is_out_phase e) (λ i. is_in_phase (e i) && (bus_of k).atn)))
+known_left s k n h w Phase.DataIn e = known_as k (linked_item s k n h (λ r. w.named r (ap is_out_phase e) (λ i. is_in_phase (e i) && (bus_of k).atn)))
+known_left s k n h w Phase.DataOut e = known_as k (linked_item s k n h (λ r. w.named r (ap is_out_phase e) (λ i. is_in_phase (e i) && (bus_of k).atn)))
 
 -- ---- a phase is left
 
-block_left : (s : ScenarioValue) (k : RunState) (n : Connection) → AllCarryOwn s k → LeavesWhole s k n → phase_of (bus_of k) ≡ phases.Command → (p : Option Process) → process_served s k ≡ p → is_true_leaving s k p phases.Command ≡ true
+block_left : (s : ScenarioValue) (k : RunState) (n : Connection) → AllCarryOwn s k → LeavesWhole s k n → phase_of (bus_of k) ≡ Phase.Command → (p : Option Process) → process_served s k ≡ p → is_true_leaving s k p Phase.Command ≡ true
 block_left s k n c w e None f = refl
 block_left s k n c w e (Some p) f = let b = w.command p f e in block_own s k p c f b.0 b.1
 
 said_left : (s : ScenarioValue) (k : RunState) (n : Connection) → AreUnits s → Speaks s k n → AllCarryOwn s k → LeavesWhole s k n → HasPhase k → k.exchange.begun ≡ true → (phase : Phase) → phase_of (bus_of k) ≡ phase → is_true_leaving s k (process_served s k) phase ≡ true
-said_left s k n u h c w lines eb phases.MessageOut e = opening_named s k n u h eb (out_lines (bus_of k) e (λ m. (lines m).0)) (w.out e)
-said_left s k n u h c w lines eb phases.MessageIn e = refl
-said_left s k n u h c w lines eb phases.Command e = block_left s k n c w e (process_served s k) refl
-said_left s k n u h c w lines eb phases.Status e = refl
-said_left s k n u h c w lines eb phases.DataIn e = refl
-said_left s k n u h c w lines eb phases.DataOut e = refl
+said_left s k n u h c w lines eb Phase.MessageOut e = opening_named s k n u h eb (out_lines (bus_of k) e (λ m. (lines m).0)) (w.out e)
+said_left s k n u h c w lines eb Phase.MessageIn e = refl
+said_left s k n u h c w lines eb Phase.Command e = block_left s k n c w e (process_served s k) refl
+said_left s k n u h c w lines eb Phase.Status e = refl
+said_left s k n u h c w lines eb Phase.DataIn e = refl
+said_left s k n u h c w lines eb Phase.DataOut e = refl
 
 -- ---- a byte crosses
 
-sent_at : (s : ScenarioValue) (k : RunState) (row : Row) (n : Connection) (p : Process) → Knows s k n → SendsOwn s k row → MovesRuns s k n → process_served s k ≡ Some p → phase_of (bus_of k) ≡ phases.DataOut → (row_reading k.story.bus_state row).crosses ≡ true → (t : Option Task) → task_of s k ≡ t
+sent_at : (s : ScenarioValue) (k : RunState) (row : Row) (n : Connection) (p : Process) → Knows s k n → SendsOwn s k row → MovesRuns s k n → process_served s k ≡ Some p → phase_of (bus_of k) ≡ Phase.DataOut → (row_reading k.story.bus_state row).crosses ≡ true → (t : Option Task) → task_of s k ≡ t
     → is_sent_at s k p t ((row_reading k.story.bus_state row).change.after.data_bits % 256) ≡ true
 sent_at s k row n p h sends runs ep e ec None et = refl
 sent_at s k row n p h sends runs ep e ec (Some t) et =
@@ -109,12 +89,12 @@ sent_at s k row n p h sends runs ep e ec (Some t) et =
 crossed : (s : ScenarioValue) (k : RunState) (row : Row) (n : Connection) → Knows s k n → SendsOwn s k row → MovesRuns s k n → (row_reading k.story.bus_state row).crosses ≡ true → (p : Option Process) → process_served s k ≡ p → (phase : Phase) → phase_of (bus_of k) ≡ phase
     → is_true_crossing s k p ((row_reading k.story.bus_state row).change.after.data_bits % 256) phase ≡ true
 crossed s k row n h sends runs ec None ep phase e = refl
-crossed s k row n h sends runs ec (Some p) ep phases.DataOut e = sent_at s k row n p h sends runs ep e ec (task_of s k) refl
-crossed s k row n h sends runs ec (Some p) ep phases.MessageOut e = refl
-crossed s k row n h sends runs ec (Some p) ep phases.MessageIn e = refl
-crossed s k row n h sends runs ec (Some p) ep phases.Command e = refl
-crossed s k row n h sends runs ec (Some p) ep phases.Status e = refl
-crossed s k row n h sends runs ec (Some p) ep phases.DataIn e = refl
+crossed s k row n h sends runs ec (Some p) ep Phase.DataOut e = sent_at s k row n p h sends runs ep e ec (task_of s k) refl
+crossed s k row n h sends runs ec (Some p) ep Phase.MessageOut e = refl
+crossed s k row n h sends runs ec (Some p) ep Phase.MessageIn e = refl
+crossed s k row n h sends runs ec (Some p) ep Phase.Command e = refl
+crossed s k row n h sends runs ec (Some p) ep Phase.Status e = refl
+crossed s k row n h sends runs ec (Some p) ep Phase.DataIn e = refl
 
 -- ---- a row, with which the connection goes on or ends
 

@@ -1,29 +1,12 @@
 -- No more phases with wrong parity than fault rows, where each complaint of the initiator is of a phase with a fault row.
-use Rattle.std.proofs.Common.{ℕ, ◌≡◌, ◌≤◌, Bool, true, false, List, [], ◌∷◌, ◌∙◌, refl, sym, subst, Option, Some, None, arith}
-use Rattle.std.specs.Prelude.{◌+◌, if◌then◌else◌, not, ◌&&◌, ◌||◌, is_some, nat_lt}
-use Rattle.std.proofs.lemmas.Bool.{and_parts}
-use Rattle.std.proofs.lemmas.Bool.Decides.{nat_tests}
-use Rattle.bus_due.specs.bus_base.specs.declared.ProcId.{ProcId}
-use Rattle.bus_due.specs.bus_base.proofs.Tests.{wrong'}
-use Rattle.bus_due.specs.bus_trace.specs.LineSet.{LineSet}
-use Rattle.bus_due.specs.bus_trace.specs.Phases.{changes_phase, is_message_out}
-use Rattle.bus_due.specs.bus_trace.specs.Terms.{is_fault}
-use Rattle.bus_due.specs.bus_trace.specs.declared.Row.{Row}
-use Rattle.bus_due.specs.bus_trace.specs.declared.connection.Connection.{Connection}
-use Rattle.bus_due.specs.scenario.specs.Value.{ScenarioValue}
-use Rattle.bus_due.specs.disk_array.specs.Processes.{Process}
-use Rattle.bus_due.specs.bus_story.specs.BusState.{RowReading, row_reading}
-use Rattle.bus_due.specs.bus_story.specs.Items.{process}
-use Rattle.bus_due.specs.bus_dialogue.specs.NextPhase.{phase_of, recovery_limit}
-use Rattle.bus_due.specs.bus_dialogue.specs.PhaseBytes.{one_if}
-use Rattle.bus_due.specs.bus_dialogue.specs.declared.exchange.Phase.{Phase}
-use Rattle.bus_due.specs.bus_dialogue.specs.declared.exchange.Phase.TheVariants as phases
-use Rattle.bus_due.specs.bus_dialogue.specs.declared.exchange.Plan.{Plan}
-use Rattle.bus_due.specs.Defs.{target_def_of}
-use Rattle.bus_due.specs.Faithful.{same_process}
-use Rattle.bus_due.specs.RunState.{RunState, bus_of}
-use Rattle.bus_due.specs.RunSteps.{run_state, served_after}
-use Rattle.bus_books.specs.WrongParity.{is_struck_phase, is_wrong_phase, is_left, serves, leaves_wrong_phase, wrong_phases, fault_rows, is_refusing, is_complaining, is_true_complaint, complains_truly, has_passed_limit, has_more_faults}
+use Rattle.bus_books.proofs
+use proofs.Names.{ℕ, ◌≡◌, ◌≤◌, Bool, true, false, List, [], ◌∷◌, ◌∙◌, refl, sym, subst, Option, Some, None, arith, ◌+◌}
+use proofs.Names.{not, ◌&&◌, ◌||◌, and_parts, nat_tests, if◌then◌else◌, is_some, nat_lt, wrong', ProcId, LineSet}
+use proofs.Names.{changes_phase, is_message_out, is_fault, Row, Connection, ScenarioValue, Process, RowReading}
+use proofs.Names.{row_reading, process, phase_of, recovery_limit, one_if, Phase, Plan, target_def_of, same_process}
+use proofs.Names.{RunState, bus_of, run_state, served_after, is_struck_phase, is_wrong_phase, is_left, serves}
+use proofs.Names.{leaves_wrong_phase, wrong_phases, fault_rows, is_refusing, is_complaining, is_true_complaint}
+use proofs.Names.{complains_truly, has_passed_limit, has_more_faults}
 
 -- ---- numbers
 
@@ -95,23 +78,23 @@ step w f true true false x io out s t p q false a b d e g h =
 wrong_out : (struck : Bool) (plan : Plan) (lines : LineSet) → is_wrong_phase struck plan (phase_of lines) ≡ true → lines.io ≡ false
 wrong_out struck plan lines h = go lines.msg lines.io lines.cd h
   where
-    go : (m io c : Bool) → is_wrong_phase struck plan (if m then (if io then phases.MessageIn else phases.MessageOut) else if c then (if io then phases.Status else phases.Command) else if io then phases.DataIn else phases.DataOut) ≡ true → io ≡ false
+    go : (m io c : Bool) → is_wrong_phase struck plan (if m then (if io then Phase.MessageIn else Phase.MessageOut) else if c then (if io then Phase.Status else Phase.Command) else if io then Phase.DataIn else Phase.DataOut) ≡ true → io ≡ false
     go true true c k = cc
     go false true true k = cc
     go false true false k = cc
     go m false c k = refl
 
 wrong_struck : (struck refusing left : Bool) (plan : Plan) (phase : Phase) → left ≡ true → is_wrong_phase struck plan phase ≡ true → (not (left && is_complaining plan phase) || refusing) ≡ true → (struck || refusing) ≡ true
-wrong_struck struck refusing left plan phases.Command a b c = λ i. b i || refusing
-wrong_struck struck refusing left plan phases.DataOut a b c = λ i. b i || refusing
-wrong_struck struck refusing left plan phases.MessageOut a b c = last struck ((λ i. not (sym a i && sym b i) || refusing) ∙ c)
+wrong_struck struck refusing left plan Phase.Command a b c = λ i. b i || refusing
+wrong_struck struck refusing left plan Phase.DataOut a b c = λ i. b i || refusing
+wrong_struck struck refusing left plan Phase.MessageOut a b c = last struck ((λ i. not (sym a i && sym b i) || refusing) ∙ c)
   where
     last : (x : Bool) → refusing ≡ true → (x || refusing) ≡ true
     last true e = refl
     last false e = e
-wrong_struck struck refusing left plan phases.MessageIn a b c = cc
-wrong_struck struck refusing left plan phases.DataIn a b c = cc
-wrong_struck struck refusing left plan phases.Status a b c = cc
+wrong_struck struck refusing left plan Phase.MessageIn a b c = cc
+wrong_struck struck refusing left plan Phase.DataIn a b c = cc
+wrong_struck struck refusing left plan Phase.Status a b c = cc
 
 parts : (a b c : Bool) → (a && b && c) ≡ true → (a ≡ true) × (b ≡ true) × (c ≡ true)
 parts true true true h = (refl, refl, refl)

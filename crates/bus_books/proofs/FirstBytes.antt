@@ -1,45 +1,17 @@
 -- The first byte of a connection begins an IDENTIFY.
-use Rattle.std.proofs.Common.{ℕ, ◌≡◌, Bool, true, false, not, ◌&&◌, ◌∙◌, [], Option, Some, None, refl, sym, ap, subst, true≢false}
-use Rattle.std.specs.Prelude.{if◌then◌else◌, is_some, ◌==◌, ◌%◌}
-use Rattle.bus_due.specs.bus_trace.specs.LineSet.{LineSet}
-use Rattle.bus_due.specs.bus_trace.specs.declared.Row.{Row}
-use Rattle.bus_due.specs.bus_trace.specs.declared.changes.Change.{Change}
-use Rattle.bus_due.specs.bus_trace.specs.declared.connection.Connection.{Connection}
-use Rattle.bus_due.specs.bus_trace.specs.Terms.{receiver_in}
-use Rattle.bus_due.specs.bus_trace.specs.Phases.{changes_phase, is_command, is_message_out, is_message_in}
-use Rattle.bus_due.specs.bus_lines.specs.Handshakes.{Handshakes, handshakes_after}
-use Rattle.bus_due.specs.bus_phases.specs.declared.dialogue.Dialogue.{Dialogue}
-use Rattle.bus_due.specs.bus_phases.specs.Dialogue.{opened, dialogue_after, byte_out, byte_in, byte_crosses, heard_with_command, phase_begins}
-use Rattle.bus_due.specs.scenario.specs.Value.{ScenarioValue}
-use Rattle.bus_due.specs.bus_story.specs.PairAgreements.{agreement_in}
-use Rattle.bus_due.specs.bus_story.specs.BusState.{row_reading}
-use Rattle.bus_due.specs.bus_story.specs.Items.{Item}
-use Rattle.bus_due.specs.bus_story.specs.TraceHistory.{aim_of}
-use Rattle.bus_due.specs.bus_dialogue.specs.declared.exchange.Leaving.{Leaving}
-use Rattle.bus_due.specs.bus_dialogue.specs.declared.exchange.Hearing.{Hearing}
-use Rattle.bus_due.specs.bus_dialogue.specs.Exchange.{Speech, Exchange, speech_of, no_messages, struck_plan}
-use Rattle.bus_due.specs.bus_dialogue.specs.Planning.{first_plan}
-use Rattle.bus_due.specs.bus_dialogue.specs.Speaking.{words_after}
-use Rattle.bus_due.specs.bus_dialogue.specs.Wants.{Ready}
-use Rattle.bus_due.specs.Defs.{host_of, opening}
-use Rattle.bus_due.specs.RunState.{RunState, bus_of}
-use Rattle.bus_due.specs.RunSteps.{run_state_after, first_exchange, exchange_after, messages_if, may_negotiate, leaving_of}
-use Rattle.bus_due.specs.Sights.{hearing_of, leaving}
-use Rattle.bus_due.specs.Wants.{ready_of}
-use Rattle.bus_due.proofs.Stills.{still_talk}
-use Rattle.scsi_device.specs.Lines.{AreUnits}
-use Rattle.bus_books.specs.FirstBytes.{IsUnopened, before_all, in_opening, in_names, OpensBy, Opens}
-use Rattle.bus_books.specs.Hearing.{LeavesWhole}
-use Rattle.bus_books.specs.Items.{AimsAreItems}
-use Rattle.bus_books.specs.Rows.{RowKind, still, strikes, crosses, turns, reading_in}
-use Rattle.bus_books.specs.Traces.{Begins, GoesOn}
-use Rattle.bus_books.proofs.FirstWords.{opening_is}
-use Rattle.bus_books.proofs.Given.{first_requests}
-use Rattle.bus_books.proofs.Gives.{requests_stay, in_io, in_same}
-use Rattle.bus_due.specs.bus_lines.proofs.Early.{struck_same}
-use Rattle.bus_books.proofs.InConnection.{dialogue_by, InConnection, in_connection, SamePhase, same_phase_is}
-use Rattle.scsi_device.proofs.PhaseLines.{in_phase, out_phase}
-use Rattle.bus_books.proofs.Speaks.{out_same}
+use Rattle.bus_books.proofs
+use proofs.Names.{ℕ, ◌≡◌, Bool, true, false, not, ◌&&◌, ◌∙◌, [], Option, Some, None, refl, sym, ap, subst, true≢false}
+use proofs.Names.{if◌then◌else◌, is_some, ◌==◌, ◌%◌, LineSet, changes_phase, is_command, is_message_out, is_message_in}
+use proofs.Names.{receiver_in, Row, Change, Connection, struck_same, Handshakes, handshakes_after, opened}
+use proofs.Names.{dialogue_after, byte_out, byte_in, byte_crosses, heard_with_command, phase_begins, Dialogue}
+use proofs.Names.{ScenarioValue, row_reading, Item, agreement_in, aim_of, Speech, Exchange, speech_of, no_messages}
+use proofs.Names.{struck_plan, first_plan, words_after, Ready, Hearing, Leaving, still_talk, host_of, opening, RunState}
+use proofs.Names.{bus_of, run_state_after, first_exchange, exchange_after, messages_if, may_negotiate, leaving_of}
+use proofs.Names.{hearing_of, leaving, ready_of, in_phase, out_phase, AreUnits, IsUnopened, before_all, in_opening}
+use proofs.Names.{in_names, OpensBy, Opens, LeavesWhole, AimsAreItems, RowKind, still, strikes, crosses, turns}
+use proofs.{Names.{reading_in, Begins, GoesOn}, FirstWords.{opening_is}, Given.{first_requests}, Gives.{requests_stay}}
+use proofs.{Gives.{in_io, in_same}, InConnection.{dialogue_by, InConnection, in_connection, SamePhase, same_phase_is}}
+use proofs.Speaks.{out_same}
 
 -- ---- what is kept is known otherwise
 

@@ -1,22 +1,10 @@
 -- A connection begins: after a selection its initiator knows the process from the first.
-use Rattle.std.proofs.Common.{◌≡◌, ◌⊎◌, inl, inr, Bool, true, false, not, ◌&&◌, ◌∙◌, None, refl, sym, ap, subst, true≢false}
-use Rattle.std.specs.Prelude.{if◌then◌else◌}
-use Rattle.bus_due.specs.bus_trace.specs.declared.Row.{Row}
-use Rattle.bus_due.specs.bus_trace.specs.declared.connection.Connection.{Connection}
-use Rattle.bus_due.specs.scenario.specs.Value.{ScenarioValue}
-use Rattle.bus_due.specs.bus_story.specs.BusState.{row_reading}
-use Rattle.bus_due.specs.bus_story.specs.Links.{link_of}
-use Rattle.bus_due.specs.bus_story.specs.HistoryEvents.{row_events_by}
-use Rattle.bus_due.specs.bus_story.specs.TraceHistory.{aim_of, story_on_bus, story_by_change}
-use Rattle.bus_due.specs.bus_dialogue.specs.Exchange.{Exchange, no_messages}
-use Rattle.bus_due.specs.bus_dialogue.specs.Planning.{first_plan}
-use Rattle.bus_due.specs.RunState.{RunState}
-use Rattle.bus_due.specs.RunSteps.{run_state_after, first_exchange, exchange_after, served_after, may_negotiate, item_if, messages_if, leaving_of}
-use Rattle.bus_due.specs.Wants.{ready_of}
-use Rattle.bus_books.specs.Giving.{OnMessages}
-use Rattle.bus_books.specs.Knowing.{IsNoName, Knows}
-use Rattle.bus_books.specs.Rows.{IsFirstRow}
-use Rattle.bus_due.specs.bus_story.proofs.StorySteps.{first_link, events_link}
+use Rattle.bus_books.proofs
+use proofs.Names.{◌≡◌, ◌⊎◌, inl, inr, Bool, true, false, not, ◌&&◌, ◌∙◌, None, refl, sym, ap, subst, true≢false}
+use proofs.Names.{if◌then◌else◌, Row, Connection, ScenarioValue, first_link, events_link, row_reading, row_events_by}
+use proofs.Names.{link_of, aim_of, story_on_bus, story_by_change, Exchange, no_messages, first_plan, RunState}
+use proofs.Names.{run_state_after, first_exchange, exchange_after, served_after, may_negotiate, item_if, messages_if}
+use proofs.Names.{leaving_of, ready_of, OnMessages, IsNoName, Knows, IsFirstRow}
 
 pub knows_first : (s : ScenarioValue) (k : RunState) (row : Row) (n : Connection) → IsFirstRow k row n → Knows s (run_state_after s k row) n
 knows_first s k row n h = record {

@@ -1,39 +1,14 @@
 -- A connection begins: what the initiator says first is what it was made for.
-use Rattle.std.proofs.Common.{ℕ, zero, suc, ◌≡◌, ◌<◌, Bool, true, false, not, ◌&&◌, ◌∙◌, List, [], ◌∷◌, Option, Some, None, refl, sym, ap, subst, arith, true≢false}
-use Rattle.std.specs.Prelude.{if◌then◌else◌}
-use Rattle.std.proofs.lemmas.Option.{same_Some}
-use Rattle.bus_due.specs.bus_base.specs.declared.ProcId.{ProcId}
-use Rattle.bus_due.specs.bus_trace.specs.LineSet.{LineSet}
-use Rattle.bus_due.specs.bus_trace.specs.declared.Row.{Row}
-use Rattle.bus_due.specs.bus_trace.specs.declared.connection.Connection.{Connection}
-use Rattle.bus_due.specs.bus_trace.specs.Phases.{is_message_out}
-use Rattle.bus_due.specs.bus_phases.specs.declared.dialogue.Dialogue.{Dialogue}
-use Rattle.bus_due.specs.bus_phases.specs.Reading.{reading_out}
-use Rattle.bus_due.specs.bus_rules.specs.Messages.{is_opening}
-use Rattle.bus_due.specs.msg_grammar.specs.declared.message.MsgOut.TheVariants as to_target
-use Rattle.bus_due.specs.msg_grammar.specs.Messages.{form_out, got_out, out_bytes}
-use Rattle.bus_due.specs.scenario.specs.declared.value.CmdDef.{CmdDef}
-use Rattle.bus_due.specs.scenario.specs.declared.value.AbortDef.{AbortDef}
-use Rattle.bus_due.specs.scenario.specs.Value.{ScenarioValue}
-use Rattle.bus_due.specs.disk_array.specs.Processes.{Process, process_of, process_if, process_by, command_at}
-use Rattle.bus_due.specs.bus_story.specs.BusState.{row_reading}
-use Rattle.bus_due.specs.bus_story.specs.Items.{Item}
-use Rattle.bus_due.specs.bus_story.specs.TraceHistory.{aim_of}
-use Rattle.bus_due.specs.bus_dialogue.specs.declared.exchange.Cause.TheVariants as causes
-use Rattle.bus_due.specs.bus_dialogue.specs.Planning.{first_plan}
-use Rattle.bus_due.specs.bus_dialogue.specs.Exchange.{Exchange, no_messages}
-use Rattle.bus_due.specs.bus_dialogue.specs.Words.{process_opening, abort_opening}
-use Rattle.bus_due.specs.Defs.{host_of, opening}
-use Rattle.bus_due.specs.RunState.{RunState, bus_of}
-use Rattle.bus_due.specs.RunSteps.{run_state_after, first_exchange, exchange_after, served_after, may_negotiate, item_if, messages_if, leaving_of}
-use Rattle.bus_due.specs.Wants.{ready_of}
-use Rattle.scsi_device.specs.Lines.{AreUnits}
-use Rattle.bus_books.specs.Listening.{nothing_understood, form_messages}
-use Rattle.bus_books.specs.Items.{IsItem, is_process, is_abort, AimsAreItems}
-use Rattle.bus_books.specs.Rows.{IsFirstRow}
-use Rattle.bus_books.specs.Speaking.{SpeaksBy, Speaks}
-use Rattle.bus_books.proofs.Reading.{opening_reads, abort_opening_reads}
-use Rattle.bus_books.proofs.CarriedRows.{process_none}
+use Rattle.bus_books.proofs
+use proofs.Names.{ℕ, zero, suc, ◌≡◌, ◌<◌, Bool, true, false, not, ◌&&◌, ◌∙◌, List, [], ◌∷◌, Option, Some, None, refl}
+use proofs.Names.{sym, ap, subst, arith, true≢false, same_Some, if◌then◌else◌, ProcId, LineSet, is_message_out, Row}
+use proofs.Names.{Connection, form_out, got_out, out_bytes, MsgOut, reading_out, Dialogue, is_opening, ScenarioValue}
+use proofs.Names.{AbortDef, CmdDef, Process, process_of, process_if, process_by, command_at, row_reading, Item, aim_of}
+use proofs.Names.{Exchange, no_messages, first_plan, process_opening, abort_opening, Cause, host_of, opening, RunState}
+use proofs.Names.{bus_of, run_state_after, first_exchange, exchange_after, served_after, may_negotiate, item_if}
+use proofs.Names.{messages_if, leaving_of, ready_of, AreUnits, IsItem, is_process, is_abort, AimsAreItems}
+use proofs.{Names.{nothing_understood, form_messages, IsFirstRow, SpeaksBy, Speaks}, CarriedRows.{process_none}}
+use proofs.Reading.{opening_reads, abort_opening_reads}
 
 -- ---- the units that processes and aborts name
 
@@ -60,7 +35,7 @@ pub record IsOpening (words : List ℕ) : Type 0 where
   pub opens : is_opening (reading_out (got_out (first ∷ []))) ≡ true
 
 -- IDENTIFY may open a connection.
-identify_opens : (disc : Bool) (lun : ℕ) → lun < 8 → is_opening (reading_out (got_out (out_bytes (to_target.Identify disc lun)))) ≡ true
+identify_opens : (disc : Bool) (lun : ℕ) → lun < 8 → is_opening (reading_out (got_out (out_bytes (MsgOut.Identify disc lun)))) ≡ true
 unfolding form_out
 identify_opens true zero lt = refl
 identify_opens true (suc zero) lt = refl
@@ -124,7 +99,7 @@ by_way s k n item d b false e u out known =
       in_message_out = λ f g. absurd (true≢false (sym g ∙ out));
     }
   where
-    cause : (r : Bool) → (first_plan r (not r && may_negotiate k n item) (if r then messages_if (ready_of s k n.target) else no_messages)).cause ≡ causes.Selected
+    cause : (r : Bool) → (first_plan r (not r && may_negotiate k n item) (if r then messages_if (ready_of s k n.target) else no_messages)).cause ≡ Cause.Selected
     cause true = refl
     cause false = refl
 

@@ -1,16 +1,9 @@
 -- The phases with wrong parity counted by a forward pass over the rows, which decides the same.
-use Rattle.std.proofs.Common.{ℕ, ◌≡◌, Bool, true, false, List, [], ◌∷◌, refl}
-use Rattle.std.specs.Prelude.{◌+◌, ◌&&◌}
-use Rattle.std.proofs.lemmas.Bool.{and_from, and_parts}
-use Rattle.bus_due.specs.bus_base.specs.declared.ProcId.{ProcId}
-use Rattle.bus_due.specs.bus_trace.specs.declared.Row.{Row}
-use Rattle.bus_due.specs.scenario.specs.Value.{ScenarioValue}
-use Rattle.bus_due.specs.bus_story.specs.BusState.{row_reading}
-use Rattle.bus_due.specs.bus_dialogue.specs.PhaseBytes.{one_if}
-use Rattle.bus_due.specs.RunState.{RunState}
-use Rattle.bus_due.specs.RunSteps.{first_run_state, run_state, run_state_after}
-use Rattle.bus_due.proofs.Seams.{onto}
-use Rattle.bus_books.specs.WrongParity.{is_struck_after, is_struck_phase, leaves_wrong_phase, wrong_phases, is_left_as_due, left_as_due, is_fault_of, fault_rows, is_refusal_after, is_refusing, is_true_complaint, complains_truly}
+use Rattle.bus_books.proofs
+use proofs.Names.{ℕ, ◌≡◌, Bool, true, false, List, [], ◌∷◌, refl, ◌+◌, ◌&&◌, and_from, and_parts, ProcId, Row}
+use proofs.Names.{ScenarioValue, row_reading, one_if, onto, RunState, first_run_state, run_state, run_state_after}
+use proofs.Names.{is_struck_after, is_struck_phase, leaves_wrong_phase, wrong_phases, is_left_as_due, left_as_due}
+use proofs.Names.{is_fault_of, fault_rows, is_refusal_after, is_refusing, is_true_complaint, complains_truly}
 
 -- The rows are given the oldest first.
 abbrev pub phases_on : ScenarioValue → ProcId → RunState → Bool → ℕ → List Row → ℕ

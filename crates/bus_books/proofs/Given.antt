@@ -1,43 +1,16 @@
 -- MESSAGE IN begins with a reselection; and no byte of it makes an unknown message, nor is one half given at the end.
-use Rattle.std.proofs.Common.{ℕ, zero, suc, ◌≡◌, ◌<◌, Bool, true, false, not, ◌&&◌, ◌∙◌, List, [], ◌∷◌, ◌++◌, length, Option, Some, None, refl, sym, ap, subst, arith, append-nil, length-append, true≢false}
-use Rattle.std.specs.Prelude.{if◌then◌else◌, is_some, slice_index_or, ◌%◌}
-use Rattle.bus_due.specs.bus_trace.specs.declared.Row.{Row}
-use Rattle.bus_due.specs.bus_trace.specs.declared.changes.Change.{Change}
-use Rattle.bus_due.specs.bus_trace.specs.declared.connection.Connection.{Connection}
-use Rattle.bus_due.specs.bus_trace.specs.Changes.{rises}
-use Rattle.bus_due.specs.bus_trace.specs.Terms.{receiver_in}
-use Rattle.bus_due.specs.bus_trace.specs.Phases.{changes_phase, is_message_out, is_message_in}
-use Rattle.bus_due.specs.bus_lines.specs.Handshakes.{no_handshakes, handshakes_after, asked_if, answered_if}
-use Rattle.bus_due.specs.bus_phases.specs.declared.reading.Reading.TheVariants as readings
-use Rattle.bus_due.specs.bus_phases.specs.Dialogue.{opened, dialogue_after}
-use Rattle.bus_due.specs.bus_phases.specs.Reading.{reading_out, reading_in, reading_of}
-use Rattle.bus_due.specs.bus_rules.specs.Messages.{is_unknown}
-use Rattle.bus_due.specs.msg_grammar.specs.declared.message.MsgIn.{MsgIn}
-use Rattle.bus_due.specs.msg_grammar.specs.declared.message.MsgIn.TheVariants as to_initiator
-use Rattle.bus_due.specs.msg_grammar.specs.Messages.{form_in, FitsIn, got_out, got_in, in_bytes}
-use Rattle.bus_due.specs.scenario.specs.declared.value.Tag.{Tag}
-use Rattle.bus_due.specs.scenario.specs.declared.value.Tag.TheVariants as tags
-use Rattle.bus_due.specs.scenario.specs.Value.{ScenarioValue}
-use Rattle.bus_due.specs.bus_story.specs.PairAgreements.{agreement_in}
-use Rattle.bus_due.specs.bus_story.specs.BusState.{row_reading}
-use Rattle.bus_due.specs.bus_story.specs.TraceHistory.{aim_of}
-use Rattle.bus_due.specs.bus_dialogue.specs.declared.exchange.Messages.{Messages}
-use Rattle.bus_due.specs.bus_dialogue.specs.Exchange.{no_messages, bytes_of_messages, message_bytes}
-use Rattle.bus_due.specs.bus_dialogue.specs.Planning.{first_plan}
-use Rattle.bus_due.specs.bus_dialogue.specs.Words.{tag_named}
-use Rattle.bus_due.specs.bus_dialogue.specs.Wants.{Ready}
-use Rattle.bus_due.specs.RunState.{RunState, bus_of}
-use Rattle.bus_due.specs.RunSteps.{run_state_after, messages_if, first_exchange, exchange_after, may_negotiate, leaving_of}
-use Rattle.bus_due.specs.Wants.{ready_of}
-use Rattle.bus_books.specs.Listening.{half_after, form_messages_in}
-use Rattle.bus_books.specs.Giving.{OnMessage, OnMessages, Gives, GivesNext}
-use Rattle.bus_books.specs.Rows.{IsFirstRow}
-use Rattle.bus_books.proofs.Lists.{word_at}
-use Rattle.bus_books.proofs.Areas.{split_at}
-use Rattle.bus_books.proofs.Gives.{gives_as, answered_same}
-use Rattle.bus_due.specs.bus_base.proofs.Tests.{and_first, and_second}
-use Rattle.bus_books.proofs.Reading.{nil_is}
-use Rattle.bus_books.proofs.Hearable.{next_half}
+use Rattle.bus_books.proofs
+use proofs.Names.{ℕ, zero, suc, ◌≡◌, ◌<◌, Bool, true, false, not, ◌&&◌, ◌∙◌, List, [], ◌∷◌, ◌++◌, length, Option, Some}
+use proofs.Names.{None, refl, sym, ap, subst, arith, append-nil, length-append, true≢false, if◌then◌else◌, is_some}
+use proofs.Names.{slice_index_or, ◌%◌, and_first, and_second, rises, changes_phase, is_message_out, is_message_in}
+use proofs.Names.{receiver_in, Row, Change, Connection, no_handshakes, handshakes_after, asked_if, answered_if, form_in}
+use proofs.Names.{FitsIn, got_out, got_in, in_bytes, MsgIn, opened, dialogue_after, reading_out, reading_of, Reading}
+use proofs.Names.{is_unknown, ScenarioValue, Tag, row_reading, agreement_in, aim_of, no_messages, bytes_of_messages}
+use proofs.Names.{message_bytes, first_plan, Ready, tag_named, Messages, RunState, bus_of, run_state_after, messages_if}
+use proofs.Names.{first_exchange, exchange_after, may_negotiate, leaving_of, ready_of, OnMessage, OnMessages, Gives}
+use proofs.{Names.{GivesNext, half_after, form_messages_in, IsFirstRow}, Areas.{split_at}, Gives.{gives_as}}
+use proofs.{Gives.{answered_same}, Hearable.{next_half}, Lists.{word_at}, Reading.{nil_is}}
+use Rattle.bus_due.specs.bus_phases.specs.Reading.{reading_in}
 
 -- ---- the first row
 
@@ -46,10 +19,10 @@ names_fit None h = (tt, tt)
 names_fit (Some r) h = (h r refl, tagged r.process.tag)
   where
     tagged : (t : Tag) → OnMessage FitsIn (tag_named t)
-    tagged tags.Untagged = tt
-    tagged (tags.Simple n) = tt
-    tagged (tags.Ordered n) = tt
-    tagged (tags.Head n) = tt
+    tagged Tag.Untagged = tt
+    tagged (Tag.Simple n) = tt
+    tagged (Tag.Ordered n) = tt
+    tagged (Tag.Head n) = tt
 
 -- REQ has not risen yet.
 pub first_requests : (s : ScenarioValue) (k : RunState) (row : Row) (n : Connection) → IsFirstRow k row n → (run_state_after s k row).handshakes.requests ≡ 0
@@ -84,7 +57,7 @@ gives_first s k row n h named =
 
 -- ---- messages
 
-named_whole : (lun : ℕ) (rest : List ℕ) → lun < 8 → form_messages_in [] rest ≡ true → form_messages_in [] (in_bytes (to_initiator.Identify lun) ++ rest) ≡ true
+named_whole : (lun : ℕ) (rest : List ℕ) → lun < 8 → form_messages_in [] rest ≡ true → form_messages_in [] (in_bytes (MsgIn.Identify lun) ++ rest) ≡ true
 unfolding form_in
 named_whole zero rest lt e = e
 named_whole (suc zero) rest lt e = e
@@ -98,14 +71,14 @@ named_whole (suc (suc (suc (suc (suc (suc (suc (suc n)))))))) rest lt e = absurd
 
 message_whole : (m : MsgIn) (rest : List ℕ) → FitsIn m → form_messages_in [] rest ≡ true → form_messages_in [] (in_bytes m ++ rest) ≡ true
 unfolding form_in
-message_whole to_initiator.CommandComplete rest h e = e
-message_whole to_initiator.SavePointer rest h e = e
-message_whole to_initiator.RestorePointers rest h e = e
-message_whole to_initiator.Disconnect rest h e = e
-message_whole (to_initiator.Identify lun) rest h e = named_whole lun rest h e
-message_whole (to_initiator.SimpleTag tag) rest h e = e
-message_whole (to_initiator.Sdtr offer) rest h e = e
-message_whole to_initiator.Reject rest h e = e
+message_whole MsgIn.CommandComplete rest h e = e
+message_whole MsgIn.SavePointer rest h e = e
+message_whole MsgIn.RestorePointers rest h e = e
+message_whole MsgIn.Disconnect rest h e = e
+message_whole (MsgIn.Identify lun) rest h e = named_whole lun rest h e
+message_whole (MsgIn.SimpleTag tag) rest h e = e
+message_whole (MsgIn.Sdtr offer) rest h e = e
+message_whole MsgIn.Reject rest h e = e
 
 whole_if : (m : Option MsgIn) (rest : List ℕ) → OnMessage FitsIn m → form_messages_in [] rest ≡ true → form_messages_in [] (message_bytes m ++ rest) ≡ true
 whole_if None rest h e = e
@@ -144,7 +117,7 @@ in_is_known k n c g eb ec ei eo next = go (is_some (receiver_in n c)) refl
 
     go : (q : Bool) → is_some (receiver_in n c) ≡ q → is_unknown (reading_of k.story.bus_state.dialogue.half (Some n) c) ≡ false
     go false e =
-        ap (λ (q : Bool). is_unknown (if q then if is_message_out c.before then reading_out (got_out (k.story.bus_state.dialogue.half ++ c.after.data_bits % 256 ∷ [])) else if is_message_in c.before then reading_in (got_in (k.story.bus_state.dialogue.half ++ c.after.data_bits % 256 ∷ [])) else readings.NoMessage else readings.NoMessage)) e
+        ap (λ (q : Bool). is_unknown (if q then if is_message_out c.before then reading_out (got_out (k.story.bus_state.dialogue.half ++ c.after.data_bits % 256 ∷ [])) else if is_message_in c.before then reading_in (got_in (k.story.bus_state.dialogue.half ++ c.after.data_bits % 256 ∷ [])) else Reading.NoMessage else Reading.NoMessage)) e
     go true e =
         let w = g.in_message_in eb (ap is_message_in ec ∙ ei) in
         let y = next ei e in
@@ -153,7 +126,7 @@ in_is_known k n c g eb ec ei eo next = go (is_some (receiver_in n c)) refl
         let sp = split_at w.before w.rest bytes (sym w.bytes_are) lt in
         let all : bytes ≡ w.before ++ sp.0 ∷ sp.1 = w.bytes_are ∙ ap (λ (r : List ℕ). w.before ++ r) sp.2 in
         let is : c.after.data_bits % 256 ≡ sp.0 = y.0 ∙ (λ i. slice_index_or (all i) (w.count_is i) 0) ∙ word_at w.before sp.0 sp.1 in
-        (λ i. is_unknown (if e i then if eo i then reading_out (got_out (k.story.bus_state.dialogue.half ++ c.after.data_bits % 256 ∷ [])) else if ei i then reading_in (got_in (k.story.bus_state.dialogue.half ++ c.after.data_bits % 256 ∷ [])) else readings.NoMessage else readings.NoMessage))
+        (λ i. is_unknown (if e i then if eo i then reading_out (got_out (k.story.bus_state.dialogue.half ++ c.after.data_bits % 256 ∷ [])) else if ei i then reading_in (got_in (k.story.bus_state.dialogue.half ++ c.after.data_bits % 256 ∷ [])) else Reading.NoMessage else Reading.NoMessage))
         ∙ (λ i. is_unknown (reading_in (got_in (w.half_is i ++ is i ∷ []))))
         ∙ flip (is_unknown (reading_in (got_in (half_after [] w.before ++ sp.0 ∷ []))))
         (whole_at [] w.before sp.0 sp.1 (ap (form_messages_in []) (sym all) ∙ messages_whole k.exchange.plan.messages g.fit))

@@ -1,45 +1,18 @@
 -- What is given in MESSAGE IN goes on with each row of a connection.
-use Rattle.std.proofs.Common.{ℕ, ◌≡◌, ◌<◌, ◌+◌, Bool, true, false, not, ◌&&◌, ◌∙◌, List, [], ◌∷◌, ◌++◌, length, Option, Some, None, refl, sym, ap, subst, arith, append_assoc, length-append}
-use Rattle.std.proofs.lemmas.Bool.{not-true}
-use Rattle.std.specs.Prelude.{if◌then◌else◌, is_some, slice_index_or, nat_lt, ◌-◌, ◌%◌}
-use Rattle.bus_due.specs.bus_base.specs.Faults.{counted_on}
-use Rattle.bus_due.specs.bus_trace.specs.LineSet.{LineSet}
-use Rattle.bus_due.specs.bus_trace.specs.declared.Row.{Row}
-use Rattle.bus_due.specs.bus_trace.specs.declared.changes.Change.{Change}
-use Rattle.bus_due.specs.bus_trace.specs.declared.connection.Connection.{Connection}
-use Rattle.bus_due.specs.bus_trace.specs.Changes.{rises}
-use Rattle.bus_due.specs.bus_trace.specs.Terms.{receiver_in}
-use Rattle.bus_due.specs.bus_trace.specs.Phases.{changes_phase, is_message_out, is_message_in}
-use Rattle.bus_due.specs.bus_lines.specs.Handshakes.{Handshakes, no_handshakes, handshakes_on, handshakes_after, asked_if, answered_if}
-use Rattle.bus_due.specs.bus_phases.specs.declared.dialogue.Dialogue.{Dialogue}
-use Rattle.bus_due.specs.bus_phases.specs.Dialogue.{byte_out, byte_in, byte_else, byte_crosses, phase_begins}
-use Rattle.bus_due.specs.bus_phases.specs.Half.{left_of}
-use Rattle.bus_due.specs.msg_grammar.specs.declared.message.MsgIn.{MsgIn}
-use Rattle.bus_due.specs.msg_grammar.specs.declared.message.MsgIn.TheVariants as to_initiator
-use Rattle.bus_due.specs.msg_grammar.specs.declared.message.MsgOut.{MsgOut}
-use Rattle.bus_due.specs.msg_grammar.specs.Messages.{FitsIn, got_in, in_bytes}
-use Rattle.bus_due.specs.scenario.specs.declared.value.HostDef.{HostDef}
-use Rattle.bus_due.specs.scenario.specs.Value.{ScenarioValue}
-use Rattle.bus_due.specs.bus_dialogue.specs.declared.exchange.Hearing.{Hearing}
-use Rattle.bus_due.specs.bus_dialogue.specs.declared.exchange.Leaving.{Leaving}
-use Rattle.bus_due.specs.bus_dialogue.specs.declared.exchange.Messages.{Messages}
-use Rattle.bus_due.specs.bus_dialogue.specs.declared.exchange.Plan.{Plan}
-use Rattle.bus_due.specs.bus_dialogue.specs.Exchange.{Exchange, bytes_of_messages, message_bytes, from_byte, plan_anew, plan_anew_if, plan_after_message, struck_plan}
-use Rattle.bus_due.specs.bus_dialogue.specs.Planning.{plan_in_phase, plan_in_message_out}
-use Rattle.bus_due.specs.RunState.{RunState, bus_of}
-use Rattle.bus_due.specs.Defs.{host_of}
-use Rattle.bus_due.specs.Sights.{hearing_of, leaving, serving_of}
-use Rattle.bus_due.specs.RunSteps.{run_state_after}
-use Rattle.bus_due.proofs.Stills.{still_talk}
-use Rattle.bus_books.specs.Listening.{half_after}
-use Rattle.bus_books.specs.Giving.{AreGiven, OnMessages, GivesBy, Gives, GivesNext}
-use Rattle.bus_books.specs.Rows.{RowKind, still, strikes, crosses, turns, IsRowIn, reading_in}
-use Rattle.bus_books.proofs.Lists.{word_at}
-use Rattle.bus_books.proofs.Areas.{split_at}
-use Rattle.bus_books.proofs.InConnection.{dialogue_by, InConnection, in_connection, SamePhase, same_phase_is}
-use Rattle.bus_books.proofs.Leavings.{IsOfOthers, left_messages}
-use Rattle.bus_due.specs.bus_base.proofs.Tests.{and_second, rises_none, rises_some, wrong}
-use Rattle.bus_due.specs.bus_lines.proofs.Early.{struck_same}
+use Rattle.bus_books.proofs
+use proofs.Names.{ℕ, ◌≡◌, ◌<◌, ◌+◌, Bool, true, false, not, ◌&&◌, ◌∙◌, List, [], ◌∷◌, ◌++◌, length, Option, Some, None}
+use proofs.Names.{refl, sym, ap, subst, arith, append_assoc, length-append, not-true, if◌then◌else◌, is_some}
+use proofs.Names.{slice_index_or, nat_lt, ◌-◌, ◌%◌, and_second, rises_none, rises_some, wrong, counted_on, rises}
+use proofs.Names.{LineSet, changes_phase, is_message_out, is_message_in, receiver_in, Row, Change, Connection}
+use proofs.Names.{struck_same, Handshakes, no_handshakes, handshakes_on, handshakes_after, asked_if, answered_if}
+use proofs.Names.{FitsIn, got_in, in_bytes, MsgIn, MsgOut, byte_out, byte_in, byte_else, byte_crosses, phase_begins}
+use proofs.Names.{left_of, Dialogue, ScenarioValue, HostDef, Exchange, bytes_of_messages, message_bytes, from_byte}
+use proofs.Names.{plan_anew, plan_anew_if, plan_after_message, struck_plan, plan_in_phase, plan_in_message_out, Hearing}
+use proofs.Names.{Leaving, Messages, Plan, still_talk, host_of, RunState, bus_of, run_state_after, hearing_of, leaving}
+use proofs.Names.{serving_of, AreGiven, OnMessages, GivesBy, Gives, GivesNext, half_after, RowKind, still, strikes}
+use proofs.{Names.{crosses, turns, IsRowIn, reading_in}, Areas.{split_at}, InConnection.{dialogue_by, InConnection}}
+use proofs.{InConnection.{in_connection, SamePhase, same_phase_is}, Leavings.{IsOfOthers, left_messages}}
+use proofs.Lists.{word_at}
 
 -- ---- bytes
 
@@ -63,14 +36,14 @@ given_on bytes half count byte h e lt =
 
 -- The messages of a phase are few bytes.
 pub few_bytes : (m : MsgIn) → length (in_bytes m) < 6
-few_bytes to_initiator.CommandComplete = omega arith
-few_bytes to_initiator.SavePointer = omega arith
-few_bytes to_initiator.RestorePointers = omega arith
-few_bytes to_initiator.Disconnect = omega arith
-few_bytes (to_initiator.Identify lun) = omega arith
-few_bytes (to_initiator.SimpleTag tag) = omega arith
-few_bytes (to_initiator.Sdtr offer) = omega arith
-few_bytes to_initiator.Reject = omega arith
+few_bytes MsgIn.CommandComplete = omega arith
+few_bytes MsgIn.SavePointer = omega arith
+few_bytes MsgIn.RestorePointers = omega arith
+few_bytes MsgIn.Disconnect = omega arith
+few_bytes (MsgIn.Identify lun) = omega arith
+few_bytes (MsgIn.SimpleTag tag) = omega arith
+few_bytes (MsgIn.Sdtr offer) = omega arith
+few_bytes MsgIn.Reject = omega arith
 
 pub few_of : (m : Option MsgIn) → length (message_bytes m) < 6
 few_of None = omega arith

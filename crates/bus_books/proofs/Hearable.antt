@@ -1,17 +1,9 @@
 -- The initiator hears of a target just the messages that this plans.
-use Rattle.std.proofs.Common.{ℕ, zero, suc, ◌≡◌, ◌<◌, ◌∙◌, List, [], ◌∷◌, ◌++◌, length, Option, Some, None, sym, ap, subst, arith, append-nil}
-use Rattle.std.specs.Prelude.{slice_index_or, ⊤}
-use Rattle.bus_due.specs.bus_phases.specs.Half.{left_of}
-use Rattle.bus_due.specs.msg_grammar.specs.declared.message.MsgIn.{MsgIn}
-use Rattle.bus_due.specs.msg_grammar.specs.declared.message.MsgIn.TheVariants as to_initiator
-use Rattle.bus_due.specs.msg_grammar.specs.Messages.{form_in, FitsIn, got_in, in_bytes}
-use Rattle.bus_due.specs.bus_story.specs.BusState.{whole_in}
-use Rattle.bus_due.specs.bus_dialogue.specs.declared.exchange.Messages.{Messages}
-use Rattle.bus_due.specs.bus_dialogue.specs.Exchange.{bytes_of_messages, message_bytes}
-use Rattle.bus_books.specs.Listening.{half_after}
-use Rattle.bus_books.specs.Giving.{AreGiven, OnMessage, OnMessages}
-use Rattle.bus_books.proofs.Lists.{word_at}
-use Rattle.bus_books.proofs.Areas.{split_at}
+use Rattle.bus_books.proofs
+use proofs.Names.{ℕ, zero, suc, ◌≡◌, ◌<◌, ◌∙◌, List, [], ◌∷◌, ◌++◌, length, Option, Some, None, sym, ap, subst, arith}
+use proofs.Names.{append-nil, slice_index_or, ⊤, form_in, FitsIn, got_in, in_bytes, MsgIn, left_of, whole_in}
+use proofs.Names.{bytes_of_messages, message_bytes, Messages, AreGiven, OnMessage, OnMessages, half_after}
+use proofs.{Areas.{split_at}, Lists.{word_at}}
 
 abbrev pub next_half : List ℕ → ℕ → List ℕ
 next_half half b = left_of (got_in (half ++ b ∷ [])) (half ++ b ∷ [])
@@ -21,7 +13,7 @@ abbrev AreHeard : (MsgIn → Type 0) → List ℕ → List ℕ → Type 0
 AreHeard q half [] = ⊤
 AreHeard q half (b ∷ bytes) = OnMessage q (whole_in (got_in (half ++ b ∷ []))) × AreHeard q (next_half half b) bytes
 
-name_heard : (q : MsgIn → Type 0) (lun : ℕ) (rest : List ℕ) → lun < 8 → q (to_initiator.Identify lun) → AreHeard q [] rest → AreHeard q [] (in_bytes (to_initiator.Identify lun) ++ rest)
+name_heard : (q : MsgIn → Type 0) (lun : ℕ) (rest : List ℕ) → lun < 8 → q (MsgIn.Identify lun) → AreHeard q [] rest → AreHeard q [] (in_bytes (MsgIn.Identify lun) ++ rest)
 unfolding form_in
 name_heard q zero rest lt h e = (h, e)
 name_heard q (suc zero) rest lt h e = (h, e)
@@ -35,14 +27,14 @@ name_heard q (suc (suc (suc (suc (suc (suc (suc (suc n)))))))) rest lt h e = abs
 
 one_heard : (q : MsgIn → Type 0) (m : MsgIn) (rest : List ℕ) → FitsIn m → q m → AreHeard q [] rest → AreHeard q [] (in_bytes m ++ rest)
 unfolding form_in
-one_heard q to_initiator.CommandComplete rest f h e = (h, e)
-one_heard q to_initiator.SavePointer rest f h e = (h, e)
-one_heard q to_initiator.RestorePointers rest f h e = (h, e)
-one_heard q to_initiator.Disconnect rest f h e = (h, e)
-one_heard q (to_initiator.Identify lun) rest f h e = name_heard q lun rest f h e
-one_heard q (to_initiator.SimpleTag tag) rest f h e = (tt, (h, e))
-one_heard q (to_initiator.Sdtr offer) rest f h e = (tt, (tt, (tt, (tt, (h, e)))))
-one_heard q to_initiator.Reject rest f h e = (h, e)
+one_heard q MsgIn.CommandComplete rest f h e = (h, e)
+one_heard q MsgIn.SavePointer rest f h e = (h, e)
+one_heard q MsgIn.RestorePointers rest f h e = (h, e)
+one_heard q MsgIn.Disconnect rest f h e = (h, e)
+one_heard q (MsgIn.Identify lun) rest f h e = name_heard q lun rest f h e
+one_heard q (MsgIn.SimpleTag tag) rest f h e = (tt, (h, e))
+one_heard q (MsgIn.Sdtr offer) rest f h e = (tt, (tt, (tt, (tt, (h, e)))))
+one_heard q MsgIn.Reject rest f h e = (h, e)
 
 heard_if : (q : MsgIn → Type 0) (m : Option MsgIn) (rest : List ℕ) → OnMessage FitsIn m → OnMessage q m → AreHeard q [] rest → AreHeard q [] (message_bytes m ++ rest)
 heard_if q None rest f h e = e

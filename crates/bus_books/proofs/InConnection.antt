@@ -1,26 +1,11 @@
 -- A row in a connection that stands before and after it: what it makes of what is kept.
-use Rattle.std.proofs.Common.{◌≡◌, Bool, true, false, not, ◌&&◌, ◌∙◌, Some, None, refl, sym, ap, true≢false}
-use Rattle.std.specs.Prelude.{if◌then◌else◌, is_some}
-use Rattle.bus_due.specs.bus_trace.specs.LineSet.{LineSet, same}
-use Rattle.bus_due.specs.bus_trace.specs.declared.Row.{Row}
-use Rattle.bus_due.specs.bus_trace.specs.declared.changes.Change.{Change}
-use Rattle.bus_due.specs.bus_trace.specs.declared.connection.Connection.{Connection}
-use Rattle.bus_due.specs.bus_trace.specs.Changes.{same_phase}
-use Rattle.bus_due.specs.bus_trace.specs.Terms.{is_fault, connection_after, receiver_in, receiver_of}
-use Rattle.bus_due.specs.bus_trace.specs.Phases.{changes_phase}
-use Rattle.bus_due.specs.bus_phases.specs.declared.dialogue.Dialogue.{Dialogue}
-use Rattle.bus_due.specs.bus_phases.specs.Dialogue.{dialogue_after, byte_crosses, phase_begins}
-use Rattle.bus_due.specs.scenario.specs.Value.{ScenarioValue}
-use Rattle.bus_due.specs.bus_story.specs.PairAgreements.{agreement_in}
-use Rattle.bus_due.specs.bus_story.specs.BusState.{row_reading, message_out, message_in}
-use Rattle.bus_due.specs.bus_lines.specs.Handshakes.{handshakes_after}
-use Rattle.bus_due.specs.RunState.{RunState}
-use Rattle.bus_due.specs.Defs.{host_of}
-use Rattle.bus_due.specs.Sights.{hearing_of, leaving}
-use Rattle.bus_due.specs.RunSteps.{run_state_after, exchange_after, served_after, leaving_of}
-use Rattle.bus_due.proofs.Stills.{still_talk}
-use Rattle.bus_books.specs.Rows.{IsRowIn, reading_in}
-use Rattle.std.proofs.lemmas.Bool.{not-false, and_parts}
+use Rattle.bus_books.proofs
+use proofs.Names.{◌≡◌, Bool, true, false, not, ◌&&◌, ◌∙◌, Some, None, refl, sym, ap, true≢false, not-false, and_parts}
+use proofs.Names.{if◌then◌else◌, is_some, same_phase, LineSet, same, changes_phase, is_fault, connection_after}
+use proofs.Names.{receiver_in, receiver_of, Row, Change, Connection, handshakes_after, dialogue_after, byte_crosses}
+use proofs.Names.{phase_begins, Dialogue, ScenarioValue, row_reading, message_out, message_in, agreement_in, still_talk}
+use proofs.Names.{host_of, RunState, run_state_after, exchange_after, served_after, leaving_of, hearing_of, leaving}
+use proofs.Names.{IsRowIn, reading_in}
 
 pub reading_is : (k : RunState) (row : Row) (n : Connection) (c : Change) (q : Bool) → IsRowIn k row n c → is_some (receiver_in n c) ≡ q → row_reading k.story.bus_state row ≡ reading_in k.story.bus_state n c q
 reading_is k row n c q h e =

@@ -1,41 +1,17 @@
 -- That the initiator knows the process goes on with each row of a connection.
-use Rattle.std.proofs.Common.{ℕ, ◌≡◌, ◌⊎◌, inl, inr, Bool, true, false, not, ◌&&◌, ◌∙◌, List, [], ◌∷◌, ◌++◌, Option, Some, None, refl, sym, ap, subst, true≢false}
-use Rattle.std.specs.Prelude.{if◌then◌else◌, is_some, is_none, ◌%◌, nat_lt, ◌-◌, length}
-use Rattle.bus_due.specs.bus_trace.specs.declared.Row.{Row}
-use Rattle.bus_due.specs.bus_trace.specs.declared.changes.Change.{Change}
-use Rattle.bus_due.specs.bus_trace.specs.declared.connection.Connection.{Connection}
-use Rattle.bus_due.specs.bus_trace.specs.Terms.{receiver_in}
-use Rattle.bus_due.specs.bus_trace.specs.Phases.{is_message_out, is_message_in}
-use Rattle.bus_due.specs.msg_grammar.specs.declared.message.MsgIn.{MsgIn}
-use Rattle.bus_due.specs.msg_grammar.specs.declared.message.MsgIn.TheVariants as to_initiator
-use Rattle.bus_due.specs.msg_grammar.specs.declared.message.MsgOut.{MsgOut}
-use Rattle.bus_due.specs.msg_grammar.specs.Messages.{got_in}
-use Rattle.bus_due.specs.scenario.specs.declared.value.CmdDef.{CmdDef}
-use Rattle.bus_due.specs.scenario.specs.Value.{ScenarioValue}
-use Rattle.bus_due.specs.bus_story.specs.BusState.{RowReading, row_reading, whole_in, message_in}
-use Rattle.bus_due.specs.bus_story.specs.Items.{Item, Sent}
-use Rattle.bus_due.specs.bus_story.specs.Links.{Link, last_out, last_in, link_after_name}
-use Rattle.bus_due.specs.bus_story.specs.HistoryEvents.{carried_if, row_events_by}
-use Rattle.bus_due.specs.bus_story.specs.Story.{Story}
-use Rattle.bus_due.specs.bus_story.specs.TraceHistory.{story_with_restored, is_parity_error, story_after_out, carried_after_message_if, story_after_in, story_after_byte, story_after_fault, story_in_connection, story_on_bus, story_by_change}
-use Rattle.bus_due.specs.bus_dialogue.specs.declared.exchange.Messages.{Messages}
-use Rattle.bus_due.specs.bus_dialogue.specs.declared.exchange.Leaving.{Leaving}
-use Rattle.bus_due.specs.bus_dialogue.specs.declared.exchange.Hearing.{Hearing}
-use Rattle.bus_due.specs.bus_dialogue.specs.Exchange.{Exchange, message_bytes, from_byte, plan_anew, struck_plan}
-use Rattle.bus_due.specs.bus_dialogue.specs.Planning.{plan_in_message_out}
-use Rattle.bus_due.specs.bus_dialogue.specs.Words.{is_name}
-use Rattle.bus_due.specs.RunState.{RunState, bus_of}
-use Rattle.bus_due.specs.Sights.{hearing_of, leaving, serving_of}
-use Rattle.bus_due.specs.RunSteps.{run_state_after}
-use Rattle.bus_due.proofs.Stills.{still_talk}
-use Rattle.bus_books.specs.Giving.{OnMessage, OnMessages, Gives, GivesNext}
-use Rattle.bus_books.specs.Knowing.{IsNoName, Knows, NamesServed}
-use Rattle.bus_books.specs.Rows.{RowKind, still, strikes, crosses, turns, IsRowIn, reading_in}
-use Rattle.bus_books.proofs.Gives.{byte_messages}
-use Rattle.bus_books.proofs.Hearable.{heard_next}
-use Rattle.bus_books.proofs.InConnection.{reading_is, InConnection, in_connection}
-use Rattle.bus_books.proofs.Leavings.{IsOfOthers, left_messages}
-use Rattle.bus_due.specs.bus_story.proofs.StorySteps.{byte_link, carried_link, events_link, fault_link}
+use Rattle.bus_books.proofs
+use proofs.Names.{ℕ, ◌≡◌, ◌⊎◌, inl, inr, Bool, true, false, not, ◌&&◌, ◌∙◌, List, [], ◌∷◌, ◌++◌, Option, Some, None}
+use proofs.Names.{refl, sym, ap, subst, true≢false, length, if◌then◌else◌, is_some, is_none, ◌%◌, nat_lt, ◌-◌}
+use proofs.Names.{is_message_out, is_message_in, receiver_in, Row, Change, Connection, got_in, MsgIn, MsgOut}
+use proofs.Names.{ScenarioValue, CmdDef, byte_link, carried_link, events_link, fault_link, RowReading, row_reading}
+use proofs.Names.{whole_in, message_in, carried_if, row_events_by, Item, Sent, Link, last_out, last_in, link_after_name}
+use proofs.Names.{Story, story_with_restored, is_parity_error, story_after_out, carried_after_message_if}
+use proofs.Names.{story_after_in, story_after_byte, story_after_fault, story_in_connection, story_on_bus}
+use proofs.Names.{story_by_change, Exchange, message_bytes, from_byte, plan_anew, struck_plan, plan_in_message_out}
+use proofs.Names.{is_name, Hearing, Leaving, Messages, still_talk, RunState, bus_of, run_state_after, hearing_of}
+use proofs.Names.{leaving, serving_of, OnMessage, OnMessages, Gives, GivesNext, IsNoName, Knows, NamesServed, RowKind}
+use proofs.{Names.{still, strikes, crosses, turns, IsRowIn, reading_in}, Gives.{byte_messages}, Hearable.{heard_next}}
+use proofs.{InConnection.{reading_is, InConnection, in_connection}, Leavings.{IsOfOthers, left_messages}}
 
 -- ---- events leave the link
 
@@ -56,24 +32,24 @@ record IsLinkAfter (l m : Link) (item : Option Item) : Type 0 where
   item_is : m.item ≡ item
 
 name_ends : (b : Sent) (commands : List CmdDef) (l : Link) (m : MsgIn) → IsLinkAfter l (link_after_name b commands l m) (link_after_name b commands l m).item
-name_ends b commands l to_initiator.CommandComplete = record { initiator = refl; target = refl; item_is = refl }
-name_ends b commands l to_initiator.SavePointer = record { initiator = refl; target = refl; item_is = refl }
-name_ends b commands l to_initiator.RestorePointers = record { initiator = refl; target = refl; item_is = refl }
-name_ends b commands l to_initiator.Disconnect = record { initiator = refl; target = refl; item_is = refl }
-name_ends b commands l (to_initiator.Identify lun) = record { initiator = refl; target = refl; item_is = refl }
-name_ends b commands l (to_initiator.SimpleTag tag) = record { initiator = refl; target = refl; item_is = refl }
-name_ends b commands l (to_initiator.Sdtr offer) = record { initiator = refl; target = refl; item_is = refl }
-name_ends b commands l to_initiator.Reject = record { initiator = refl; target = refl; item_is = refl }
+name_ends b commands l MsgIn.CommandComplete = record { initiator = refl; target = refl; item_is = refl }
+name_ends b commands l MsgIn.SavePointer = record { initiator = refl; target = refl; item_is = refl }
+name_ends b commands l MsgIn.RestorePointers = record { initiator = refl; target = refl; item_is = refl }
+name_ends b commands l MsgIn.Disconnect = record { initiator = refl; target = refl; item_is = refl }
+name_ends b commands l (MsgIn.Identify lun) = record { initiator = refl; target = refl; item_is = refl }
+name_ends b commands l (MsgIn.SimpleTag tag) = record { initiator = refl; target = refl; item_is = refl }
+name_ends b commands l (MsgIn.Sdtr offer) = record { initiator = refl; target = refl; item_is = refl }
+name_ends b commands l MsgIn.Reject = record { initiator = refl; target = refl; item_is = refl }
 
 pub nameless_item : (b : Sent) (commands : List CmdDef) (l : Link) (m : MsgIn) → is_name m ≡ false → (link_after_name b commands l m).item ≡ l.item
-nameless_item b commands l to_initiator.CommandComplete e = refl
-nameless_item b commands l to_initiator.SavePointer e = refl
-nameless_item b commands l to_initiator.RestorePointers e = refl
-nameless_item b commands l to_initiator.Disconnect e = refl
-nameless_item b commands l (to_initiator.Identify lun) e = absurd (true≢false e)
-nameless_item b commands l (to_initiator.SimpleTag tag) e = absurd (true≢false e)
-nameless_item b commands l (to_initiator.Sdtr offer) e = refl
-nameless_item b commands l to_initiator.Reject e = refl
+nameless_item b commands l MsgIn.CommandComplete e = refl
+nameless_item b commands l MsgIn.SavePointer e = refl
+nameless_item b commands l MsgIn.RestorePointers e = refl
+nameless_item b commands l MsgIn.Disconnect e = refl
+nameless_item b commands l (MsgIn.Identify lun) e = absurd (true≢false e)
+nameless_item b commands l (MsgIn.SimpleTag tag) e = absurd (true≢false e)
+nameless_item b commands l (MsgIn.Sdtr offer) e = refl
+nameless_item b commands l MsgIn.Reject e = refl
 
 -- The link after the row, and the item of it: that of before, unless a message names one.
 abbrev item_after : ScenarioValue → Story → Link → RowReading → Option Item

@@ -1,39 +1,21 @@
 -- The messages of a target: with whatever phase it leaves a phase for, they are names of a reselection that it says again, or none.
-use Rattle.std.proofs.Common.{◌≡◌, Bool, true, false, ◌&&◌, Option, Some, None, refl}
-use Rattle.std.specs.Prelude.{if◌then◌else◌, ◌==◌, ◌+◌, is_some, nat_lt}
-use Rattle.bus_due.specs.bus_trace.specs.LineSet.{LineSet}
-use Rattle.bus_due.specs.bus_trace.specs.declared.agreements.Agreement.{Agreement}
-use Rattle.bus_due.specs.bus_trace.specs.declared.agreements.TheConstants.{UNLIMITED_OFFSET}
-use Rattle.bus_due.specs.msg_grammar.specs.declared.message.MsgIn.{MsgIn}
-use Rattle.bus_due.specs.msg_grammar.specs.declared.message.MsgIn.TheVariants as to_initiator
-use Rattle.bus_due.specs.scenario.specs.declared.value.TargetDef.{TargetDef}
-use Rattle.bus_due.specs.scenario.specs.declared.value.Policy.{Policy}
-use Rattle.bus_due.specs.scenario.specs.declared.value.Policy.TheVariants as policies
-use Rattle.bus_due.specs.bus_dialogue.specs.declared.exchange.Arrival.{Arrival}
-use Rattle.bus_due.specs.bus_dialogue.specs.declared.exchange.Arrival.TheVariants as arrivals
-use Rattle.bus_due.specs.bus_dialogue.specs.declared.exchange.Cause.{Cause}
-use Rattle.bus_due.specs.bus_dialogue.specs.declared.exchange.Cause.TheVariants as causes
-use Rattle.bus_due.specs.bus_dialogue.specs.declared.exchange.Leaving.{Leaving}
-use Rattle.bus_due.specs.bus_dialogue.specs.declared.exchange.Next.{Next}
-use Rattle.bus_due.specs.bus_dialogue.specs.declared.exchange.Next.TheVariants as nexts
-use Rattle.bus_due.specs.bus_dialogue.specs.declared.exchange.Phase.{Phase}
-use Rattle.bus_due.specs.bus_dialogue.specs.declared.exchange.Phase.TheVariants as phases
-use Rattle.bus_due.specs.bus_dialogue.specs.declared.exchange.Task.{Task}
-use Rattle.bus_due.specs.bus_dialogue.specs.Exchange.{one_message}
-use Rattle.bus_due.specs.bus_dialogue.specs.Words.{reply_to, request_by, is_naming, target_answer}
-use Rattle.bus_due.specs.bus_dialogue.specs.Arrivals.{policy_of}
-use Rattle.bus_due.specs.bus_dialogue.specs.DataRuns.{runs_in_all}
-use Rattle.bus_due.specs.bus_dialogue.specs.NextPhase.{Serving, phase_of, bus_free, phase_entry, with_task, recovery, recovery_limit, pointer_restoration, next_data_phase, request_or_command, after_offer, message_repetition, message_out_leaving, after_messages, disconnection, after_arrival, command_leaving, disconnect_messages, after_run, data_in_leaving, data_out_leaving, phase_leaving, leaving_by}
-use Rattle.bus_books.specs.Giving.{OnMessage, OnMessages}
+use Rattle.bus_books.proofs
+use proofs.Names.{◌≡◌, Bool, true, false, ◌&&◌, Option, Some, None, refl, ◌+◌, if◌then◌else◌, ◌==◌, is_some, nat_lt}
+use proofs.Names.{LineSet, Agreement, UNLIMITED_OFFSET, MsgIn, Policy, TargetDef, policy_of, runs_in_all, one_message}
+use proofs.Names.{Serving, phase_of, bus_free, phase_entry, with_task, recovery, recovery_limit, pointer_restoration}
+use proofs.Names.{next_data_phase, request_or_command, after_offer, message_repetition, message_out_leaving}
+use proofs.Names.{after_messages, disconnection, after_arrival, command_leaving, disconnect_messages, after_run}
+use proofs.Names.{data_in_leaving, data_out_leaving, phase_leaving, leaving_by, reply_to, request_by, is_naming}
+use proofs.Names.{target_answer, Arrival, Cause, Leaving, Next, Phase, Task, OnMessage, OnMessages}
 
 -- What any message of a target but a name is.
 pub record IsOfOthers (q : MsgIn → Type 0) : Type 0 where
-  pub complete : q to_initiator.CommandComplete
-  pub save : q to_initiator.SavePointer
-  pub restore : q to_initiator.RestorePointers
-  pub disconnect : q to_initiator.Disconnect
-  pub sdtr : (a : Agreement) → q (to_initiator.Sdtr a)
-  pub reject : q to_initiator.Reject
+  pub complete : q MsgIn.CommandComplete
+  pub save : q MsgIn.SavePointer
+  pub restore : q MsgIn.RestorePointers
+  pub disconnect : q MsgIn.Disconnect
+  pub sdtr : (a : Agreement) → q (MsgIn.Sdtr a)
+  pub reject : q MsgIn.Reject
 
 abbrev On : (MsgIn → Type 0) → Leaving → Type 0
 On q l = OnMessages q l.messages
@@ -57,7 +39,7 @@ asks q o (Some m) h = (h, tt)
 replies : (q : MsgIn → Type 0) → IsOfOthers q → (def : Option TargetDef) (offer : Agreement) → q (reply_to def offer)
 replies q o def offer = go (offer.offset == UNLIMITED_OFFSET)
   where
-    go : (r : Bool) → q (if r then to_initiator.Reject else to_initiator.Sdtr (target_answer def offer))
+    go : (r : Bool) → q (if r then MsgIn.Reject else MsgIn.Sdtr (target_answer def offer))
     go true = o.reject
     go false = o.sdtr (target_answer def offer)
 
@@ -65,7 +47,7 @@ requests : (q : MsgIn → Type 0) → IsOfOthers q → (def : Option TargetDef) 
 requests q o None = tt
 requests q o (Some t) = go (t.begins && nat_lt 0 t.period)
   where
-    go : (r : Bool) → OnMessage q (if r then Some (to_initiator.Sdtr (record { period = t.period; offset = t.offset })) else None)
+    go : (r : Bool) → OnMessage q (if r then Some (MsgIn.Sdtr (record { period = t.period; offset = t.offset })) else None)
     go true = o.sdtr _
     go false = tt
 
@@ -82,53 +64,53 @@ refuses q v again None h = (tt, tt)
 refuses q v again (Some t) h = recovers q v.def t again bus_free h (tt, tt)
 
 out_left : (q : MsgIn → Type 0) → IsOfOthers q → (v : Serving) → OnMessages q v.plan.messages → (cause : Cause) (task : Option Task) → v.task ≡ task → On q (message_out_leaving v cause)
-out_left q o v h causes.Selected task e = either q (is_some v.plan.said.aborts) bus_free (after_offer v.def v.plan.negotiates v.plan.said.offer) (tt, tt) (offers q o v.def v.plan.negotiates v.plan.said.offer)
-out_left q o v h causes.InMessage task e =
-    either q (is_some v.plan.said.offer) (phase_entry phases.Command) (if is_naming v.plan.messages.first then message_repetition v.plan else with_task v.task (λ t. recovery v.def t (message_repetition v.plan) bus_free)) (tt, tt)
+out_left q o v h Cause.Selected task e = either q (is_some v.plan.said.aborts) bus_free (after_offer v.def v.plan.negotiates v.plan.said.offer) (tt, tt) (offers q o v.def v.plan.negotiates v.plan.said.offer)
+out_left q o v h Cause.InMessage task e =
+    either q (is_some v.plan.said.offer) (phase_entry Phase.Command) (if is_naming v.plan.messages.first then message_repetition v.plan else with_task v.task (λ t. recovery v.def t (message_repetition v.plan) bus_free)) (tt, tt)
     (either q (is_naming v.plan.messages.first) (message_repetition v.plan) (with_task v.task (λ t. recovery v.def t (message_repetition v.plan) bus_free)) h (refuses q v (message_repetition v.plan) v.task h))
-out_left q o v h causes.InData task e = go v.task
+out_left q o v h Cause.InData task e = go v.task
   where
-    go : (t : Option Task) → On q (with_task t (λ t. recovery v.def t (pointer_restoration nexts.GoOn) (phase_entry phases.Status)))
+    go : (t : Option Task) → On q (with_task t (λ t. recovery v.def t (pointer_restoration Next.GoOn) (phase_entry Phase.Status)))
     go None = (tt, tt)
-    go (Some t) = recovers q v.def t (pointer_restoration nexts.GoOn) (phase_entry phases.Status) (restores q o nexts.GoOn) (tt, tt)
-out_left q o v h causes.InStatus task e = go v.task
+    go (Some t) = recovers q v.def t (pointer_restoration Next.GoOn) (phase_entry Phase.Status) (restores q o Next.GoOn) (tt, tt)
+out_left q o v h Cause.InStatus task e = go v.task
   where
-    go : (t : Option Task) → On q (with_task t (λ t. recovery v.def t (pointer_restoration nexts.Status) bus_free))
+    go : (t : Option Task) → On q (with_task t (λ t. recovery v.def t (pointer_restoration Next.Status) bus_free))
     go None = (tt, tt)
-    go (Some t) = recovers q v.def t (pointer_restoration nexts.Status) bus_free (restores q o nexts.Status) (tt, tt)
+    go (Some t) = recovers q v.def t (pointer_restoration Next.Status) bus_free (restores q o Next.Status) (tt, tt)
 
 in_left : (q : MsgIn → Type 0) (v : Serving) (next : Next) → On q (after_messages v next)
-in_left q v nexts.Command = (tt, tt)
-in_left q v nexts.Status = (tt, tt)
-in_left q v nexts.FreeBus = (tt, tt)
-in_left q v nexts.GoOn = go v.task
+in_left q v Next.Command = (tt, tt)
+in_left q v Next.Status = (tt, tt)
+in_left q v Next.FreeBus = (tt, tt)
+in_left q v Next.GoOn = go v.task
   where
     go : (t : Option Task) → On q (with_task t (λ t. phase_entry (next_data_phase (policy_of v.def) t t.runs)))
     go None = (tt, tt)
     go (Some t) = (tt, tt)
 
 arrives : (q : MsgIn → Type 0) → IsOfOthers q → (def : Option TargetDef) (t : Task) (arrival : Arrival) → On q (after_arrival def t arrival)
-arrives q o def t arrivals.Refused = (tt, tt)
-arrives q o def t arrivals.Guest = (tt, tt)
-arrives q o def t arrivals.AtOnce = (tt, tt)
-arrives q o def t arrivals.Queued = (o.disconnect, tt)
+arrives q o def t Arrival.Refused = (tt, tt)
+arrives q o def t Arrival.Guest = (tt, tt)
+arrives q o def t Arrival.AtOnce = (tt, tt)
+arrives q o def t Arrival.Queued = (o.disconnect, tt)
 
 command_left : (q : MsgIn → Type 0) → IsOfOthers q → (v : Serving) (arrival : Arrival) → On q (command_leaving v arrival)
 command_left q o v arrival = go v.task v.plan.struck
   where
-    go : (task : Option Task) (r : Bool) → On q (with_task task (λ t. if r then recovery v.def t (pointer_restoration nexts.Command) (phase_entry phases.Status) else after_arrival v.def t arrival))
+    go : (task : Option Task) (r : Bool) → On q (with_task task (λ t. if r then recovery v.def t (pointer_restoration Next.Command) (phase_entry Phase.Status) else after_arrival v.def t arrival))
     go None r = (tt, tt)
-    go (Some t) true = recovers q v.def t (pointer_restoration nexts.Command) (phase_entry phases.Status) (restores q o nexts.Command) (tt, tt)
+    go (Some t) true = recovers q v.def t (pointer_restoration Next.Command) (phase_entry Phase.Status) (restores q o Next.Command) (tt, tt)
     go (Some t) false = arrives q o v.def t arrival
 
 run_left : (q : MsgIn → Type 0) → IsOfOthers q → (policy : Policy) (t : Task) → On q (after_run policy t)
 run_left q o policy t = go (nat_lt (t.runs + 1) (runs_in_all policy t)) policy
   where
-    go : (r : Bool) (p : Policy) → On q (record (if r then disconnection (disconnect_messages p) else phase_entry phases.Status) { done = true })
-    go true policies.Never = (o.disconnect, tt)
-    go true policies.Command = (o.disconnect, tt)
-    go true (policies.Burst most) = (o.save, o.disconnect)
-    go true (policies.NoSave most) = (o.disconnect, tt)
+    go : (r : Bool) (p : Policy) → On q (record (if r then disconnection (disconnect_messages p) else phase_entry Phase.Status) { done = true })
+    go true Policy.Never = (o.disconnect, tt)
+    go true Policy.Command = (o.disconnect, tt)
+    go true (Policy.Burst most) = (o.save, o.disconnect)
+    go true (Policy.NoSave most) = (o.disconnect, tt)
     go false p = (tt, tt)
 
 data_left : (q : MsgIn → Type 0) → IsOfOthers q → (policy : Policy) (task : Option Task) → On q (with_task task (λ t. after_run policy t))
@@ -138,18 +120,18 @@ data_left q o policy (Some t) = run_left q o policy t
 sent_left : (q : MsgIn → Type 0) → IsOfOthers q → (v : Serving) → On q (data_out_leaving v)
 sent_left q o v = go v.task v.plan.struck
   where
-    go : (task : Option Task) (r : Bool) → On q (with_task task (λ t. if r then recovery v.def t (pointer_restoration nexts.GoOn) (phase_entry phases.Status) else after_run (policy_of v.def) t))
+    go : (task : Option Task) (r : Bool) → On q (with_task task (λ t. if r then recovery v.def t (pointer_restoration Next.GoOn) (phase_entry Phase.Status) else after_run (policy_of v.def) t))
     go None r = (tt, tt)
-    go (Some t) true = recovers q v.def t (pointer_restoration nexts.GoOn) (phase_entry phases.Status) (restores q o nexts.GoOn) (tt, tt)
+    go (Some t) true = recovers q v.def t (pointer_restoration Next.GoOn) (phase_entry Phase.Status) (restores q o Next.GoOn) (tt, tt)
     go (Some t) false = run_left q o (policy_of v.def) t
 
 phase_left : (q : MsgIn → Type 0) → IsOfOthers q → (v : Serving) → OnMessages q v.plan.messages → (attention : Bool) (phase : Phase) → On q (phase_leaving v attention phase)
-phase_left q o v h attention phases.MessageOut = out_left q o v h v.plan.cause v.task refl
-phase_left q o v h attention phases.MessageIn = either q attention (phase_entry phases.MessageOut) (after_messages v v.plan.next) (tt, tt) (in_left q v v.plan.next)
-phase_left q o v h attention phases.Command = command_left q o v v.arrival
-phase_left q o v h attention phases.DataIn = either q attention (phase_entry phases.MessageOut) (data_in_leaving v) (tt, tt) (data_left q o (policy_of v.def) v.task)
-phase_left q o v h attention phases.DataOut = sent_left q o v
-phase_left q o v h attention phases.Status = either q attention (phase_entry phases.MessageOut) (disconnection (one_message to_initiator.CommandComplete)) (tt, tt) (o.complete, tt)
+phase_left q o v h attention Phase.MessageOut = out_left q o v h v.plan.cause v.task refl
+phase_left q o v h attention Phase.MessageIn = either q attention (phase_entry Phase.MessageOut) (after_messages v v.plan.next) (tt, tt) (in_left q v v.plan.next)
+phase_left q o v h attention Phase.Command = command_left q o v v.arrival
+phase_left q o v h attention Phase.DataIn = either q attention (phase_entry Phase.MessageOut) (data_in_leaving v) (tt, tt) (data_left q o (policy_of v.def) v.task)
+phase_left q o v h attention Phase.DataOut = sent_left q o v
+phase_left q o v h attention Phase.Status = either q attention (phase_entry Phase.MessageOut) (disconnection (one_message MsgIn.CommandComplete)) (tt, tt) (o.complete, tt)
 
 pub left_messages : (q : MsgIn → Type 0) → IsOfOthers q → (v : Serving) (begun : Bool) (bus : LineSet) → OnMessages q v.plan.messages → OnMessages q (leaving_by v begun bus).messages
 left_messages q o v true bus h = phase_left q o v h bus.atn (phase_of bus)

@@ -1,3 +1,4 @@
+pub mod Names
 mod Cases
 mod StoryCases
 pub mod Lists

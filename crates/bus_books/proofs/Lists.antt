@@ -1,9 +1,7 @@
 -- Lists of bytes.
-use Rattle.std.proofs.Common.{ℕ, ◌≡◌, ◌<◌, ◌+◌, zero, suc, not, List, [], ◌∷◌, ◌++◌, length, refl, ap, arith, length-append}
-use Rattle.std.specs.Prelude.{slice_index_or, slice_set, nat_lt}
-use Rattle.std.proofs.lemmas.Bool.Decides.{nat_tests}
-use Rattle.bus_due.specs.bus_phases.specs.Half.{is_nil}
-use Rattle.bus_books.specs.Listening.{Understanding, understood, understood_byte}
+use Rattle.bus_books.proofs
+use proofs.Names.{ℕ, ◌≡◌, ◌<◌, ◌+◌, zero, suc, not, List, [], ◌∷◌, ◌++◌, length, refl, ap, arith, length-append}
+use proofs.Names.{nat_tests, slice_index_or, slice_set, nat_lt, is_nil, Understanding, understood, understood_byte}
 
 pub word_at : (xs : List ℕ) (b : ℕ) (ys : List ℕ) → slice_index_or (xs ++ b ∷ ys) (length xs) 0 ≡ b
 word_at [] b ys = refl

@@ -1,10 +1,7 @@
 -- What one process carried_after_byte does not touch another.
-use Rattle.std.proofs.Common.{◌≡◌, Bool, false, List, ◌∙◌, ap}
-use Rattle.std.specs.Prelude.{if◌then◌else◌}
-use Rattle.bus_due.specs.bus_base.specs.declared.ProcId.{ProcId}
-use Rattle.bus_due.specs.disk_array.specs.Processes.{same_id}
-use Rattle.bus_due.specs.bus_story.specs.CarriedBytes.{CarriedBytes, with_carried, carried_of}
-use Rattle.bus_due.specs.bus_story.proofs.CarriedLists.{carried_with}
+use Rattle.bus_books.proofs
+use proofs.Names.{◌≡◌, Bool, false, List, ◌∙◌, ap, if◌then◌else◌, ProcId, same_id, carried_with, CarriedBytes}
+use proofs.Names.{with_carried, carried_of}
 pub use Rattle.bus_due.specs.disk_array.proofs.SeatLookups.{same_id_is as id_is}
 pub use Rattle.bus_due.specs.disk_array.proofs.SeatReplies.{id_self as self_id}
 

@@ -1,54 +1,33 @@
 -- The bytes of message phases form messages, and none is half sent as the phase is left (6.6).
-use Rattle.std.proofs.Common.{ℕ, ◌≡◌, ◌<◌, Bool, true, false, not, ◌&&◌, ◌||◌, ◌∙◌, List, [], ◌∷◌, ◌++◌, Some, refl, sym, ap, subst, true≢false, zero, suc, ◌+◌, arith, Option, None}
-use Rattle.std.specs.Prelude.{if◌then◌else◌, is_some, ◌%◌, slice_index_or}
-use Rattle.bus_due.specs.bus_trace.specs.LineSet.{LineSet}
-use Rattle.bus_due.specs.bus_trace.specs.declared.Row.{Row}
-use Rattle.bus_due.specs.bus_trace.specs.declared.changes.Change.{Change}
-use Rattle.bus_due.specs.bus_trace.specs.declared.connection.Connection.{Connection}
-use Rattle.bus_due.specs.bus_trace.specs.Trace.{bus}
-use Rattle.bus_due.specs.bus_trace.specs.Changes.{falls, change_of}
-use Rattle.bus_due.specs.bus_trace.specs.Terms.{receiver_in, receiver_of, connection, connection_after, connection_of, call}
-use Rattle.bus_due.specs.bus_trace.specs.Phases.{changes_phase, is_message_out, is_message_in, is_data}
-use Rattle.bus_due.specs.bus_phases.specs.declared.reading.Reading.TheVariants as readings
-use Rattle.bus_due.specs.bus_phases.specs.Dialogue.{dialogue}
-use Rattle.bus_due.specs.bus_phases.specs.Half.{is_nil}
-use Rattle.bus_due.specs.bus_phases.specs.Reading.{reading_out, reading_in, reading_of}
-use Rattle.bus_due.specs.msg_grammar.specs.Messages.{got_out, got_in, form_in}
-use Rattle.bus_due.specs.bus_rules.specs.Messages.{is_unknown, leaves_message_well, is_opening, opens_well, same_bool, settles_offers, keeps_messages}
-use Rattle.bus_due.specs.bus_rules.specs.Seen.{seen, seen_with}
-use Rattle.bus_due.specs.scenario.specs.Value.{ScenarioValue}
-use Rattle.bus_due.specs.bus_story.specs.Story.{Story}
-use Rattle.bus_due.specs.bus_dialogue.specs.declared.exchange.Phase.TheVariants as phases
-use Rattle.bus_due.specs.bus_dialogue.specs.NextPhase.{phase_of}
-use Rattle.bus_due.specs.Plain.{AreOfDevices}
-use Rattle.bus_due.specs.RunState.{RunState, bus_of}
-use Rattle.bus_due.specs.RunSteps.{run_state}
-use Rattle.bus_due.proofs.Plains.{IsBusStateOf, run_state_plain, bus_state_is, change_same}
-use Rattle.bus_due.specs.bus_story.specs.BusState.{row_reading}
-use Rattle.bus_due.specs.bus_dialogue.specs.Exchange.{message_bytes}
-use Rattle.bus_books.specs.FirstBytes.{IsUnopened, before_all, in_opening, in_names}
-use Rattle.bus_books.specs.Listening.{Understanding, nothing_understood, understood, half_after}
-use Rattle.bus_books.specs.Traces.{GoesOn, Books, Ends}
-use Rattle.bus_books.proofs.Given.{in_is_whole, in_is_known}
-use Rattle.bus_books.proofs.Gives.{in_io}
-use Rattle.bus_books.proofs.Opened.{out_is_whole, out_is_known}
-use Rattle.bus_due.specs.bus_base.proofs.Tests.{nil_of}
+use Rattle.bus_books.proofs
+use proofs.Names.{ℕ, ◌≡◌, ◌<◌, Bool, true, false, not, ◌&&◌, ◌||◌, ◌∙◌, List, [], ◌∷◌, ◌++◌, Some, refl, sym, ap, subst}
+use proofs.Names.{true≢false, zero, suc, ◌+◌, arith, Option, None, if◌then◌else◌, is_some, ◌%◌, slice_index_or, nil_of}
+use proofs.Names.{falls, change_of, LineSet, changes_phase, is_message_out, is_message_in, is_data, receiver_in}
+use proofs.Names.{receiver_of, connection, connection_after, connection_of, call, bus, Row, Change, Connection, got_out}
+use proofs.Names.{got_in, form_in, dialogue, is_nil, reading_out, reading_of, Reading, is_unknown, leaves_message_well}
+use proofs.Names.{is_opening, opens_well, settles_offers, keeps_messages, seen, seen_with, ScenarioValue, row_reading}
+use proofs.Names.{Story, message_bytes, phase_of, Phase, IsBusStateOf, run_state_plain, bus_state_is, change_same}
+use proofs.Names.{AreOfDevices, RunState, bus_of, run_state, IsUnopened, before_all, in_opening, in_names}
+use proofs.{Names.{Understanding, nothing_understood, understood, half_after, GoesOn, Books, Ends}, Given.{in_is_whole}}
+use proofs.{Given.{in_is_known}, Gives.{in_io}, Opened.{out_is_whole, out_is_known}}
+use Rattle.bus_due.specs.bus_phases.specs.Reading.{reading_in}
+use Rattle.bus_due.specs.bus_rules.specs.Messages.{same_bool}
 
 -- ---- phases by the lines
 
-of_out : (b : LineSet) → is_message_out b ≡ true → (b.msg ≡ true) × (phase_of b ≡ phases.MessageOut) × (is_message_in b ≡ false)
+of_out : (b : LineSet) → is_message_out b ≡ true → (b.msg ≡ true) × (phase_of b ≡ Phase.MessageOut) × (is_message_in b ≡ false)
 of_out b e = go b.msg b.cd b.io e
   where
-    go : (m d i : Bool) → (m && d && not i) ≡ true → (m ≡ true) × ((if m then (if i then phases.MessageIn else phases.MessageOut) else if d then (if i then phases.Status else phases.Command) else if i then phases.DataIn else phases.DataOut) ≡ phases.MessageOut) × ((m && d && i) ≡ false)
+    go : (m d i : Bool) → (m && d && not i) ≡ true → (m ≡ true) × ((if m then (if i then Phase.MessageIn else Phase.MessageOut) else if d then (if i then Phase.Status else Phase.Command) else if i then Phase.DataIn else Phase.DataOut) ≡ Phase.MessageOut) × ((m && d && i) ≡ false)
     go true true true z = absurd (true≢false (sym z))
     go true true false z = (refl, refl, refl)
     go true false i z = absurd (true≢false (sym z))
     go false d i z = absurd (true≢false (sym z))
 
-of_in : (b : LineSet) → is_message_in b ≡ true → (b.msg ≡ true) × (phase_of b ≡ phases.MessageIn) × (is_message_out b ≡ false)
+of_in : (b : LineSet) → is_message_in b ≡ true → (b.msg ≡ true) × (phase_of b ≡ Phase.MessageIn) × (is_message_out b ≡ false)
 of_in b e = go b.msg b.cd b.io e
   where
-    go : (m d i : Bool) → (m && d && i) ≡ true → (m ≡ true) × ((if m then (if i then phases.MessageIn else phases.MessageOut) else if d then (if i then phases.Status else phases.Command) else if i then phases.DataIn else phases.DataOut) ≡ phases.MessageIn) × ((m && d && not i) ≡ false)
+    go : (m d i : Bool) → (m && d && i) ≡ true → (m ≡ true) × ((if m then (if i then Phase.MessageIn else Phase.MessageOut) else if d then (if i then Phase.Status else Phase.Command) else if i then Phase.DataIn else Phase.DataOut) ≡ Phase.MessageIn) × ((m && d && not i) ≡ false)
     go true true true z = (refl, refl, refl)
     go true true false z = absurd (true≢false (sym z))
     go true false i z = absurd (true≢false (sym z))
@@ -70,10 +49,10 @@ known_row s k row n c g h = go (is_message_out c.before) refl (is_message_in c.b
         let begun = (g.phase (ap (λ (b : LineSet). b.msg) g.row_is.bus_is ∙ (of_in c.before ei).0)).1 in
         in_is_known k n c (h.gives n g.row_is.connection_is g.calm) begun g.row_is.bus_is ei eo g.gives
     go false eo false ei =
-        (λ j. is_unknown (if is_some (receiver_in n c) then if eo j then reading_out (got_out (k.story.bus_state.dialogue.half ++ c.after.data_bits % 256 ∷ [])) else if ei j then reading_in (got_in (k.story.bus_state.dialogue.half ++ c.after.data_bits % 256 ∷ [])) else readings.NoMessage else readings.NoMessage))
+        (λ j. is_unknown (if is_some (receiver_in n c) then if eo j then reading_out (got_out (k.story.bus_state.dialogue.half ++ c.after.data_bits % 256 ∷ [])) else if ei j then reading_in (got_in (k.story.bus_state.dialogue.half ++ c.after.data_bits % 256 ∷ [])) else Reading.NoMessage else Reading.NoMessage))
         ∙ none (is_some (receiver_in n c))
       where
-        none : (q : Bool) → is_unknown (if q then readings.NoMessage else readings.NoMessage) ≡ false
+        none : (q : Bool) → is_unknown (if q then Reading.NoMessage else Reading.NoMessage) ≡ false
         none true = refl
         none false = refl
 
@@ -142,7 +121,7 @@ opened_row s k row n c g h er eb = go (h.opens n g.row_is.connection_is g.calm e
         let none : w.heard.before ≡ [] = nil_of w.heard.before (sym w.heard.place_is ∙ q) in
         let half : k.story.bus_state.dialogue.half ≡ [] = w.half ∙ ap (λ (u : Understanding). u.half) (w.heard.anew ∙ ap (understood nothing_understood) none) in
         let byte : c.after.data_bits % 256 ≡ o.first = (g.says eo er).0 ∙ (λ i. slice_index_or (o.words_are i) (q i) 0) in
-        (λ i. is_opening (if er i then if eo i then reading_out (got_out (half i ++ byte i ∷ [])) else if is_message_in c.before then reading_in (got_in (half i ++ byte i ∷ [])) else readings.NoMessage else readings.NoMessage) && same_bool (r i) (io_of_out c.before eo i))
+        (λ i. is_opening (if er i then if eo i then reading_out (got_out (half i ++ byte i ∷ [])) else if is_message_in c.before then reading_in (got_in (half i ++ byte i ∷ [])) else Reading.NoMessage else Reading.NoMessage) && same_bool (r i) (io_of_out c.before eo i))
         ∙ (λ i. o.opens i && true)
     go (in_names r b p q lun m lt) =
         let ei : is_message_in c.before ≡ true = ap is_message_in (sym g.row_is.bus_is) ∙ p in
@@ -151,7 +130,7 @@ opened_row s k row n c g h er eb = go (h.opens n g.row_is.connection_is g.calm e
         let none : w.before ≡ [] = nil_of w.before (sym w.count_is ∙ q) in
         let half : k.story.bus_state.dialogue.half ≡ [] = w.half_is ∙ ap (half_after []) none in
         let byte : c.after.data_bits % 256 ≡ 0x80 + lun = (g.gives ei er).0 ∙ (λ i. slice_index_or (message_bytes (m i) ++ message_bytes k.exchange.plan.messages.second) (q i) 0) in
-        (λ i. is_opening (if er i then if eo i then reading_out (got_out (half i ++ byte i ∷ [])) else if ei i then reading_in (got_in (half i ++ byte i ∷ [])) else readings.NoMessage else readings.NoMessage) && same_bool (r i) (in_io c.before ei i))
+        (λ i. is_opening (if er i then if eo i then reading_out (got_out (half i ++ byte i ∷ [])) else if ei i then reading_in (got_in (half i ++ byte i ∷ [])) else Reading.NoMessage else Reading.NoMessage) && same_bool (r i) (in_io c.before ei i))
         ∙ (λ i. name_opens lun lt i && true)
 
 opened_by : (now begun a : Bool) → (now ≡ true → begun ≡ false → a ≡ true) → (not (now && not begun) || a) ≡ true
@@ -254,7 +233,7 @@ end_keeps s rows row n dev lt g =
     (λ i. opens_well (seen rows row) (con i))
     ∙ ap (λ (q : Bool). not (q && not (dialogue rows).begun) || (is_opening (seen rows row).reading && same_bool n.reselected (change_of rows row).before.io)) none in
     let known : is_unknown (seen rows row).reading ≡ false =
-    ap (λ (q : Bool). is_unknown (if q then if is_message_out (change_of rows row).before then reading_out (got_out ((dialogue rows).half ++ (change_of rows row).after.data_bits % 256 ∷ [])) else if is_message_in (change_of rows row).before then reading_in (got_in ((dialogue rows).half ++ (change_of rows row).after.data_bits % 256 ∷ [])) else readings.NoMessage else readings.NoMessage)) none in
+    ap (λ (q : Bool). is_unknown (if q then if is_message_out (change_of rows row).before then reading_out (got_out ((dialogue rows).half ++ (change_of rows row).after.data_bits % 256 ∷ [])) else if is_message_in (change_of rows row).before then reading_in (got_in ((dialogue rows).half ++ (change_of rows row).after.data_bits % 256 ∷ [])) else Reading.NoMessage else Reading.NoMessage)) none in
     let leaves : leaves_message_well (seen rows row) ≡ true =
     (λ i. not (changes_phase (change_of rows row) && not (is_nil (dialogue rows).half)) || ((is_message_in (change_of rows row).before && (change_of rows row).before.atn) || (before i && not (after i))))
     ∙ left_free (changes_phase (change_of rows row)) (not (is_nil (dialogue rows).half)) (is_message_in (change_of rows row).before && (change_of rows row).before.atn) true in

@@ -1,34 +1,14 @@
 -- What the target has heard as MESSAGE OUT is left, and what a byte of it makes.
-use Rattle.std.proofs.Common.{ℕ, ◌≡◌, Bool, true, false, ◌||◌, ◌∙◌, List, [], ◌∷◌, ◌++◌, Option, Some, None, refl, ap}
-use Rattle.std.specs.Prelude.{if◌then◌else◌, is_some, ◌%◌}
-use Rattle.bus_due.specs.bus_trace.specs.declared.changes.Change.{Change}
-use Rattle.bus_due.specs.bus_trace.specs.declared.connection.Connection.{Connection}
-use Rattle.bus_due.specs.bus_trace.specs.Terms.{receiver_in}
-use Rattle.bus_due.specs.bus_trace.specs.Phases.{is_message_out, is_message_in}
-use Rattle.bus_due.specs.bus_phases.specs.declared.dialogue.Dialogue.{Dialogue}
-use Rattle.bus_due.specs.bus_phases.specs.declared.reading.Reading.TheVariants as readings
-use Rattle.bus_due.specs.bus_phases.specs.Reading.{reading_out, reading_in, reading_of}
-use Rattle.bus_due.specs.msg_grammar.specs.Messages.{got_out, got_in}
-use Rattle.bus_due.specs.bus_rules.specs.Messages.{is_unknown}
-use Rattle.bus_due.specs.scenario.specs.declared.value.AbortDef.{AbortDef}
-use Rattle.bus_due.specs.scenario.specs.Value.{ScenarioValue}
-use Rattle.bus_due.specs.disk_array.specs.Processes.{Process, process_of}
-use Rattle.bus_due.specs.bus_story.specs.Items.{Item, process, abort}
-use Rattle.bus_due.specs.bus_story.specs.HistoryEvents.{abort_line_at}
-use Rattle.bus_due.specs.bus_dialogue.specs.declared.exchange.Cause.{Cause}
-use Rattle.bus_due.specs.bus_dialogue.specs.declared.exchange.Said.{Said}
-use Rattle.bus_due.specs.bus_dialogue.specs.Exchange.{Exchange}
-use Rattle.bus_due.specs.bus_dialogue.specs.Words.{process_opening, abort_opening}
-use Rattle.bus_due.specs.Defs.{host_of, opening}
-use Rattle.bus_due.specs.Faithful.{is_process_named, is_abort_named, is_item_named, is_opening_named}
-use Rattle.bus_due.specs.RunState.{RunState, bus_of}
-use Rattle.scsi_device.specs.Lines.{AreUnits}
-use Rattle.bus_books.specs.Listening.{Understanding, nothing_understood, understood, understanding}
-use Rattle.bus_books.specs.Speaking.{AreWordsFor, opens, refuses, answers, rejects_data, rejects_status, Speaks, SaysNext}
-use Rattle.bus_books.proofs.Openings.{opening_heard, abort_heard}
-use Rattle.bus_books.proofs.Reading.{reads_byte}
-use Rattle.bus_books.proofs.FirstWords.{process_unit}
-use Rattle.bus_due.specs.bus_base.proofs.Tests.{or_true}
+use Rattle.bus_books.proofs
+use proofs.Names.{ℕ, ◌≡◌, Bool, true, false, ◌||◌, ◌∙◌, List, [], ◌∷◌, ◌++◌, Option, Some, None, refl, ap}
+use proofs.Names.{if◌then◌else◌, is_some, ◌%◌, or_true, is_message_out, is_message_in, receiver_in, Change, Connection}
+use proofs.Names.{got_out, got_in, reading_out, reading_of, Dialogue, Reading, is_unknown, ScenarioValue, AbortDef}
+use proofs.Names.{Process, process_of, abort_line_at, Item, process, abort, Exchange, process_opening, abort_opening}
+use proofs.Names.{Cause, Said, host_of, opening, is_process_named, is_abort_named, is_item_named, is_opening_named}
+use proofs.Names.{RunState, bus_of, AreUnits, Understanding, nothing_understood, understood, understanding, AreWordsFor}
+use proofs.{Names.{opens, refuses, answers, rejects_data, rejects_status, Speaks, SaysNext}, FirstWords.{process_unit}}
+use proofs.{Openings.{opening_heard, abort_heard}, Reading.{reads_byte}}
+use Rattle.bus_due.specs.bus_phases.specs.Reading.{reading_in}
 
 item_named : (s : ScenarioValue) (dev : ℕ) (negotiates : Bool) (said : Said) (item : Option Item) → AreUnits s → (x : List ℕ) → x ≡ opening s dev negotiates item → said ≡ (understood nothing_understood x).said → is_item_named s said item ≡ true
 item_named s dev negotiates said None u x e f = refl
@@ -79,8 +59,8 @@ out_is_known s k n c h eb ec eo says = go (is_some (receiver_in n c)) refl
 
     go : (q : Bool) → is_some (receiver_in n c) ≡ q → is_unknown (reading_of k.story.bus_state.dialogue.half (Some n) c) ≡ false
     go false e =
-        ap (λ (q : Bool). is_unknown (if q then if is_message_out c.before then reading_out (got_out (k.story.bus_state.dialogue.half ++ c.after.data_bits % 256 ∷ [])) else if is_message_in c.before then reading_in (got_in (k.story.bus_state.dialogue.half ++ c.after.data_bits % 256 ∷ [])) else readings.NoMessage else readings.NoMessage)) e
+        ap (λ (q : Bool). is_unknown (if q then if is_message_out c.before then reading_out (got_out (k.story.bus_state.dialogue.half ++ c.after.data_bits % 256 ∷ [])) else if is_message_in c.before then reading_in (got_in (k.story.bus_state.dialogue.half ++ c.after.data_bits % 256 ∷ [])) else Reading.NoMessage else Reading.NoMessage)) e
     go true e =
         let w = h.in_message_out eb (ap is_message_out ec ∙ eo) in
-        (λ i. is_unknown (if e i then if eo i then reading_out (got_out (k.story.bus_state.dialogue.half ++ c.after.data_bits % 256 ∷ [])) else if is_message_in c.before then reading_in (got_in (k.story.bus_state.dialogue.half ++ c.after.data_bits % 256 ∷ [])) else readings.NoMessage else readings.NoMessage))
+        (λ i. is_unknown (if e i then if eo i then reading_out (got_out (k.story.bus_state.dialogue.half ++ c.after.data_bits % 256 ∷ [])) else if is_message_in c.before then reading_in (got_in (k.story.bus_state.dialogue.half ++ c.after.data_bits % 256 ∷ [])) else Reading.NoMessage else Reading.NoMessage))
         ∙ reads_byte k.exchange.speech k.exchange.plan k.story.bus_state.dialogue (c.after.data_bits % 256) w.heard (record { whole = w.whole; half_is = w.half }) (says eo e).0

@@ -1,28 +1,15 @@
 -- What a target makes of whole messages, and of the opening.
-use Rattle.std.proofs.Common.{ℕ, ◌≡◌, ◌<◌, zero, suc, Bool, true, false, not, ◌&&◌, ◌∙◌, [], ◌++◌, Option, Some, None, refl, ap, arith}
-use Rattle.std.specs.Prelude.{if◌then◌else◌, nat_lt, is_none}
-use Rattle.bus_due.specs.msg_grammar.specs.declared.message.MsgOut.{MsgOut}
-use Rattle.bus_due.specs.msg_grammar.specs.declared.message.MsgOut.TheVariants as to_target
-use Rattle.bus_due.specs.msg_grammar.specs.Messages.{form_out, out_bytes, FitsOut}
-use Rattle.bus_due.specs.bus_base.specs.declared.AbortKind.{AbortKind}
-use Rattle.bus_due.specs.bus_base.specs.declared.AbortKind.TheVariants as aborts
-use Rattle.bus_due.specs.scenario.specs.declared.value.AbortDef.{AbortDef}
-use Rattle.bus_due.specs.scenario.specs.declared.value.HostDef.{HostDef}
-use Rattle.bus_due.specs.scenario.specs.declared.value.Tag.{Tag}
-use Rattle.bus_due.specs.scenario.specs.declared.value.Tag.TheVariants as tags
-use Rattle.bus_due.specs.disk_array.specs.Processes.{Process}
-use Rattle.bus_due.specs.bus_dialogue.specs.declared.exchange.Said.{Said}
-use Rattle.bus_due.specs.bus_dialogue.specs.Exchange.{nothing_heard, said_with}
-use Rattle.bus_due.specs.bus_dialogue.specs.Words.{process_opening, abort_opening, abort_bytes, tag_bytes, offer_if}
-use Rattle.bus_due.specs.Faithful.{is_process_named, is_abort_named, is_kind, is_unit, same_tag}
-use Rattle.bus_books.specs.Listening.{Understanding, nothing_understood, understood}
-use Rattle.bus_books.proofs.Lists.{understood_append}
-use Rattle.bus_due.specs.bus_base.proofs.Tests.{eq_self}
+use Rattle.bus_books.proofs
+use proofs.Names.{ℕ, ◌≡◌, ◌<◌, zero, suc, Bool, true, false, not, ◌&&◌, ◌∙◌, [], ◌++◌, Option, Some, None, refl, ap}
+use proofs.Names.{arith, if◌then◌else◌, nat_lt, is_none, eq_self, AbortKind, form_out, out_bytes, FitsOut, MsgOut}
+use proofs.Names.{AbortDef, HostDef, Tag, Process, nothing_heard, said_with, process_opening, abort_opening}
+use proofs.Names.{abort_bytes, tag_bytes, offer_if, Said, is_process_named, is_abort_named, is_kind, is_unit, same_tag}
+use proofs.{Names.{Understanding, nothing_understood, understood}, Lists.{understood_append}}
 
 abbrev after : Said → Understanding
 after said = record { said = said; half = [] }
 
-identified : (disc : Bool) (lun : ℕ) (said : Said) → lun < 8 → understood (after said) (out_bytes (to_target.Identify disc lun)) ≡ after (said_with (to_target.Identify disc lun) said)
+identified : (disc : Bool) (lun : ℕ) (said : Said) → lun < 8 → understood (after said) (out_bytes (MsgOut.Identify disc lun)) ≡ after (said_with (MsgOut.Identify disc lun) said)
 unfolding form_out
 identified true zero said lt = refl
 identified true (suc zero) said lt = refl
@@ -45,28 +32,28 @@ identified disc (suc (suc (suc (suc (suc (suc (suc (suc n)))))))) said lt = absu
 -- A message that was heard whole.
 pub hears_message : (m : MsgOut) (said : Said) → FitsOut m → understood (after said) (out_bytes m) ≡ after (said_with m said)
 unfolding form_out
-hears_message (to_target.Identify disc lun) said fits = identified disc lun said fits
-hears_message (to_target.SimpleTag n) said fits = refl
-hears_message (to_target.HeadTag n) said fits = refl
-hears_message (to_target.OrderedTag n) said fits = refl
-hears_message (to_target.Sdtr offer) said fits = refl
-hears_message to_target.Abort said fits = refl
-hears_message to_target.AbortTag said fits = refl
-hears_message to_target.ClearQueue said fits = refl
-hears_message to_target.DeviceReset said fits = refl
-hears_message to_target.DetectedError said fits = refl
-hears_message to_target.ParityError said fits = refl
-hears_message to_target.Reject said fits = refl
-hears_message to_target.Nop said fits = refl
+hears_message (MsgOut.Identify disc lun) said fits = identified disc lun said fits
+hears_message (MsgOut.SimpleTag n) said fits = refl
+hears_message (MsgOut.HeadTag n) said fits = refl
+hears_message (MsgOut.OrderedTag n) said fits = refl
+hears_message (MsgOut.Sdtr offer) said fits = refl
+hears_message MsgOut.Abort said fits = refl
+hears_message MsgOut.AbortTag said fits = refl
+hears_message MsgOut.ClearQueue said fits = refl
+hears_message MsgOut.DeviceReset said fits = refl
+hears_message MsgOut.DetectedError said fits = refl
+hears_message MsgOut.ParityError said fits = refl
+hears_message MsgOut.Reject said fits = refl
+hears_message MsgOut.Nop said fits = refl
 
 -- ---- the opening
 
-hears_tag : (tag : Tag) (said : Said) → said.tag ≡ tags.Untagged → (h : Said) × (understood (after said) (tag_bytes tag) ≡ after h) × (h.unit ≡ said.unit) × (same_tag h.tag tag ≡ true) × (h.aborts ≡ said.aborts)
+hears_tag : (tag : Tag) (said : Said) → said.tag ≡ Tag.Untagged → (h : Said) × (understood (after said) (tag_bytes tag) ≡ after h) × (h.unit ≡ said.unit) × (same_tag h.tag tag ≡ true) × (h.aborts ≡ said.aborts)
 unfolding form_out
-hears_tag tags.Untagged said e = (said, refl, refl, ap (λ (x : Tag). same_tag x tags.Untagged) e, refl)
-hears_tag (tags.Simple n) said e = (said_with (to_target.SimpleTag n) said, refl, refl, eq_self n, refl)
-hears_tag (tags.Ordered n) said e = (said_with (to_target.OrderedTag n) said, refl, refl, eq_self n, refl)
-hears_tag (tags.Head n) said e = (said_with (to_target.HeadTag n) said, refl, refl, eq_self n, refl)
+hears_tag Tag.Untagged said e = (said, refl, refl, ap (λ (x : Tag). same_tag x Tag.Untagged) e, refl)
+hears_tag (Tag.Simple n) said e = (said_with (MsgOut.SimpleTag n) said, refl, refl, eq_self n, refl)
+hears_tag (Tag.Ordered n) said e = (said_with (MsgOut.OrderedTag n) said, refl, refl, eq_self n, refl)
+hears_tag (Tag.Head n) said e = (said_with (MsgOut.HeadTag n) said, refl, refl, eq_self n, refl)
 
 hears_offer : (negotiates : Bool) (h : Option HostDef) (said : Said) → (x : Said) × (understood (after said) (offer_if negotiates h) ≡ after x) × (x.unit ≡ said.unit) × (x.tag ≡ said.tag) × (x.aborts ≡ said.aborts)
 unfolding form_out
@@ -74,15 +61,15 @@ hears_offer false h said = (said, refl, refl, refl, refl)
 hears_offer true None said = (said, refl, refl, refl, refl)
 hears_offer true (Some h) said = go (h.offers && nat_lt 0 h.period)
   where
-    go : (q : Bool) → (x : Said) × (understood (after said) (if q then out_bytes (to_target.Sdtr (record { period = h.period; offset = h.offset })) else []) ≡ after x) × (x.unit ≡ said.unit) × (x.tag ≡ said.tag) × (x.aborts ≡ said.aborts)
-    go true = (said_with (to_target.Sdtr (record { period = h.period; offset = h.offset })) said, refl, refl, refl, refl)
+    go : (q : Bool) → (x : Said) × (understood (after said) (if q then out_bytes (MsgOut.Sdtr (record { period = h.period; offset = h.offset })) else []) ≡ after x) × (x.unit ≡ said.unit) × (x.tag ≡ said.tag) × (x.aborts ≡ said.aborts)
+    go true = (said_with (MsgOut.Sdtr (record { period = h.period; offset = h.offset })) said, refl, refl, refl, refl)
     go false = (said, refl, refl, refl, refl)
 
 -- The opening of a process names its unit and its tag, and aborts nothing.
 pub opening_heard : (h : Option HostDef) (negotiates : Bool) (p : Process) → p.unit < 8
     → (x : Said) × (understood nothing_understood (process_opening h negotiates (Some p)) ≡ after x) × (is_process_named x (Some p) ≡ true)
 opening_heard h negotiates p lt =
-    let m : MsgOut = to_target.Identify (not p.id.sense) p.unit in
+    let m : MsgOut = MsgOut.Identify (not p.id.sense) p.unit in
     let one : Said = said_with m nothing_heard in
     let two = hears_tag p.tag one refl in
     let three = hears_offer negotiates h two.0 in (
@@ -98,14 +85,14 @@ opening_heard h negotiates p lt =
 -- The opening of an abort names its unit, and what it aborts.
 abort_said : (what : AbortKind) (said : Said) → (x : Said) × (understood (after said) (abort_bytes what) ≡ after x) × (x.unit ≡ said.unit) × (is_kind x.aborts what ≡ true)
 unfolding form_out
-abort_said aborts.All said = (said_with to_target.Abort said, refl, refl, refl)
-abort_said (aborts.Tag n) said = (said_with to_target.AbortTag (said_with (to_target.SimpleTag n) said), refl, refl, eq_self n)
-abort_said aborts.WholeQueue said = (said_with to_target.ClearQueue said, refl, refl, refl)
-abort_said aborts.Device said = (said_with to_target.DeviceReset said, refl, refl, refl)
+abort_said AbortKind.All said = (said_with MsgOut.Abort said, refl, refl, refl)
+abort_said (AbortKind.Tag n) said = (said_with MsgOut.AbortTag (said_with (MsgOut.SimpleTag n) said), refl, refl, eq_self n)
+abort_said AbortKind.WholeQueue said = (said_with MsgOut.ClearQueue said, refl, refl, refl)
+abort_said AbortKind.Device said = (said_with MsgOut.DeviceReset said, refl, refl, refl)
 
 pub abort_heard : (a : AbortDef) → a.unit < 8 → (x : Said) × (understood nothing_understood (abort_opening (Some a)) ≡ after x) × (is_abort_named x (Some a) ≡ true)
 abort_heard a lt =
-    let m : MsgOut = to_target.Identify false a.unit in
+    let m : MsgOut = MsgOut.Identify false a.unit in
     let one : Said = said_with m nothing_heard in
     let two = abort_said a.what one in (
       two.0,

@@ -1,22 +1,11 @@
 -- Outside the message phases no message is heard half.
-use Rattle.std.proofs.Common.{ℕ, ◌≡◌, Bool, true, false, not, ◌&&◌, ◌∙◌, Option, None, refl, sym, ap, subst}
-use Rattle.std.specs.Prelude.{if◌then◌else◌, is_some, ◌%◌}
-use Rattle.bus_due.specs.bus_trace.specs.LineSet.{LineSet}
-use Rattle.bus_due.specs.bus_trace.specs.declared.Row.{Row}
-use Rattle.bus_due.specs.bus_trace.specs.declared.changes.Change.{Change}
-use Rattle.bus_due.specs.bus_trace.specs.declared.connection.Connection.{Connection}
-use Rattle.bus_due.specs.bus_trace.specs.Terms.{receiver_in}
-use Rattle.bus_due.specs.bus_trace.specs.Phases.{changes_phase, is_command, is_message_out, is_message_in}
-use Rattle.bus_due.specs.bus_phases.specs.declared.dialogue.Dialogue.{Dialogue}
-use Rattle.bus_due.specs.bus_phases.specs.Dialogue.{opened, dialogue_after, byte_out, byte_in, byte_else, heard_with_command}
-use Rattle.bus_due.specs.scenario.specs.Value.{ScenarioValue}
-use Rattle.bus_due.specs.bus_story.specs.PairAgreements.{agreement_in}
-use Rattle.bus_due.specs.bus_story.specs.BusState.{row_reading}
-use Rattle.bus_due.specs.RunState.{RunState, bus_of}
-use Rattle.bus_due.specs.RunSteps.{run_state_after}
-use Rattle.bus_books.specs.Giving.{IsQuietBy, IsQuiet}
-use Rattle.bus_books.specs.Rows.{RowKind, still, strikes, crosses, turns, IsRowIn, IsFirstRow}
-use Rattle.bus_books.proofs.InConnection.{dialogue_by, InConnection, in_connection, same_phase_is}
+use Rattle.bus_books.proofs
+use proofs.Names.{ℕ, ◌≡◌, Bool, true, false, not, ◌&&◌, ◌∙◌, Option, None, refl, sym, ap, subst, if◌then◌else◌, is_some}
+use proofs.Names.{◌%◌, LineSet, changes_phase, is_command, is_message_out, is_message_in, receiver_in, Row, Change}
+use proofs.Names.{Connection, opened, dialogue_after, byte_out, byte_in, byte_else, heard_with_command, Dialogue}
+use proofs.Names.{ScenarioValue, row_reading, agreement_in, RunState, bus_of, run_state_after, IsQuietBy, IsQuiet}
+use proofs.{Names.{RowKind, still, strikes, crosses, turns, IsRowIn, IsFirstRow}, InConnection.{dialogue_by}}
+use proofs.InConnection.{InConnection, in_connection, same_phase_is}
 
 quiet_as : (d d' : Dialogue) (b b' : LineSet) → d ≡ d' → b ≡ b' → IsQuietBy d' b' → IsQuietBy d b
 quiet_as d d' b b' ed eb h = subst (λ (z : Dialogue). IsQuietBy z b) (sym ed) (subst (λ (z : LineSet). IsQuietBy d' z) (sym eb) h)

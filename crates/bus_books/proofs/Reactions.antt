@@ -1,37 +1,14 @@
 -- What the two ends are due to drive is what is next.
-use Rattle.std.proofs.Common.{ℕ, ◌≡◌, Bool, true, false, not, ◌&&◌, ◌||◌, ◌∙◌, length, Some, refl, sym, ap, arith, true≢false, ◌≤◌, ◌++◌, [], ◌∷◌, List, Option, None, length-append, suc}
-use Rattle.std.specs.Prelude.{if◌then◌else◌, is_some, ◌==◌, ◌%◌, nat_lt, slice_index_or}
-use Rattle.std.proofs.lemmas.Bool.Decides.{nat_tests}
-use Rattle.bus_due.specs.bus_trace.specs.LineSet.{LineSet}
-use Rattle.bus_due.specs.bus_trace.specs.declared.changes.Change.{Change}
-use Rattle.bus_due.specs.bus_trace.specs.declared.connection.Connection.{Connection}
-use Rattle.bus_due.specs.bus_trace.specs.Terms.{receiver_in}
-use Rattle.bus_due.specs.bus_trace.specs.Phases.{is_command, is_data, is_message_out, is_message_in}
-use Rattle.bus_due.specs.cdb_codec.specs.Cdb.{has_group_len}
-use Rattle.bus_due.specs.scenario.specs.Value.{ScenarioValue}
-use Rattle.bus_due.specs.disk_array.specs.Processes.{Process}
-use Rattle.bus_due.specs.bus_dialogue.specs.declared.exchange.Phase.{Phase}
-use Rattle.bus_due.specs.bus_dialogue.specs.declared.exchange.Phase.TheVariants as phases
-use Rattle.bus_due.specs.bus_dialogue.specs.Exchange.{next_word, bytes_of_messages, message_bytes}
-use Rattle.bus_due.specs.bus_dialogue.specs.Ends.{follows_by}
-use Rattle.bus_due.specs.bus_dialogue.specs.NextPhase.{phase_of}
-use Rattle.bus_due.specs.bus_dialogue.specs.PhaseBytes.{phase_byte, has_whole_block, follows_in}
-use Rattle.bus_due.specs.bus_dialogue.specs.Sending.{Sending, byte_to_send}
-use Rattle.bus_due.specs.RunState.{RunState, bus_of, process_here, process_served, carried_here, item_of}
-use Rattle.bus_due.specs.Sights.{serving_of, sending_by, sending_of}
-use Rattle.bus_due.specs.Tasks.{task_if}
-use Rattle.bus_due.specs.msg_grammar.specs.declared.message.MsgIn.{MsgIn}
-use Rattle.bus_due.specs.msg_grammar.specs.declared.message.MsgIn.TheVariants as to_initiator
-use Rattle.bus_due.specs.msg_grammar.specs.Messages.{in_bytes}
-use Rattle.bus_due.specs.bus_dialogue.specs.declared.exchange.Messages.{Messages}
-use Rattle.bus_books.specs.Hearing.{is_in_phase, is_out_phase, HasPhase, LeavesWhole}
-use Rattle.bus_books.specs.Giving.{GivesNext, Gives}
-use Rattle.bus_books.specs.Reactions.{IsAnswered, IsOffered, IsOver, HasMessage}
-use Rattle.bus_books.specs.Speaking.{SaysNext}
-use Rattle.std.proofs.lemmas.Bool.{ltb-true, or_parts}
-use Rattle.bus_due.specs.bus_base.proofs.Tests.{and_second, zero_of}
-use Rattle.scsi_device.specs.Heard.{is_command_phase}
-use Rattle.scsi_device.proofs.PhaseLines.{in_phase, out_phase}
+use Rattle.bus_books.proofs
+use proofs.Names.{ℕ, ◌≡◌, Bool, true, false, not, ◌&&◌, ◌||◌, ◌∙◌, length, Some, refl, sym, ap, arith, true≢false, ◌≤◌}
+use proofs.Names.{◌++◌, [], ◌∷◌, List, Option, None, length-append, suc, ltb-true, or_parts, nat_tests, if◌then◌else◌}
+use proofs.Names.{is_some, ◌==◌, ◌%◌, nat_lt, slice_index_or, and_second, zero_of, LineSet, is_command, is_data}
+use proofs.Names.{is_message_out, is_message_in, receiver_in, Change, Connection, has_group_len, in_bytes, MsgIn}
+use proofs.Names.{ScenarioValue, Process, follows_by, next_word, bytes_of_messages, message_bytes, phase_of, phase_byte}
+use proofs.Names.{has_whole_block, follows_in, Sending, byte_to_send, Messages, Phase, RunState, bus_of, process_here}
+use proofs.Names.{process_served, carried_here, item_of, serving_of, sending_by, sending_of, task_if, in_phase}
+use proofs.Names.{out_phase, is_command_phase, GivesNext, Gives, is_in_phase, is_out_phase, HasPhase, LeavesWhole}
+use proofs.Names.{IsAnswered, IsOffered, IsOver, HasMessage, SaysNext}
 
 -- ---- the initiator
 
@@ -72,10 +49,10 @@ answers_own s k n c p eb h ep er ei =
 
 -- ---- the target
 
-pub out_lines : (b : LineSet) → phase_of b ≡ phases.MessageOut → (b.msg ≡ true) × (b.io ≡ false)
+pub out_lines : (b : LineSet) → phase_of b ≡ Phase.MessageOut → (b.msg ≡ true) × (b.io ≡ false)
 out_lines b e = go b.msg b.cd b.io (ap is_out_phase e)
   where
-    go : (m d i : Bool) → is_out_phase (if m then (if i then phases.MessageIn else phases.MessageOut) else if d then (if i then phases.Status else phases.Command) else if i then phases.DataIn else phases.DataOut) ≡ true → (m ≡ true) × (i ≡ false)
+    go : (m d i : Bool) → is_out_phase (if m then (if i then Phase.MessageIn else Phase.MessageOut) else if d then (if i then Phase.Status else Phase.Command) else if i then Phase.DataIn else Phase.DataOut) ≡ true → (m ≡ true) × (i ≡ false)
     go true d false z = (refl, refl)
     go true d true z = absurd (true≢false (sym z))
     go false true true z = absurd (true≢false (sym z))
@@ -97,7 +74,7 @@ offers_next s k n c eb h ei er =
     let here : is_message_in (bus_of k) ≡ true = ap is_message_in eb ∙ ei in
     let phase = in_phase (bus_of k) here in
     let bytes = bytes_of_messages k.exchange.plan.messages in
-    let follows : follows_in (serving_of s k n.target) k.handshakes (bus_of k).atn phases.MessageIn ≡ true =
+    let follows : follows_in (serving_of s k n.target) k.handshakes (bus_of k).atn Phase.MessageIn ≡ true =
     sym (ap (λ (q : Bool). follows_by (serving_of s k n.target) q (bus_of k) k.handshakes) (in_unpulsed k.exchange.begun _ (bus_of k) here)
     ∙ ap (follows_in (serving_of s k n.target) k.handshakes (bus_of k).atn) phase)
     ∙ h.follows ei er in (
@@ -121,7 +98,7 @@ over_in s k n phase ed ep h =
 -- MESSAGE OUT was left after a byte with ATN false.
 pub out_over : (s : ScenarioValue) (k : RunState) (n : Connection) → is_message_out (bus_of k) ≡ true → IsOver s k n → k.story.bus_state.dialogue.is_last ≡ true
 out_over s k n eo h =
-    let f = over_in s k n phases.MessageOut (data_none (bus_of k).msg (bus_of k).cd (bus_of k).io eo) (out_phase (bus_of k) eo) h in
+    let f = over_in s k n Phase.MessageOut (data_none (bus_of k).msg (bus_of k).cd (bus_of k).io eo) (out_phase (bus_of k) eo) h in
     let atn = (or_parts (k.handshakes.answers == 0) (bus_of k).atn (or_parts (k.handshakes.answers == 0 || (bus_of k).atn) k.exchange.plan.struck f).0).1 in
     flip k.story.bus_state.dialogue.is_last (sym (h.attention eo) ∙ atn)
   where
@@ -136,7 +113,7 @@ out_over s k n eo h =
 -- COMMAND was left struck, or once the block had the length of its group.
 pub command_over : (s : ScenarioValue) (k : RunState) (n : Connection) (p : Process) → is_command (bus_of k) ≡ true → IsOver s k n → process_served s k ≡ Some p → k.exchange.plan.struck ≡ false → has_group_len (carried_here k p.id).block ≡ true
 command_over s k n p ec h ep es =
-    let f = over_in s k n phases.Command (data_none (bus_of k).msg (bus_of k).cd (bus_of k).io ec) (command_phase (bus_of k).msg (bus_of k).cd (bus_of k).io ec) h in
+    let f = over_in s k n Phase.Command (data_none (bus_of k).msg (bus_of k).cd (bus_of k).io ec) (command_phase (bus_of k).msg (bus_of k).cd (bus_of k).io ec) h in
     flip (has_group_len (carried_here k p.id).block) (sym (λ i. not (es i) && not (has_whole_block (task_if s k (ep i)))) ∙ f)
   where
     flip : (q : Bool) → not q ≡ false → q ≡ true
@@ -148,17 +125,17 @@ command_over s k n p ec h ep es =
     data_none false true i e = refl
     data_none false false i e = absurd (true≢false (sym e))
 
-    command_phase : (m d i : Bool) → (not m && d && not i) ≡ true → (if m then (if i then phases.MessageIn else phases.MessageOut) else if d then (if i then phases.Status else phases.Command) else if i then phases.DataIn else phases.DataOut) ≡ phases.Command
+    command_phase : (m d i : Bool) → (not m && d && not i) ≡ true → (if m then (if i then Phase.MessageIn else Phase.MessageOut) else if d then (if i then Phase.Status else Phase.Command) else if i then Phase.DataIn else Phase.DataOut) ≡ Phase.Command
     command_phase true d i e = absurd (true≢false (sym e))
     command_phase false true true e = absurd (true≢false (sym e))
     command_phase false true false e = refl
     command_phase false false i e = absurd (true≢false (sym e))
 
 -- MESSAGE IN was left after all its bytes, or after one with ATN true.
-in_over : (s : ScenarioValue) (k : RunState) (n : Connection) → phase_of (bus_of k) ≡ phases.MessageIn → IsOver s k n → ((k.handshakes.requests == 0 || not (bus_of k).atn) && nat_lt k.handshakes.requests (length (bytes_of_messages k.exchange.plan.messages))) ≡ false
-in_over s k n e h = over_in s k n phases.MessageIn (data_none (bus_of k).msg (bus_of k).cd (bus_of k).io (ap is_in_phase e)) e h
+in_over : (s : ScenarioValue) (k : RunState) (n : Connection) → phase_of (bus_of k) ≡ Phase.MessageIn → IsOver s k n → ((k.handshakes.requests == 0 || not (bus_of k).atn) && nat_lt k.handshakes.requests (length (bytes_of_messages k.exchange.plan.messages))) ≡ false
+in_over s k n e h = over_in s k n Phase.MessageIn (data_none (bus_of k).msg (bus_of k).cd (bus_of k).io (ap is_in_phase e)) e h
   where
-    data_none : (m d i : Bool) → is_in_phase (if m then (if i then phases.MessageIn else phases.MessageOut) else if d then (if i then phases.Status else phases.Command) else if i then phases.DataIn else phases.DataOut) ≡ true → (not m && not d) ≡ false
+    data_none : (m d i : Bool) → is_in_phase (if m then (if i then Phase.MessageIn else Phase.MessageOut) else if d then (if i then Phase.Status else Phase.Command) else if i then Phase.DataIn else Phase.DataOut) ≡ true → (not m && not d) ≡ false
     data_none true d i z = refl
     data_none false true i z = refl
     data_none false false true z = absurd (true≢false (sym z))
@@ -177,14 +154,14 @@ at_end : (n m : ℕ) → n ≤ m → nat_lt n m ≡ false → n ≡ m
 at_end n m h e = grind (arith, nat_tests)
 
 some_bytes : (m : MsgIn) → nat_lt 0 (length (in_bytes m)) ≡ true
-some_bytes to_initiator.CommandComplete = refl
-some_bytes to_initiator.SavePointer = refl
-some_bytes to_initiator.RestorePointers = refl
-some_bytes to_initiator.Disconnect = refl
-some_bytes (to_initiator.Identify lun) = refl
-some_bytes (to_initiator.SimpleTag tag) = refl
-some_bytes (to_initiator.Sdtr offer) = refl
-some_bytes to_initiator.Reject = refl
+some_bytes MsgIn.CommandComplete = refl
+some_bytes MsgIn.SavePointer = refl
+some_bytes MsgIn.RestorePointers = refl
+some_bytes MsgIn.Disconnect = refl
+some_bytes (MsgIn.Identify lun) = refl
+some_bytes (MsgIn.SimpleTag tag) = refl
+some_bytes (MsgIn.Sdtr offer) = refl
+some_bytes MsgIn.Reject = refl
 
 some_more : (n : ℕ) → nat_lt 0 (suc n) ≡ true
 some_more n = grind (arith, nat_tests)
@@ -200,7 +177,7 @@ messages_some m e = go m.first e
     go None z = absurd (true≢false (sym z))
     go (Some x) z = more_bytes (in_bytes x) (message_bytes m.second) (some_bytes x)
 
-in_some : (s : ScenarioValue) (k : RunState) (n : Connection) → phase_of (bus_of k) ≡ phases.MessageIn → is_some k.exchange.plan.messages.first ≡ true → IsOver s k n → (k.handshakes.requests == 0) ≡ false
+in_some : (s : ScenarioValue) (k : RunState) (n : Connection) → phase_of (bus_of k) ≡ Phase.MessageIn → is_some k.exchange.plan.messages.first ≡ true → IsOver s k n → (k.handshakes.requests == 0) ≡ false
 in_some s k n e em h = go (k.handshakes.requests == 0) refl
   where
     go : (q : Bool) → (k.handshakes.requests == 0) ≡ q → (k.handshakes.requests == 0) ≡ false
@@ -209,7 +186,7 @@ in_some s k n e em h = go (k.handshakes.requests == 0) refl
         one_given (k.handshakes.requests == 0) (bus_of k).atn (nat_lt k.handshakes.requests (length (bytes_of_messages k.exchange.plan.messages))) (in_over s k n e h)
         (ap (λ (x : ℕ). nat_lt x (length (bytes_of_messages k.exchange.plan.messages))) (zero_of k.handshakes.requests f) ∙ messages_some k.exchange.plan.messages em)
 
-in_given : (s : ScenarioValue) (k : RunState) (n : Connection) → Gives k → HasPhase k → phase_of (bus_of k) ≡ phases.MessageIn → IsOver s k n → (bus_of k).atn ≡ false → k.handshakes.requests ≡ length (bytes_of_messages k.exchange.plan.messages)
+in_given : (s : ScenarioValue) (k : RunState) (n : Connection) → Gives k → HasPhase k → phase_of (bus_of k) ≡ Phase.MessageIn → IsOver s k n → (bus_of k).atn ≡ false → k.handshakes.requests ≡ length (bytes_of_messages k.exchange.plan.messages)
 in_given s k n g p e h a =
     let msg = in_lines (bus_of k).msg (bus_of k).cd (bus_of k).io (ap is_in_phase e) in
     let lines = p msg.0 in
@@ -220,7 +197,7 @@ in_given s k n g p e h a =
     at_end k.handshakes.requests (length (bytes_of_messages k.exchange.plan.messages)) (omega arith)
     (all_given (k.handshakes.requests == 0) (bus_of k).atn (nat_lt k.handshakes.requests (length (bytes_of_messages k.exchange.plan.messages))) (in_over s k n e h) a)
   where
-    in_lines : (m d i : Bool) → is_in_phase (if m then (if i then phases.MessageIn else phases.MessageOut) else if d then (if i then phases.Status else phases.Command) else if i then phases.DataIn else phases.DataOut) ≡ true → (m ≡ true) × (i ≡ true)
+    in_lines : (m d i : Bool) → is_in_phase (if m then (if i then Phase.MessageIn else Phase.MessageOut) else if d then (if i then Phase.Status else Phase.Command) else if i then Phase.DataIn else Phase.DataOut) ≡ true → (m ≡ true) × (i ≡ true)
     in_lines true d true z = (refl, refl)
     in_lines true d false z = absurd (true≢false (sym z))
     in_lines false true true z = absurd (true≢false (sym z))
@@ -238,7 +215,7 @@ leaves_by s k n g lines h message named group = record {
   named = named;
 }
   where
-    command_lines : (m d i : Bool) → is_command_phase (if m then (if i then phases.MessageIn else phases.MessageOut) else if d then (if i then phases.Status else phases.Command) else if i then phases.DataIn else phases.DataOut) ≡ true → (not m && d && not i) ≡ true
+    command_lines : (m d i : Bool) → is_command_phase (if m then (if i then Phase.MessageIn else Phase.MessageOut) else if d then (if i then Phase.Status else Phase.Command) else if i then Phase.DataIn else Phase.DataOut) ≡ true → (not m && d && not i) ≡ true
     command_lines true d true z = absurd (true≢false (sym z))
     command_lines true d false z = absurd (true≢false (sym z))
     command_lines false true true z = absurd (true≢false (sym z))

@@ -1,31 +1,13 @@
 -- Rule 25 in MESSAGE OUT: the bytes form messages, and none is half sent as the phase is left.
-use Rattle.std.proofs.Common.{ℕ, ◌≡◌, ◌<◌, zero, suc, Bool, true, false, not, ◌&&◌, ◌∙◌, List, [], ◌∷◌, ◌++◌, Option, Some, None, refl, sym, ap, arith, true≢false}
-use Rattle.std.specs.Prelude.{if◌then◌else◌, nat_lt}
-use Rattle.bus_due.specs.bus_trace.specs.declared.agreements.Agreement.{Agreement}
-use Rattle.bus_due.specs.msg_grammar.specs.declared.message.MsgOut.{MsgOut}
-use Rattle.bus_due.specs.msg_grammar.specs.declared.message.MsgOut.TheVariants as to_target
-use Rattle.bus_due.specs.msg_grammar.specs.Messages.{form_out, out_bytes, got_out, FitsOut}
-use Rattle.bus_due.specs.bus_base.specs.declared.AbortKind.{AbortKind}
-use Rattle.bus_due.specs.bus_base.specs.declared.AbortKind.TheVariants as aborts
-use Rattle.bus_due.specs.bus_phases.specs.declared.dialogue.Dialogue.{Dialogue}
-use Rattle.bus_due.specs.bus_phases.specs.Dialogue.{fresh_bytes, byte_out}
-use Rattle.bus_due.specs.bus_phases.specs.Half.{is_nil, left_of}
-use Rattle.bus_due.specs.bus_phases.specs.Reading.{reading_out}
-use Rattle.bus_due.specs.bus_rules.specs.Messages.{is_unknown}
-use Rattle.bus_due.specs.scenario.specs.declared.value.HostDef.{HostDef}
-use Rattle.bus_due.specs.scenario.specs.declared.value.AbortDef.{AbortDef}
-use Rattle.bus_due.specs.scenario.specs.declared.value.Tag.{Tag}
-use Rattle.bus_due.specs.scenario.specs.declared.value.Tag.TheVariants as tags
-use Rattle.bus_due.specs.disk_array.specs.Processes.{Process}
-use Rattle.bus_due.specs.bus_dialogue.specs.declared.exchange.Plan.{Plan}
-use Rattle.bus_due.specs.bus_dialogue.specs.declared.exchange.Said.{Said}
-use Rattle.bus_due.specs.bus_dialogue.specs.Exchange.{Speech, next_word, attends_with, speech_after_byte, nothing_heard, said_with}
-use Rattle.bus_due.specs.bus_dialogue.specs.Words.{process_opening, abort_opening, abort_bytes, tag_bytes, offer_if, parity_error, detected_error, answer_bytes}
-use Rattle.bus_books.specs.Listening.{Understanding, nothing_understood, understood_byte, understood, form_messages}
-use Rattle.bus_books.specs.Speaking.{AreWordsHeard}
-use Rattle.bus_books.proofs.Lists.{understood_append}
-use Rattle.bus_books.proofs.Saying.{says_byte, says_more}
-use Rattle.bus_due.specs.bus_base.proofs.Tests.{and_first, and_second}
+use Rattle.bus_books.proofs
+use proofs.Names.{ℕ, ◌≡◌, ◌<◌, zero, suc, Bool, true, false, not, ◌&&◌, ◌∙◌, List, [], ◌∷◌, ◌++◌, Option, Some, None}
+use proofs.Names.{refl, sym, ap, arith, true≢false, if◌then◌else◌, nat_lt, and_first, and_second, AbortKind, Agreement}
+use proofs.Names.{form_out, out_bytes, got_out, FitsOut, MsgOut, fresh_bytes, byte_out, is_nil, left_of, reading_out}
+use proofs.Names.{Dialogue, is_unknown, AbortDef, HostDef, Tag, Process, Speech, next_word, attends_with}
+use proofs.Names.{speech_after_byte, nothing_heard, said_with, process_opening, abort_opening, abort_bytes, tag_bytes}
+use proofs.Names.{offer_if, parity_error, detected_error, answer_bytes, Plan, Said, Understanding, nothing_understood}
+use proofs.{Names.{understood_byte, understood, form_messages, AreWordsHeard}, Lists.{understood_append}}
+use proofs.Saying.{says_byte, says_more}
 
 -- ---- lists
 
@@ -77,9 +59,9 @@ reads_on v p d byte h r e = record { whole = r.whole; half_is = go h.rest (says_
 
 pub whole_message : (m : MsgOut) (rest : List ℕ) → FitsOut m → (said : Said) → form_messages (record { said = said_with m said; half = [] }) rest ≡ true → form_messages (record { said = said; half = [] }) (out_bytes m ++ rest) ≡ true
 unfolding form_out
-whole_message (to_target.Identify disc lun) rest fits said e = go disc lun fits e
+whole_message (MsgOut.Identify disc lun) rest fits said e = go disc lun fits e
   where
-    go : (disc : Bool) (lun : ℕ) → lun < 8 → form_messages (record { said = said_with (to_target.Identify disc lun) said; half = [] }) rest ≡ true → form_messages (record { said = said; half = [] }) (out_bytes (to_target.Identify disc lun) ++ rest) ≡ true
+    go : (disc : Bool) (lun : ℕ) → lun < 8 → form_messages (record { said = said_with (MsgOut.Identify disc lun) said; half = [] }) rest ≡ true → form_messages (record { said = said; half = [] }) (out_bytes (MsgOut.Identify disc lun) ++ rest) ≡ true
     go true zero lt e = e
     go true (suc zero) lt e = e
     go true (suc (suc zero)) lt e = e
@@ -97,24 +79,24 @@ whole_message (to_target.Identify disc lun) rest fits said e = go disc lun fits 
     go false (suc (suc (suc (suc (suc (suc zero)))))) lt e = e
     go false (suc (suc (suc (suc (suc (suc (suc zero))))))) lt e = e
     go disc (suc (suc (suc (suc (suc (suc (suc (suc n)))))))) lt e = absurd omega (arith, lt)
-whole_message (to_target.SimpleTag n) rest fits said e = e
-whole_message (to_target.HeadTag n) rest fits said e = e
-whole_message (to_target.OrderedTag n) rest fits said e = e
-whole_message (to_target.Sdtr offer) rest fits said e = e
-whole_message to_target.Abort rest fits said e = e
-whole_message to_target.AbortTag rest fits said e = e
-whole_message to_target.ClearQueue rest fits said e = e
-whole_message to_target.DeviceReset rest fits said e = e
-whole_message to_target.DetectedError rest fits said e = e
-whole_message to_target.ParityError rest fits said e = e
-whole_message to_target.Reject rest fits said e = e
-whole_message to_target.Nop rest fits said e = e
+whole_message (MsgOut.SimpleTag n) rest fits said e = e
+whole_message (MsgOut.HeadTag n) rest fits said e = e
+whole_message (MsgOut.OrderedTag n) rest fits said e = e
+whole_message (MsgOut.Sdtr offer) rest fits said e = e
+whole_message MsgOut.Abort rest fits said e = e
+whole_message MsgOut.AbortTag rest fits said e = e
+whole_message MsgOut.ClearQueue rest fits said e = e
+whole_message MsgOut.DeviceReset rest fits said e = e
+whole_message MsgOut.DetectedError rest fits said e = e
+whole_message MsgOut.ParityError rest fits said e = e
+whole_message MsgOut.Reject rest fits said e = e
+whole_message MsgOut.Nop rest fits said e = e
 
 pub tag_reads : (tag : Tag) (rest : List ℕ) (said : Said) → ((x : Said) → form_messages (record { said = x; half = [] }) rest ≡ true) → form_messages (record { said = said; half = [] }) (tag_bytes tag ++ rest) ≡ true
-tag_reads tags.Untagged rest said e = e said
-tag_reads (tags.Simple n) rest said e = whole_message (to_target.SimpleTag n) rest tt said (e (said_with (to_target.SimpleTag n) said))
-tag_reads (tags.Ordered n) rest said e = whole_message (to_target.OrderedTag n) rest tt said (e (said_with (to_target.OrderedTag n) said))
-tag_reads (tags.Head n) rest said e = whole_message (to_target.HeadTag n) rest tt said (e (said_with (to_target.HeadTag n) said))
+tag_reads Tag.Untagged rest said e = e said
+tag_reads (Tag.Simple n) rest said e = whole_message (MsgOut.SimpleTag n) rest tt said (e (said_with (MsgOut.SimpleTag n) said))
+tag_reads (Tag.Ordered n) rest said e = whole_message (MsgOut.OrderedTag n) rest tt said (e (said_with (MsgOut.OrderedTag n) said))
+tag_reads (Tag.Head n) rest said e = whole_message (MsgOut.HeadTag n) rest tt said (e (said_with (MsgOut.HeadTag n) said))
 
 pub offer_reads : (negotiates : Bool) (h : Option HostDef) (said : Said) → form_messages (record { said = said; half = [] }) (offer_if negotiates h) ≡ true
 unfolding form_out
@@ -122,24 +104,24 @@ offer_reads false h said = refl
 offer_reads true None said = refl
 offer_reads true (Some h) said = go (h.offers && nat_lt 0 h.period)
   where
-    go : (q : Bool) → form_messages (record { said = said; half = [] }) (if q then out_bytes (to_target.Sdtr (record { period = h.period; offset = h.offset })) else []) ≡ true
+    go : (q : Bool) → form_messages (record { said = said; half = [] }) (if q then out_bytes (MsgOut.Sdtr (record { period = h.period; offset = h.offset })) else []) ≡ true
     go true = refl
     go false = refl
 
 pub opening_reads : (h : Option HostDef) (negotiates : Bool) (p : Process) → p.unit < 8 → form_messages nothing_understood (process_opening h negotiates (Some p)) ≡ true
 opening_reads h negotiates p lt =
-    whole_message (to_target.Identify (not p.id.sense) p.unit) (tag_bytes p.tag ++ offer_if negotiates h) lt nothing_heard
-    (tag_reads p.tag (offer_if negotiates h) (said_with (to_target.Identify (not p.id.sense) p.unit) nothing_heard) (λ x. offer_reads negotiates h x))
+    whole_message (MsgOut.Identify (not p.id.sense) p.unit) (tag_bytes p.tag ++ offer_if negotiates h) lt nothing_heard
+    (tag_reads p.tag (offer_if negotiates h) (said_with (MsgOut.Identify (not p.id.sense) p.unit) nothing_heard) (λ x. offer_reads negotiates h x))
 
 abort_reads : (what : AbortKind) (said : Said) → form_messages (record { said = said; half = [] }) (abort_bytes what) ≡ true
 unfolding form_out
-abort_reads aborts.All said = refl
-abort_reads (aborts.Tag n) said = refl
-abort_reads aborts.WholeQueue said = refl
-abort_reads aborts.Device said = refl
+abort_reads AbortKind.All said = refl
+abort_reads (AbortKind.Tag n) said = refl
+abort_reads AbortKind.WholeQueue said = refl
+abort_reads AbortKind.Device said = refl
 
 pub abort_opening_reads : (a : AbortDef) → a.unit < 8 → form_messages nothing_understood (abort_opening (Some a)) ≡ true
-abort_opening_reads a lt = whole_message (to_target.Identify false a.unit) (abort_bytes a.what) lt nothing_heard (abort_reads a.what (said_with (to_target.Identify false a.unit) nothing_heard))
+abort_opening_reads a lt = whole_message (MsgOut.Identify false a.unit) (abort_bytes a.what) lt nothing_heard (abort_reads a.what (said_with (MsgOut.Identify false a.unit) nothing_heard))
 
 pub errors_read : (form_messages nothing_understood parity_error ≡ true) × (form_messages nothing_understood detected_error ≡ true)
 unfolding form_out

@@ -1,24 +1,12 @@
 -- The process that a target has ready is its own, and of the scenario.
-use Rattle.std.proofs.Common.{ℕ, ◌≡◌, ◌+◌, Bool, true, false, ◌&&◌, ◌∙◌, List, [], ◌∷◌, Option, Some, None, refl, sym, ap, subst}
-use Rattle.std.specs.Prelude.{if◌then◌else◌, ◌==◌}
-use Rattle.bus_due.specs.scenario.specs.Value.{ScenarioValue}
-use Rattle.bus_due.specs.disk_array.specs.Processes.{Process, process_of}
-use Rattle.bus_due.specs.disk_array.specs.SoundArray.{IsOwnRunning, IsOwnUnit, AllOwnUnits, IsSound}
-use Rattle.bus_due.specs.disk_array.specs.Units.{RunningProcess, UnitState, Array, unit_state_at, is_held}
-use Rattle.bus_due.specs.disk_array.specs.Seats.{current_of, is_initiator}
-use Rattle.bus_due.specs.bus_dialogue.specs.Wants.{Ready, ready_in, is_ready_before, first_ready}
-use Rattle.bus_due.specs.bus_story.specs.Items.{Item, process, abort}
-use Rattle.bus_due.specs.bus_story.specs.TraceHistory.{aim_of}
-use Rattle.bus_due.specs.RunState.{RunState, array_of, process_item}
-use Rattle.bus_due.specs.Wants.{since_of, seek_of, ready_at, ready_among, ready_of, target_if, target_of, initiator_if, callee}
-use Rattle.scsi_device.specs.Lines.{AreUnits}
-use Rattle.bus_books.specs.Traces.{IsReadyFor, IsAimedAt}
-use Rattle.bus_due.specs.bus_trace.specs.declared.connection.Connection.{Connection}
-use Rattle.bus_books.proofs.FirstWords.{process_unit}
-use Rattle.std.proofs.lemmas.Bool.{eqb-true}
-use Rattle.std.proofs.lemmas.Option.{same_Some}
-use Rattle.bus_due.specs.bus_base.proofs.Tests.{and_first, none_number}
-use Rattle.bus_books.proofs.CarriedRows.{process_none}
+use Rattle.bus_books.proofs
+use proofs.Names.{ℕ, ◌≡◌, ◌+◌, Bool, true, false, ◌&&◌, ◌∙◌, List, [], ◌∷◌, Option, Some, None, refl, sym, ap, subst}
+use proofs.Names.{eqb-true, same_Some, if◌then◌else◌, ◌==◌, and_first, none_number, Connection, ScenarioValue, Process}
+use proofs.Names.{process_of, current_of, is_initiator, IsOwnRunning, IsOwnUnit, AllOwnUnits, IsSound, RunningProcess}
+use proofs.Names.{UnitState, Array, unit_state_at, is_held, Item, process, abort, aim_of, Ready, ready_in}
+use proofs.Names.{is_ready_before, first_ready, RunState, array_of, process_item, since_of, seek_of, ready_at}
+use proofs.Names.{ready_among, ready_of, target_if, target_of, initiator_if, callee, AreUnits, IsReadyFor, IsAimedAt}
+use proofs.{CarriedRows.{process_none}, FirstWords.{process_unit}}
 
 none_some : (x : Ready) → (let a : Option Ready = None in a) ≡ Some x → ⊥
 none_some x e = cc

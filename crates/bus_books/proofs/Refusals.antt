@@ -1,33 +1,15 @@
 -- Who is refused: in the plain disk array, and by what a target plans.
-use Rattle.std.proofs.Common.{◌≡◌, Bool, true, false, List, [], ◌∷◌, ◌∙◌, refl, sym, ap, Option, Some, None}
-use Rattle.std.specs.Prelude.{if◌then◌else◌, not, ◌&&◌, ◌==◌, ◌++◌, is_some, nat_lt}
-use Rattle.std.proofs.lemmas.Bool.{and_parts}
-use Rattle.bus_due.specs.bus_base.specs.declared.Event.TheVariants as events
-use Rattle.bus_due.specs.bus_base.specs.declared.ProcId.{ProcId}
-use Rattle.bus_due.specs.bus_trace.specs.declared.Row.{Row}
-use Rattle.bus_due.specs.cdb_codec.specs.Cdb.{command_of}
-use Rattle.bus_due.specs.cdb_codec.specs.declared.status.TheConstants.{QUEUE_FULL}
-use Rattle.bus_due.specs.scenario.specs.declared.value.Policy.{Policy}
-use Rattle.bus_due.specs.scenario.specs.Value.{ScenarioValue}
+use Rattle.bus_books.proofs
+use proofs.Names.{◌≡◌, Bool, true, false, List, [], ◌∷◌, ◌∙◌, refl, sym, ap, Option, Some, None, not, ◌&&◌, ◌++◌}
+use proofs.Names.{and_parts, if◌then◌else◌, ◌==◌, is_some, nat_lt, Event, ProcId, Row, command_of, QUEUE_FULL}
+use proofs.Names.{ScenarioValue, Policy, is_request_sense, Process, process_of, refuse_step, refuse_step_at, event_step}
+use proofs.Names.{process_count, UnitState, Array, unit_state_at, row_reading, row_events_by, is_never, arrival_in}
+use proofs.Names.{arrival_by, Arrival, Room, is_allowed, allowed, RunState, array_of, process_served, run_state}
+use proofs.Names.{array_after_events, is_idle_unit, room_of, arrival_if, arrival_of, has_event, finds_full_queue}
+use proofs.{Names.{lacks_room, is_refusal, was_refused}, Replies.{full_caused}}
 use Rattle.bus_due.specs.disk_array.specs.ArrayHistory as Play
-use Rattle.bus_due.specs.disk_array.specs.Execution.{is_request_sense}
-use Rattle.bus_due.specs.disk_array.specs.Processes.{Process, process_of}
-use Rattle.bus_due.specs.disk_array.specs.Steps.{refuse_step, refuse_step_at, event_step, process_count}
-use Rattle.bus_due.specs.disk_array.specs.Units.{UnitState, Array, unit_state_at}
-use Rattle.bus_due.specs.bus_base.specs.declared.Event.{Event}
-use Rattle.bus_due.specs.bus_story.specs.BusState.{row_reading}
-use Rattle.bus_due.specs.bus_story.specs.HistoryEvents.{row_events_by}
-use Rattle.bus_due.specs.bus_dialogue.specs.Arrivals.{is_never, arrival_in, arrival_by}
-use Rattle.bus_due.specs.bus_dialogue.specs.declared.exchange.Arrival.TheVariants as arrivals
-use Rattle.bus_due.specs.bus_dialogue.specs.declared.exchange.Room.{Room}
-use Rattle.bus_due.specs.Allowed.{is_allowed, allowed}
-use Rattle.bus_due.specs.RunState.{RunState, array_of, process_served}
-use Rattle.bus_due.specs.RunSteps.{run_state, array_after_events}
-use Rattle.bus_due.specs.Tasks.{is_idle_unit, room_of, arrival_if, arrival_of}
-use Rattle.bus_books.specs.FullQueues.{has_event, finds_full_queue, lacks_room, is_refusal, was_refused}
-use Rattle.bus_books.proofs.Replies.{full_caused}
 
-pub refused_exactly : (s : ScenarioValue) (a : Array) (id : ProcId) → is_some (event_step s a (events.Refuse id)) ≡ finds_full_queue a (process_of s id)
+pub refused_exactly : (s : ScenarioValue) (a : Array) (id : ProcId) → is_some (event_step s a (Event.Refuse id)) ≡ finds_full_queue a (process_of s id)
 refused_exactly s a id = go (process_of s id)
   where
     some_if : (q : Bool) (b : Array) → is_some (if q then Some b else None) ≡ q
@@ -51,7 +33,7 @@ refused_exactly s a id = go (process_of s id)
 refusal_in : (policy : Policy) (room : Room) → is_refusal (arrival_in policy room) ≡ room.full
 refusal_in policy room = go room.full (is_never policy && room.idle)
   where
-    go : (f q : Bool) → is_refusal (if f then arrivals.Refused else if q then arrivals.AtOnce else arrivals.Queued) ≡ f
+    go : (f q : Bool) → is_refusal (if f then Arrival.Refused else if q then Arrival.AtOnce else Arrival.Queued) ≡ f
     go true q = refl
     go false true = refl
     go false false = refl
@@ -86,6 +68,6 @@ allowed_array s (row ∷ rows) h =
     let k : RunState = run_state s rows in
     (and_parts (allowed s rows) (is_allowed s k row (row_reading k.story.bus_state row)) h).1
 
-pub full_in_trace : (s : ScenarioValue) (rows : List Row) (id : ProcId) → allowed s rows ≡ true → has_event (run_state s rows).story.history (events.End id QUEUE_FULL) ≡ true → was_refused s (run_state s rows).story.history id ≡ true
+pub full_in_trace : (s : ScenarioValue) (rows : List Row) (id : ProcId) → allowed s rows ≡ true → has_event (run_state s rows).story.history (Event.End id QUEUE_FULL) ≡ true → was_refused s (run_state s rows).story.history id ≡ true
 full_in_trace s rows id h e =
     full_caused s (run_state s rows).story.history id ((λ i. is_some (sym (array_kept s rows) i)) ∙ allowed_array s rows h) e

@@ -1,36 +1,18 @@
 -- After every history each reply that was given has its cause in it.
-use Rattle.std.proofs.Common.{ℕ, ◌≡◌, Bool, true, false, List, [], ◌∷◌, ◌++◌, ◌∙◌, refl, sym, subst, Option, Some, None}
-use Rattle.std.specs.Prelude.{if◌then◌else◌, not, ◌&&◌, ◌||◌, ◌==◌, is_some, is_none, nat_lt, Result, Ok, Err}
-use Rattle.std.proofs.lemmas.Bool.{eqb-true, and_parts, and_from, or_right, or_left}
-use Rattle.bus_due.specs.bus_base.specs.declared.AbortKind.{AbortKind}
-use Rattle.bus_due.specs.bus_base.specs.declared.AbortKind.TheVariants as aborts
-use Rattle.bus_due.specs.bus_base.specs.declared.Event.{Event}
-use Rattle.bus_due.specs.bus_base.specs.declared.Event.TheVariants as events
-use Rattle.bus_due.specs.bus_base.specs.declared.ProcId.{ProcId}
-use Rattle.bus_due.specs.cdb_codec.specs.declared.Sense.{Sense}
-use Rattle.bus_due.specs.cdb_codec.specs.declared.command.Command.{Command}
-use Rattle.bus_due.specs.cdb_codec.specs.declared.command.Command.TheVariants as commands
-use Rattle.bus_due.specs.cdb_codec.specs.declared.command.CdbFault.{CdbFault}
-use Rattle.bus_due.specs.cdb_codec.specs.declared.command.CdbFault.TheVariants as faults
-use Rattle.bus_due.specs.cdb_codec.specs.declared.sense.TheConstants.{ABORTED_COMMAND}
-use Rattle.bus_due.specs.cdb_codec.specs.declared.status.TheConstants.{GOOD, CHECK_CONDITION, QUEUE_FULL}
-use Rattle.bus_due.specs.cdb_codec.specs.Cdb.{command_of}
-use Rattle.bus_due.specs.scenario.specs.declared.value.HostDef.{HostDef}
-use Rattle.bus_due.specs.scenario.specs.declared.value.UnitDef.{UnitDef}
-use Rattle.bus_due.specs.scenario.specs.Value.{ScenarioValue}
-use Rattle.bus_due.specs.disk_array.specs.Contents.{Contents}
-use Rattle.bus_due.specs.disk_array.specs.Processes.{Process, process_of, same_id}
-use Rattle.bus_due.specs.disk_array.specs.Execution.{Reply, Execution, CommandContext, execution, attention_execution, cdb_execution, range_execution, command_execution, is_request_sense, is_good_range, range_of, heeds_attention, needs_unit, queue_full, check_condition, commands_cleared, reset_occurred, aborted_reply}
-use Rattle.bus_due.specs.disk_array.specs.Order.{choice}
-use Rattle.bus_due.specs.disk_array.specs.Units.{RunningProcess, UnitState, Nexus, Array, same_nexus, sense_of_nexus, senses_without, nexuses_without, is_held, unit_state_at, with_unit, guest_at, without_guest, with_current, has_no_current, units_after_choice, settled_array, starting_array, starting_units, nexus_of}
+use Rattle.bus_books.proofs
+use proofs.Names.{ℕ, ◌≡◌, Bool, true, false, List, [], ◌∷◌, ◌++◌, ◌∙◌, refl, sym, subst, Option, Some, None, not, ◌&&◌}
+use proofs.Names.{◌||◌, eqb-true, and_parts, and_from, or_right, or_left, if◌then◌else◌, ◌==◌, is_some, is_none, nat_lt}
+use proofs.Names.{Result, Ok, Err, eq_self, AbortKind, Event, ProcId, command_of, Sense, CdbFault, Command}
+use proofs.Names.{ABORTED_COMMAND, GOOD, CHECK_CONDITION, QUEUE_FULL, ScenarioValue, HostDef, UnitDef, same_id_is}
+use proofs.Names.{id_self, id_is, array_step, array_after, reply_in, Contents, Reply, Execution, CommandContext}
+use proofs.Names.{execution, attention_execution, cdb_execution, range_execution, command_execution, is_request_sense}
+use proofs.Names.{is_good_range, range_of, heeds_attention, needs_unit, queue_full, check_condition, commands_cleared}
+use proofs.Names.{reset_occurred, aborted_reply, choice, Process, process_of, same_id, RunningProcess, UnitState, Nexus}
+use proofs.Names.{Array, same_nexus, sense_of_nexus, senses_without, nexuses_without, is_held, unit_state_at, with_unit}
+use proofs.Names.{guest_at, without_guest, with_current, has_no_current, units_after_choice, settled_array}
+use proofs.Names.{starting_array, starting_units, nexus_of, same_event, has_event, is_refused_at, was_refused}
+use proofs.Names.{finds_full_queue, has_cause}
 use Rattle.bus_due.specs.disk_array.specs.Steps
-use Rattle.bus_due.specs.disk_array.specs.ArrayHistory.{array_step, array_after, reply_in}
-use Rattle.bus_due.specs.disk_array.proofs.SoundArrays.{id_is}
-use Rattle.bus_due.specs.Telling.{same_event}
-use Rattle.bus_books.specs.FullQueues.{has_event, is_refused_at, was_refused, finds_full_queue, has_cause}
-use Rattle.bus_due.specs.bus_base.proofs.Tests.{eq_self}
-use Rattle.bus_due.specs.disk_array.proofs.SeatLookups.{same_id_is}
-use Rattle.bus_due.specs.disk_array.proofs.SeatReplies.{id_self}
 
 -- ---- one of several
 
@@ -76,10 +58,10 @@ pub record Caused (s : ScenarioValue) (h : List Event) (a : Array) : Type 0 wher
 
 cause_more : (s : ScenarioValue) (h : List Event) (e : Event) (id : ProcId) (reply : Reply) → has_cause s h id reply ≡ true → has_cause s (e ∷ h) id reply ≡ true
 cause_more s h e id reply k =
-    let two = and_parts (not (reply.status == QUEUE_FULL) || was_refused s h id) (not (reply.sense.key == ABORTED_COMMAND) || has_event h (events.Fail id reply.sense.asc)) k in
+    let two = and_parts (not (reply.status == QUEUE_FULL) || was_refused s h id) (not (reply.sense.key == ABORTED_COMMAND) || has_event h (Event.Fail id reply.sense.asc)) k in
     and_from _ _
     (more (reply.status == QUEUE_FULL) (was_refused s h id) (is_refused_at s h id e) two.0)
-    (more (reply.sense.key == ABORTED_COMMAND) (has_event h (events.Fail id reply.sense.asc)) (same_event e (events.Fail id reply.sense.asc)) two.1)
+    (more (reply.sense.key == ABORTED_COMMAND) (has_event h (Event.Fail id reply.sense.asc)) (same_event e (Event.Fail id reply.sense.asc)) two.1)
 
 caused_more : (s : ScenarioValue) (h : List Event) (e : Event) (id : ProcId) (x : Option Reply) → IsCaused s h id x → IsCaused s (e ∷ h) id x
 caused_more s h e id None k = tt
@@ -224,17 +206,17 @@ is_plain reply = not (reply.status == QUEUE_FULL) && not (reply.sense.key == ABO
 plain_cause : (s : ScenarioValue) (h : List Event) (id : ProcId) (reply : Reply) → is_plain reply ≡ true → has_cause s h id reply ≡ true
 plain_cause s h id reply k =
     let two = and_parts (not (reply.status == QUEUE_FULL)) (not (reply.sense.key == ABORTED_COMMAND)) k in
-    and_from _ _ (or_left (not (reply.status == QUEUE_FULL)) (was_refused s h id) two.0) (or_left (not (reply.sense.key == ABORTED_COMMAND)) (has_event h (events.Fail id reply.sense.asc)) two.1)
+    and_from _ _ (or_left (not (reply.status == QUEUE_FULL)) (was_refused s h id) two.0) (or_left (not (reply.sense.key == ABORTED_COMMAND)) (has_event h (Event.Fail id reply.sense.asc)) two.1)
 
 plain_command : (m : CommandContext) (c : Command) (sent : List ℕ) → is_plain (command_execution m c sent).reply ≡ true
-plain_command m commands.TestUnitReady sent = refl
-plain_command m (commands.RequestSense room) sent = refl
-plain_command m (commands.Read6 lba count) sent = refl
-plain_command m (commands.Write6 lba count) sent = refl
-plain_command m (commands.Inquiry room) sent = refl
-plain_command m commands.ReadCapacity sent = refl
-plain_command m (commands.Read10 lba count) sent = refl
-plain_command m (commands.Write10 lba count) sent = refl
+plain_command m Command.TestUnitReady sent = refl
+plain_command m (Command.RequestSense room) sent = refl
+plain_command m (Command.Read6 lba count) sent = refl
+plain_command m (Command.Write6 lba count) sent = refl
+plain_command m (Command.Inquiry room) sent = refl
+plain_command m Command.ReadCapacity sent = refl
+plain_command m (Command.Read10 lba count) sent = refl
+plain_command m (Command.Write10 lba count) sent = refl
 
 plain_range : (m : CommandContext) (c : Command) (sent : List ℕ) → is_plain (range_execution m c sent).reply ≡ true
 plain_range m c sent = go (is_good_range m.contents.count (range_of c))
@@ -245,9 +227,9 @@ plain_range m c sent = go (is_good_range m.contents.count (range_of c))
 
 plain_block : (m : CommandContext) (c : Result Command CdbFault) (sent : List ℕ) → is_plain (cdb_execution m c sent).reply ≡ true
 plain_block m (Ok c) sent = plain_range m c sent
-plain_block m (Err faults.Opcode) sent = refl
-plain_block m (Err faults.Length) sent = refl
-plain_block m (Err faults.Field) sent = refl
+plain_block m (Err CdbFault.Opcode) sent = refl
+plain_block m (Err CdbFault.Length) sent = refl
+plain_block m (Err CdbFault.Field) sent = refl
 
 plain_attention : (m : CommandContext) (x : Option Sense) (cdb sent : List ℕ) → IsAttention x → is_plain (attention_execution m x cdb sent).reply ≡ true
 plain_attention m None cdb sent b = plain_block m (command_of cdb) sent
@@ -308,28 +290,28 @@ accepted s h a (Some p) b = at (unit_state_at a.units p.target p.unit) refl
     at (Some u) z = either u z (is_request_sense (command_of p.cdb))
 
 -- Refused: the queue is full as the event comes.
-refused : (s : ScenarioValue) (h : List Event) (a : Array) (id : ProcId) → array_after s h ≡ Some a → Caused s (events.Refuse id ∷ h) a → IsCausedIf s (events.Refuse id ∷ h) (Steps.refuse_step a (process_of s id))
+refused : (s : ScenarioValue) (h : List Event) (a : Array) (id : ProcId) → array_after s h ≡ Some a → Caused s (Event.Refuse id ∷ h) a → IsCausedIf s (Event.Refuse id ∷ h) (Steps.refuse_step a (process_of s id))
 refused s h a id z b = go (process_of s id) refl
   where
-    full : (p : Process) → process_of s id ≡ Some p → finds_full_queue a (Some p) ≡ true → has_cause s (events.Refuse id ∷ h) p.id queue_full ≡ true
+    full : (p : Process) → process_of s id ≡ Some p → finds_full_queue a (Some p) ≡ true → has_cause s (Event.Refuse id ∷ h) p.id queue_full ≡ true
     full p e f =
-        subst (λ (other : ProcId). has_cause s (events.Refuse id ∷ h) other queue_full ≡ true) (sym (id_is s id p e))
-        (and_from _ _ (or_left (is_refused_at s h id (events.Refuse id)) (was_refused s h id)
+        subst (λ (other : ProcId). has_cause s (Event.Refuse id ∷ h) other queue_full ≡ true) (sym (id_is s id p e))
+        (and_from _ _ (or_left (is_refused_at s h id (Event.Refuse id)) (was_refused s h id)
         (and_from _ _ (id_self id) ((λ i. Rattle.bus_books.specs.FullQueues.finds_full_queue_if (z i) (e i)) ∙ f))) refl)
 
-    comes : (p : Process) → process_of s id ≡ Some p → (x : Bool) → (x ≡ true → finds_full_queue a (Some p) ≡ true) → IsCausedIf s (events.Refuse id ∷ h) (if x then Some (Steps.with_listed_reply (Steps.with_guest a p (Some queue_full)) p.id queue_full) else None)
+    comes : (p : Process) → process_of s id ≡ Some p → (x : Bool) → (x ≡ true → finds_full_queue a (Some p) ≡ true) → IsCausedIf s (Event.Refuse id ∷ h) (if x then Some (Steps.with_listed_reply (Steps.with_guest a p (Some queue_full)) p.id queue_full) else None)
     comes p e true f =
-        let c : has_cause s (events.Refuse id ∷ h) p.id queue_full ≡ true = full p e (f refl) in
-        listed s (events.Refuse id ∷ h) (Steps.with_guest a p (Some queue_full)) p.id queue_full c (guest_comes s (events.Refuse id ∷ h) a p (Some queue_full) c b)
+        let c : has_cause s (Event.Refuse id ∷ h) p.id queue_full ≡ true = full p e (f refl) in
+        listed s (Event.Refuse id ∷ h) (Steps.with_guest a p (Some queue_full)) p.id queue_full c (guest_comes s (Event.Refuse id ∷ h) a p (Some queue_full) c b)
     comes p e false f = tt
 
-    at : (p : Process) → process_of s id ≡ Some p → (x : Option UnitState) → unit_state_at a.units p.target p.unit ≡ x → IsCausedIf s (events.Refuse id ∷ h) (Steps.refuse_step_at a p x)
+    at : (p : Process) → process_of s id ≡ Some p → (x : Option UnitState) → unit_state_at a.units p.target p.unit ≡ x → IsCausedIf s (Event.Refuse id ∷ h) (Steps.refuse_step_at a p x)
     at p e None w = tt
     at p e (Some u) w =
         comes p e (not (is_request_sense (command_of p.cdb)) && Steps.process_count u == u.depth)
         (λ f. (λ i. not (is_request_sense (command_of p.cdb)) && Rattle.bus_books.specs.FullQueues.is_full (w i)) ∙ f)
 
-    go : (x : Option Process) → process_of s id ≡ x → IsCausedIf s (events.Refuse id ∷ h) (Steps.refuse_step a x)
+    go : (x : Option Process) → process_of s id ≡ x → IsCausedIf s (Event.Refuse id ∷ h) (Steps.refuse_step a x)
     go None e = tt
     go (Some p) e = at p e (unit_state_at a.units p.target p.unit) refl
 
@@ -365,24 +347,24 @@ ran s h a guest (Some r) b =
     (plain_cause s h r.process.id done.reply (plain_execution (Steps.context_at a (nexus_of r.process) u) r.process.cdb r.process.sent (attention_here a (nexus_of r.process) u b.attentions)))
     (contents_put s h a r.process done.contents done.reported r.process.target r.process.unit b))
 
-failed : (s : ScenarioValue) (h : List Event) (a : Array) (id : ProcId) (code : ℕ) (r : Option RunningProcess) → Caused s (events.Fail id code ∷ h) a → IsCausedIf s (events.Fail id code ∷ h) (Steps.fail_step s a id (aborted_reply code) r)
+failed : (s : ScenarioValue) (h : List Event) (a : Array) (id : ProcId) (code : ℕ) (r : Option RunningProcess) → Caused s (Event.Fail id code ∷ h) a → IsCausedIf s (Event.Fail id code ∷ h) (Steps.fail_step s a id (aborted_reply code) r)
 failed s h a id code r b = on r
   where
-    cause : has_cause s (events.Fail id code ∷ h) id (aborted_reply code) ≡ true
-    cause = or_left (same_id id id && code == code) (has_event h (events.Fail id code)) (λ i. id_self id i && eq_self code i)
+    cause : has_cause s (Event.Fail id code ∷ h) id (aborted_reply code) ≡ true
+    cause = or_left (same_id id id && code == code) (has_event h (Event.Fail id code)) (λ i. id_self id i && eq_self code i)
 
-    came : (x : Bool) (p : Process) → process_of s id ≡ Some p → IsCausedIf s (events.Fail id code ∷ h) (if x then None else Some (Steps.with_listed_reply (Steps.with_guest a p (Some (aborted_reply code))) id (aborted_reply code)))
+    came : (x : Bool) (p : Process) → process_of s id ≡ Some p → IsCausedIf s (Event.Fail id code ∷ h) (if x then None else Some (Steps.with_listed_reply (Steps.with_guest a p (Some (aborted_reply code))) id (aborted_reply code)))
     came true p e = tt
     came false p e =
-        listed s (events.Fail id code ∷ h) (Steps.with_guest a p (Some (aborted_reply code))) id (aborted_reply code) cause
-        (guest_comes s (events.Fail id code ∷ h) a p (Some (aborted_reply code)) (subst (λ (other : ProcId). has_cause s (events.Fail id code ∷ h) other (aborted_reply code) ≡ true) (sym (id_is s id p e)) cause) b)
+        listed s (Event.Fail id code ∷ h) (Steps.with_guest a p (Some (aborted_reply code))) id (aborted_reply code) cause
+        (guest_comes s (Event.Fail id code ∷ h) a p (Some (aborted_reply code)) (subst (λ (other : ProcId). has_cause s (Event.Fail id code ∷ h) other (aborted_reply code) ≡ true) (sym (id_is s id p e)) cause) b)
 
-    new : (x : Option Process) → process_of s id ≡ x → IsCausedIf s (events.Fail id code ∷ h) (Steps.fail_step_of_new a id (aborted_reply code) x)
+    new : (x : Option Process) → process_of s id ≡ x → IsCausedIf s (Event.Fail id code ∷ h) (Steps.fail_step_of_new a id (aborted_reply code) x)
     new None e = tt
     new (Some p) e = came (Steps.is_waiting a.units id || Steps.has_ended a id) p e
 
-    on : (x : Option RunningProcess) → IsCausedIf s (events.Fail id code ∷ h) (Steps.fail_step s a id (aborted_reply code) x)
-    on (Some q) = caused_if s (events.Fail id code ∷ h) (is_none q.reply) (Steps.with_reply a id (aborted_reply code)) (replied s (events.Fail id code ∷ h) a id (aborted_reply code) cause b)
+    on : (x : Option RunningProcess) → IsCausedIf s (Event.Fail id code ∷ h) (Steps.fail_step s a id (aborted_reply code) x)
+    on (Some q) = caused_if s (Event.Fail id code ∷ h) (is_none q.reply) (Steps.with_reply a id (aborted_reply code)) (replied s (Event.Fail id code ∷ h) a id (aborted_reply code) cause b)
     on None = new (process_of s id) refl
 
 left_out : (s : ScenarioValue) (h : List Event) (a : Array) (id : ProcId) → Caused s h a → Caused s h (Steps.array_without a id)
@@ -446,13 +428,13 @@ cleared_told s h by (q ∷ gone) a b = cleared_told s h by gone (if q.initiator 
     go false y = told (Steps.is_reset_pending (sense_of_nexus a.attentions (nexus_of q)))
 
 aborted : (s : ScenarioValue) (h : List Event) (a : Array) (i t n : ℕ) (what : AbortKind) → Caused s h a → Caused s h (Steps.abort_step s a i t n what)
-aborted s h a i t n aborts.All b =
+aborted s h a i t n AbortKind.All b =
     let d : Caused s h (Steps.without_dropped a (λ p. p.initiator == i && Steps.is_of_unit p t n)) = dropped s h a (λ p. p.initiator == i && Steps.is_of_unit p t n) b in
     record { units = d.units; guests = d.guests; replies = d.replies; attentions = d.attentions }
-aborted s h a i t n (aborts.Tag tag) b = dropped s h a (λ p. p.initiator == i && Steps.is_of_unit p t n && Steps.has_tag p.tag tag) b
-aborted s h a i t n aborts.WholeQueue b =
+aborted s h a i t n (AbortKind.Tag tag) b = dropped s h a (λ p. p.initiator == i && Steps.is_of_unit p t n && Steps.has_tag p.tag tag) b
+aborted s h a i t n AbortKind.WholeQueue b =
     cleared_told s h i (Steps.unit_processes (unit_state_at a.units t n)) (Steps.without_dropped a (λ p. Steps.is_of_unit p t n)) (dropped s h a (λ p. Steps.is_of_unit p t n) b)
-aborted s h a i t n aborts.Device b =
+aborted s h a i t n AbortKind.Device b =
     let d : Caused s h (Steps.without_dropped a (λ p. p.target == t)) = dropped s h a (λ p. p.target == t) b in
     units_told s h s.hosts a.units (λ u. u.target == t) (record (Steps.without_dropped a (λ p. p.target == t)) { senses = Steps.kept_senses (λ q. q.target == t) a.senses; holds = Steps.kept_nexuses (λ q. q.target == t) a.holds })
     (record { units = d.units; guests = d.guests; replies = d.replies; attentions = d.attentions })
@@ -466,14 +448,14 @@ reset s h a b =
 -- ---- every event, and every history
 
 event_caused : (s : ScenarioValue) (h : List Event) (a : Array) (e : Event) → array_after s h ≡ Some a → Caused s h a → IsCausedIf s (e ∷ h) (Steps.event_step s a e)
-event_caused s h a (events.Accept id) z b = accepted s (events.Accept id ∷ h) a (process_of s id) (one_more s h (events.Accept id) a b)
-event_caused s h a (events.Refuse id) z b = refused s h a id z (one_more s h (events.Refuse id) a b)
-event_caused s h a (events.Run id) z b = ran s (events.Run id ∷ h) a (is_some (guest_at a.guests id)) (Steps.running_process a id) (one_more s h (events.Run id) a b)
-event_caused s h a (events.Fail id code) z b = failed s h a id code (Steps.running_process a id) (one_more s h (events.Fail id code) a b)
-event_caused s h a (events.End id status) z b = ended s (events.End id status ∷ h) a status (Steps.running_process a id) (one_more s h (events.End id status) a b)
-event_caused s h a (events.Lost id) z b = lost s (events.Lost id ∷ h) a id (one_more s h (events.Lost id) a b)
-event_caused s h a (events.Aborted i t n what) z b = aborted s (events.Aborted i t n what ∷ h) a i t n what (one_more s h (events.Aborted i t n what) a b)
-event_caused s h a (events.Reset dev) z b = reset s (events.Reset dev ∷ h) a (one_more s h (events.Reset dev) a b)
+event_caused s h a (Event.Accept id) z b = accepted s (Event.Accept id ∷ h) a (process_of s id) (one_more s h (Event.Accept id) a b)
+event_caused s h a (Event.Refuse id) z b = refused s h a id z (one_more s h (Event.Refuse id) a b)
+event_caused s h a (Event.Run id) z b = ran s (Event.Run id ∷ h) a (is_some (guest_at a.guests id)) (Steps.running_process a id) (one_more s h (Event.Run id) a b)
+event_caused s h a (Event.Fail id code) z b = failed s h a id code (Steps.running_process a id) (one_more s h (Event.Fail id code) a b)
+event_caused s h a (Event.End id status) z b = ended s (Event.End id status ∷ h) a status (Steps.running_process a id) (one_more s h (Event.End id status) a b)
+event_caused s h a (Event.Lost id) z b = lost s (Event.Lost id ∷ h) a id (one_more s h (Event.Lost id) a b)
+event_caused s h a (Event.Aborted i t n what) z b = aborted s (Event.Aborted i t n what ∷ h) a i t n what (one_more s h (Event.Aborted i t n what) a b)
+event_caused s h a (Event.Reset dev) z b = reset s (Event.Reset dev ∷ h) a (one_more s h (Event.Reset dev) a b)
 
 settled : (s : ScenarioValue) (h : List Event) (a : Array) → Caused s h a → Caused s h (settled_array a)
 settled s h a b = record { units = units_chosen s h a.holds a.units b.units; guests = b.guests; replies = b.replies; attentions = b.attentions }
@@ -551,7 +533,7 @@ full_now s h a id b e = go (Steps.running_process a id) refl e
     by : (r : RunningProcess) → Runs s h id r → (reply : Reply) → IsCaused s h r.process.id (Some reply) → (x : Bool) → (reply.status == QUEUE_FULL) ≡ x → is_some (if x then Some (Steps.array_without (Steps.after_status a r.process reply) r.process.id) else None) ≡ true → was_refused s h id ≡ true
     by r k reply c false z l = cc
     by r k reply c true z l =
-        let two = and_parts (not (reply.status == QUEUE_FULL) || was_refused s h r.process.id) (not (reply.sense.key == ABORTED_COMMAND) || has_event h (events.Fail r.process.id reply.sense.asc)) c in
+        let two = and_parts (not (reply.status == QUEUE_FULL) || was_refused s h r.process.id) (not (reply.sense.key == ABORTED_COMMAND) || has_event h (Event.Fail r.process.id reply.sense.asc)) c in
         (λ i. not (sym z i) || was_refused s h (sym (same_id_is r.process.id id k.same) i)) ∙ two.0
 
     with_reply : (r : RunningProcess) → Runs s h id r → (x : Option Reply) → IsCaused s h r.process.id x → is_some (Steps.end_step_with a r.process QUEUE_FULL x) ≡ true → was_refused s h id ≡ true
@@ -566,29 +548,29 @@ some_of : (x : Option Array) → is_some (Steps.settled_array_if x) ≡ true →
 some_of None h = h
 some_of (Some a) h = refl
 
-is_end : (s : ScenarioValue) (h : List Event) (a : Array) (e : Event) (id : ProcId) → Caused s h a → same_event e (events.End id QUEUE_FULL) ≡ true → is_some (Steps.event_step s a e) ≡ true → was_refused s h id ≡ true
-is_end s h a (events.Accept p) id b e k = cc
-is_end s h a (events.Refuse p) id b e k = cc
-is_end s h a (events.Run p) id b e k = cc
-is_end s h a (events.Fail p code) id b e k = cc
-is_end s h a (events.End p status) id b e k =
+is_end : (s : ScenarioValue) (h : List Event) (a : Array) (e : Event) (id : ProcId) → Caused s h a → same_event e (Event.End id QUEUE_FULL) ≡ true → is_some (Steps.event_step s a e) ≡ true → was_refused s h id ≡ true
+is_end s h a (Event.Accept p) id b e k = cc
+is_end s h a (Event.Refuse p) id b e k = cc
+is_end s h a (Event.Run p) id b e k = cc
+is_end s h a (Event.Fail p code) id b e k = cc
+is_end s h a (Event.End p status) id b e k =
     let two = and_parts (same_id p id) (status == QUEUE_FULL) e in
     full_now s h a id b ((λ i. is_some (Steps.end_step a (sym (eqb-true status QUEUE_FULL two.1) i) (Steps.running_process a (sym (same_id_is p id two.0) i)))) ∙ k)
-is_end s h a (events.Lost p) id b e k = cc
-is_end s h a (events.Aborted i t n what) id b e k = cc
-is_end s h a (events.Reset dev) id b e k = cc
+is_end s h a (Event.Lost p) id b e k = cc
+is_end s h a (Event.Aborted i t n what) id b e k = cc
+is_end s h a (Event.Reset dev) id b e k = cc
 
 some : (x : Option Array) (a : Array) → x ≡ Some a → is_some x ≡ true
 some x a e = λ i. is_some (e i)
 
-pub full_caused : (s : ScenarioValue) (h : List Event) (id : ProcId) → is_some (array_after s h) ≡ true → has_event h (events.End id QUEUE_FULL) ≡ true → was_refused s h id ≡ true
+pub full_caused : (s : ScenarioValue) (h : List Event) (id : ProcId) → is_some (array_after s h) ≡ true → has_event h (Event.End id QUEUE_FULL) ≡ true → was_refused s h id ≡ true
 full_caused s [] id z e = cc
 full_caused s (f ∷ h) id z e = before (λ w l. full_caused s h id w l) (array_after s h) refl z
   where
-    now : (is_some (array_after s h) ≡ true → has_event h (events.End id QUEUE_FULL) ≡ true → was_refused s h id ≡ true) → (a : Array) → array_after s h ≡ Some a → is_some (Steps.settled_array_if (Steps.event_step s a f)) ≡ true → (x : Bool) → same_event f (events.End id QUEUE_FULL) ≡ x → (x || has_event h (events.End id QUEUE_FULL)) ≡ true → was_refused s h id ≡ true
+    now : (is_some (array_after s h) ≡ true → has_event h (Event.End id QUEUE_FULL) ≡ true → was_refused s h id ≡ true) → (a : Array) → array_after s h ≡ Some a → is_some (Steps.settled_array_if (Steps.event_step s a f)) ≡ true → (x : Bool) → same_event f (Event.End id QUEUE_FULL) ≡ x → (x || has_event h (Event.End id QUEUE_FULL)) ≡ true → was_refused s h id ≡ true
     now later a w k true q l = is_end s h a f id (caused s h a w) q (some_of (Steps.event_step s a f) k)
     now later a w k false q l = later (some (array_after s h) a w) l
 
-    before : (is_some (array_after s h) ≡ true → has_event h (events.End id QUEUE_FULL) ≡ true → was_refused s h id ≡ true) → (x : Option Array) → array_after s h ≡ x → is_some (array_step s f x) ≡ true → was_refused s (f ∷ h) id ≡ true
+    before : (is_some (array_after s h) ≡ true → has_event h (Event.End id QUEUE_FULL) ≡ true → was_refused s h id ≡ true) → (x : Option Array) → array_after s h ≡ x → is_some (array_step s f x) ≡ true → was_refused s (f ∷ h) id ≡ true
     before later None w k = cc
-    before later (Some a) w k = or_right (is_refused_at s h id f) (was_refused s h id) (now later a w k (same_event f (events.End id QUEUE_FULL)) refl e)
+    before later (Some a) w k = or_right (is_refused_at s h id f) (was_refused s h id) (now later a w k (same_event f (Event.End id QUEUE_FULL)) refl e)

@@ -1,42 +1,18 @@
 -- The tests of a row say what they are called for.
-use Rattle.std.proofs.Common.{ℕ, ◌≡◌, ◌+◌, ◌⊎◌, inl, inr, Bool, true, false, not, ◌&&◌, ◌||◌, ◌∙◌, length, Option, Some, None, refl, sym, ap, true≢false}
-use Rattle.std.specs.Prelude.{if◌then◌else◌, is_some, is_none, ◌==◌, ◌%◌, nat_lt, slice_index_or}
-use Rattle.bus_due.specs.bus_base.specs.declared.ProcId.{ProcId}
-use Rattle.bus_due.specs.bus_trace.specs.declared.Row.{Row}
-use Rattle.bus_due.specs.bus_trace.specs.declared.changes.Change.{Change}
-use Rattle.bus_due.specs.bus_trace.specs.declared.connection.Connection.{Connection}
-use Rattle.bus_due.specs.bus_trace.specs.Changes.{rises}
-use Rattle.bus_due.specs.bus_trace.specs.Terms.{is_fault, receiver_in, receiver_of}
-use Rattle.bus_due.specs.bus_trace.specs.Phases.{changes_phase, is_command, is_data, is_message_out, is_message_in}
-use Rattle.bus_due.specs.cdb_codec.specs.Cdb.{has_group_len}
-use Rattle.bus_due.specs.msg_grammar.specs.declared.message.MsgIn.{MsgIn}
-use Rattle.bus_due.specs.scenario.specs.Value.{ScenarioValue}
-use Rattle.bus_due.specs.disk_array.specs.Processes.{Process, process_of, same_bool}
-use Rattle.bus_due.specs.disk_array.proofs.SeatLookups.{same_bool_is}
-use Rattle.bus_due.specs.bus_story.specs.BusState.{row_reading, message_in}
-use Rattle.bus_due.specs.bus_story.specs.Items.{Item, process, abort}
-use Rattle.bus_due.specs.bus_story.specs.Links.{link_after_name}
-use Rattle.bus_due.specs.bus_story.specs.TraceHistory.{aim_of}
-use Rattle.bus_due.specs.bus_dialogue.specs.declared.exchange.Phase.TheVariants as phases
-use Rattle.bus_due.specs.bus_dialogue.specs.declared.exchange.Task.{Task}
-use Rattle.bus_due.specs.bus_dialogue.specs.Arrivals.{policy_of}
-use Rattle.bus_due.specs.bus_dialogue.specs.DataRuns.{run_at}
-use Rattle.bus_due.specs.bus_dialogue.specs.Exchange.{next_word, attends_with, bytes_of_messages}
-use Rattle.bus_due.specs.bus_dialogue.specs.NextPhase.{phase_of}
-use Rattle.bus_due.specs.bus_dialogue.specs.Wants.{Ready}
-use Rattle.bus_due.specs.bus_dialogue.specs.Words.{is_name}
-use Rattle.bus_due.specs.Defs.{target_def_of}
-use Rattle.bus_due.specs.RunState.{RunState, bus_of, item_of, process_here, process_served, carried_here}
-use Rattle.bus_due.specs.Tasks.{is_writing, task_of}
-use Rattle.bus_due.specs.Wants.{ready_of}
-use Rattle.bus_books.specs.Carrying.{SendsOwn}
-use Rattle.bus_books.specs.Hearing.{is_in_phase, is_out_phase, HasPhase, LeavesWhole, IsAtRun}
-use Rattle.bus_books.specs.Rows.{RowKind, still, strikes, crosses, turns}
-use Rattle.bus_books.specs.RowTests.{is_of_target, is_aimed_at, is_between, is_ready_for, is_made_for, is_first_row, is_block_whole, is_phase_whole, leaves_whole, has_phase, says_next, gives_next, sends_next, is_at_run, same_item_if, names_served, crosses_well, is_of_kind, is_row_in, is_last_row, is_row_by, is_row_of}
-use Rattle.bus_books.specs.Traces.{IsReadyFor, IsAimedAt, Begins, GoesOn, Ends, RowOf, apart, begins, goes_on, ends, under_reset}
-use Rattle.bus_books.proofs.Lookups.{id_is}
-use Rattle.std.proofs.lemmas.Bool.{not-true, eqb-true, ltb-true}
-use Rattle.bus_due.specs.bus_base.proofs.Tests.{and_first, and_second, or_second, implied}
+use Rattle.bus_books.proofs
+use proofs.Names.{ℕ, ◌≡◌, ◌+◌, ◌⊎◌, inl, inr, Bool, true, false, not, ◌&&◌, ◌||◌, ◌∙◌, length, Option, Some, None, refl}
+use proofs.Names.{sym, ap, true≢false, not-true, eqb-true, ltb-true, if◌then◌else◌, is_some, is_none, ◌==◌, ◌%◌, nat_lt}
+use proofs.Names.{slice_index_or, and_first, and_second, or_second, implied, ProcId, rises, changes_phase, is_command}
+use proofs.Names.{is_data, is_message_out, is_message_in, is_fault, receiver_in, receiver_of, Row, Change, Connection}
+use proofs.Names.{has_group_len, MsgIn, ScenarioValue, same_bool_is, Process, process_of, same_bool, row_reading}
+use proofs.Names.{message_in, Item, process, abort, link_after_name, aim_of, policy_of, run_at, next_word, attends_with}
+use proofs.Names.{bytes_of_messages, phase_of, Ready, is_name, Phase, Task, target_def_of, RunState, bus_of, item_of}
+use proofs.Names.{process_here, process_served, carried_here, is_writing, task_of, ready_of, SendsOwn, is_in_phase}
+use proofs.Names.{is_out_phase, HasPhase, LeavesWhole, IsAtRun, is_of_target, is_aimed_at, is_between, is_ready_for}
+use proofs.Names.{is_made_for, is_first_row, is_block_whole, is_phase_whole, leaves_whole, has_phase, says_next}
+use proofs.Names.{gives_next, sends_next, is_at_run, same_item_if, names_served, crosses_well, is_of_kind, is_row_in}
+use proofs.Names.{is_last_row, is_row_by, is_row_of, RowKind, still, strikes, crosses, turns, IsReadyFor, IsAimedAt}
+use proofs.{Names.{Begins, GoesOn, Ends, RowOf, apart, begins, goes_on, ends, under_reset}, Lookups.{id_is}}
 
 -- ---- small facts
 
@@ -165,7 +141,7 @@ sent s k row t p e f =
           );
     }
 
-at_run : (s : ScenarioValue) (k : RunState) (n : Connection) (p : Process) (t : Task) → is_at_run s k n (Some p) (Some t) phases.DataOut ≡ true → IsAtRun s k n p t
+at_run : (s : ScenarioValue) (k : RunState) (n : Connection) (p : Process) (t : Task) → is_at_run s k n (Some p) (Some t) Phase.DataOut ≡ true → IsAtRun s k n p t
 at_run s k n p t e =
     let two = and_first ((not n.reselected || is_some (item_of k.story.link)) && is_writing p) _ e in
     record {

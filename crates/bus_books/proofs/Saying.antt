@@ -1,17 +1,11 @@
 -- MESSAGE OUT: a byte crosses.
-use Rattle.std.proofs.Common.{ℕ, ◌≡◌, ◌+◌, Bool, not, List, [], ◌∷◌, ◌++◌, ◌∙◌, length, Option, refl, sym, ap, append_assoc, length-append, true≢false}
-use Rattle.std.specs.Prelude.{slice_index_or, nat_lt, if◌then◌else◌}
-use Rattle.bus_due.specs.msg_grammar.specs.declared.message.MsgOut.{MsgOut}
-use Rattle.bus_due.specs.msg_grammar.specs.Messages.{got_out}
-use Rattle.bus_due.specs.bus_phases.specs.declared.dialogue.Dialogue.{Dialogue}
-use Rattle.bus_due.specs.bus_phases.specs.Dialogue.{fresh_bytes, byte_out}
-use Rattle.bus_due.specs.bus_phases.specs.Half.{is_nil, left_of}
-use Rattle.bus_due.specs.bus_story.specs.BusState.{whole_out}
-use Rattle.bus_due.specs.bus_dialogue.specs.declared.exchange.Plan.{Plan}
-use Rattle.bus_due.specs.bus_dialogue.specs.Exchange.{Speech, next_word, attends_with, speech_after_byte, plan_after_message, said_with_if, plan_anew_if}
-use Rattle.bus_books.specs.Listening.{Understanding, nothing_understood, understood_byte, understood, understanding, understanding_anew}
-use Rattle.bus_books.specs.Speaking.{AreWordsHeard}
-use Rattle.bus_books.proofs.Lists.{word_at, more_after, understood_append}
+use Rattle.bus_books.proofs
+use proofs.Names.{ℕ, ◌≡◌, ◌+◌, Bool, not, List, [], ◌∷◌, ◌++◌, ◌∙◌, length, Option, refl, sym, ap, append_assoc}
+use proofs.Names.{length-append, true≢false, slice_index_or, nat_lt, if◌then◌else◌, got_out, MsgOut, fresh_bytes}
+use proofs.Names.{byte_out, is_nil, left_of, Dialogue, whole_out, Speech, next_word, attends_with, speech_after_byte}
+use proofs.Names.{plan_after_message, said_with_if, plan_anew_if, Plan, Understanding, nothing_understood}
+use proofs.{Names.{understood_byte, understood, understanding, understanding_anew, AreWordsHeard}, Lists.{word_at}}
+use proofs.Lists.{more_after, understood_append}
 
 -- the byte that it says is that at its place, and ATN is true with it while one follows
 pub says_byte : (v : Speech) (p : Plan) (d : Dialogue) (h : AreWordsHeard v p d) → next_word v ≡ h.byte

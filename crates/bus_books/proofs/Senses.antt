@@ -1,59 +1,42 @@
 -- After every history a sense that is stored with the key ABORTED COMMAND is of a process that failed there.
-use Rattle.std.proofs.Common.{ℕ, ◌≡◌, Bool, true, false, List, [], ◌∷◌, ◌∙◌, refl, sym, subst, Option, Some, None}
-use Rattle.std.specs.Prelude.{if◌then◌else◌, not, ◌&&◌, ◌||◌, ◌==◌, is_some, is_none, nat_lt}
-use Rattle.std.proofs.lemmas.Bool.{eqb-true, and_parts, and_from, or_right}
-use Rattle.bus_due.specs.bus_base.specs.declared.AbortKind.{AbortKind}
-use Rattle.bus_due.specs.bus_base.specs.declared.AbortKind.TheVariants as aborts
-use Rattle.bus_due.specs.bus_base.specs.declared.Event.{Event}
-use Rattle.bus_due.specs.bus_base.specs.declared.Event.TheVariants as events
-use Rattle.bus_due.specs.bus_base.specs.declared.ProcId.{ProcId}
-use Rattle.bus_due.specs.cdb_codec.specs.declared.Sense.{Sense}
-use Rattle.bus_due.specs.cdb_codec.specs.declared.sense.TheConstants.{ABORTED_COMMAND}
-use Rattle.bus_due.specs.cdb_codec.specs.declared.status.TheConstants.{GOOD, CHECK_CONDITION, QUEUE_FULL}
-use Rattle.bus_due.specs.cdb_codec.specs.Cdb.{command_of}
-use Rattle.bus_due.specs.scenario.specs.declared.value.HostDef.{HostDef}
-use Rattle.bus_due.specs.scenario.specs.Value.{ScenarioValue}
-use Rattle.bus_due.specs.disk_array.specs.Contents.{Contents}
-use Rattle.bus_due.specs.disk_array.specs.Processes.{Process, process_of, same_id}
-use Rattle.bus_due.specs.disk_array.specs.Execution.{Reply, Execution, execution, is_request_sense, check_condition, sense_of, commands_cleared}
-use Rattle.bus_due.specs.disk_array.specs.Units.{RunningProcess, UnitState, Nexus, Array, same_nexus, sense_of_nexus, senses_without, nexuses_without, is_held, unit_state_at, guest_at, nexus_of}
+use Rattle.bus_books.proofs
+use proofs.Names.{ℕ, ◌≡◌, Bool, true, false, List, [], ◌∷◌, ◌∙◌, refl, sym, subst, Option, Some, None, not, ◌&&◌, ◌||◌}
+use proofs.Names.{eqb-true, and_parts, and_from, or_right, if◌then◌else◌, ◌==◌, is_some, is_none, nat_lt, eq_self}
+use proofs.Names.{AbortKind, Event, ProcId, command_of, Sense, ABORTED_COMMAND, GOOD, CHECK_CONDITION, QUEUE_FULL}
+use proofs.Names.{ScenarioValue, HostDef, same_id_is, guest_process, history_sound, current_process, array_step}
+use proofs.Names.{array_after, Contents, Reply, Execution, execution, is_request_sense, check_condition, sense_of}
+use proofs.Names.{commands_cleared, Process, process_of, same_id, IsSound, HasSeats, RunningProcess, UnitState, Nexus}
+use proofs.Names.{Array, same_nexus, sense_of_nexus, senses_without, nexuses_without, is_held, unit_state_at, guest_at}
+use proofs.Names.{nexus_of, same_event, has_event, was_refused, has_cause, is_at_nexus, is_failure_at, has_failure_at}
+use proofs.Replies.{IsCaused, Caused, caused, process_runs}
 use Rattle.bus_due.specs.disk_array.specs.Steps
-use Rattle.bus_due.specs.disk_array.specs.ArrayHistory.{array_step, array_after}
-use Rattle.bus_due.specs.disk_array.specs.SoundArray.{IsSound, HasSeats}
-use Rattle.bus_due.specs.disk_array.proofs.SoundArrays.{history_sound, current_process}
-use Rattle.bus_due.specs.disk_array.proofs.SeatOwn.{guest_process}
-use Rattle.bus_due.specs.Telling.{same_event}
-use Rattle.bus_books.specs.FullQueues.{has_event, was_refused, has_cause, is_at_nexus, is_failure_at, has_failure_at}
-use Rattle.bus_books.proofs.Replies.{IsCaused, Caused, caused, process_runs}
-use Rattle.bus_due.specs.bus_base.proofs.Tests.{eq_self}
-use Rattle.bus_due.specs.disk_array.proofs.SeatLookups.{same_id_is}
 
 -- ---- a failure of a process is one at its nexus
 
 pub self_nexus : (q : Nexus) → same_nexus q q ≡ true
 self_nexus q = λ i. eq_self q.initiator i && (eq_self q.target i && eq_self q.unit i)
 
-here : (s : ScenarioValue) (e : Event) (p : Process) (code : ℕ) → process_of s p.id ≡ Some p → same_event e (events.Fail p.id code) ≡ true → is_failure_at s e (nexus_of p) code ≡ true
-here s (events.Fail id x) p code own h =
+here : (s : ScenarioValue) (e : Event) (p : Process) (code : ℕ) → process_of s p.id ≡ Some p → same_event e (Event.Fail p.id code) ≡ true → is_failure_at s e (nexus_of p) code ≡ true
+here s (Event.Fail id x) p code own h =
     let two = and_parts (same_id id p.id) (x == code) h in
     and_from _ _ two.1 ((λ i. is_at_nexus (process_of s (same_id_is id p.id two.0 i)) (nexus_of p)) ∙ (λ i. is_at_nexus (own i) (nexus_of p)) ∙ self_nexus (nexus_of p))
-here s (events.Accept id) p code own h = cc
-here s (events.Refuse id) p code own h = cc
-here s (events.Run id) p code own h = cc
-here s (events.End id x) p code own h = cc
-here s (events.Lost id) p code own h = cc
-here s (events.Aborted i t n what) p code own h = cc
-here s (events.Reset dev) p code own h = cc
+here s (Event.Accept id) p code own h = cc
+here s (Event.Refuse id) p code own h = cc
+here s (Event.Run id) p code own h = cc
+here s (Event.End id x) p code own h = cc
+here s (Event.Lost id) p code own h = cc
+here s (Event.Aborted i t n what) p code own h = cc
+here s (Event.Reset dev) p code own h = cc
 
-failed_at : (s : ScenarioValue) (h : List Event) (p : Process) (code : ℕ) → process_of s p.id ≡ Some p → has_event h (events.Fail p.id code) ≡ true → has_failure_at s h (nexus_of p) code ≡ true
+failed_at : (s : ScenarioValue) (h : List Event) (p : Process) (code : ℕ) → process_of s p.id ≡ Some p → has_event h (Event.Fail p.id code) ≡ true → has_failure_at s h (nexus_of p) code ≡ true
 failed_at s [] p code own k = cc
-failed_at s (e ∷ h) p code own k = go (λ z. failed_at s h p code own z) (same_event e (events.Fail p.id code)) refl k
+failed_at s (e ∷ h) p code own k = go (λ z. failed_at s h p code own z) (same_event e (Event.Fail p.id code)) refl k
   where
     first : (x y : Bool) → x ≡ true → (x || y) ≡ true
     first true y z = refl
     first false y z = cc
 
-    go : (has_event h (events.Fail p.id code) ≡ true → has_failure_at s h (nexus_of p) code ≡ true) → (q : Bool) → same_event e (events.Fail p.id code) ≡ q → (q || has_event h (events.Fail p.id code)) ≡ true → has_failure_at s (e ∷ h) (nexus_of p) code ≡ true
+    go : (has_event h (Event.Fail p.id code) ≡ true → has_failure_at s h (nexus_of p) code ≡ true) → (q : Bool) → same_event e (Event.Fail p.id code) ≡ q → (q || has_event h (Event.Fail p.id code)) ≡ true → has_failure_at s (e ∷ h) (nexus_of p) code ≡ true
     go later true w z = first (is_failure_at s e (nexus_of p) code) (has_failure_at s h (nexus_of p) code) (here s e p code own w)
     go later false w z = or_right (is_failure_at s e (nexus_of p) code) (has_failure_at s h (nexus_of p) code) (later z)
 
@@ -171,11 +154,11 @@ cleared_same by (q ∷ gone) a = cleared_same by gone (if q.initiator == by then
     go false false = refl
 
 abort_is : (s : ScenarioValue) (h : List Event) (a : Array) (i t n : ℕ) (what : AbortKind) → AreSenses s h a.senses → AreSenses s h (Steps.abort_step s a i t n what).senses
-abort_is s h a i t n aborts.All b = without_is s h a.senses (record { initiator = i; target = t; unit = n }) b
-abort_is s h a i t n (aborts.Tag tag) b = b
-abort_is s h a i t n aborts.WholeQueue b =
+abort_is s h a i t n AbortKind.All b = without_is s h a.senses (record { initiator = i; target = t; unit = n }) b
+abort_is s h a i t n (AbortKind.Tag tag) b = b
+abort_is s h a i t n AbortKind.WholeQueue b =
     subst (λ (x : List (Nexus × Sense)). AreSenses s h x) (sym (cleared_same i (Steps.unit_processes (unit_state_at a.units t n)) (Steps.without_dropped a (λ p. Steps.is_of_unit p t n)))) b
-abort_is s h a i t n aborts.Device b =
+abort_is s h a i t n AbortKind.Device b =
     subst (λ (x : List (Nexus × Sense)). AreSenses s h x)
     (sym (units_same s.hosts a.units (λ u. u.target == t) (record (Steps.without_dropped a (λ p. p.target == t)) { senses = Steps.kept_senses (λ q. q.target == t) a.senses; holds = Steps.kept_nexuses (λ q. q.target == t) a.holds })))
     (kept_is s h (λ q. q.target == t) a.senses b)
@@ -199,8 +182,8 @@ end_is s h a id status sound b senses = go (Steps.running_process a id) refl
   where
     stored : (r : RunningProcess) → process_of s r.process.id ≡ Some r.process → (reply : Reply) → has_cause s h r.process.id reply ≡ true → IsSense s h (nexus_of r.process) reply.sense
     stored r own reply c k =
-        let two = and_parts (not (reply.status == QUEUE_FULL) || was_refused s h r.process.id) (not (reply.sense.key == ABORTED_COMMAND) || has_event h (events.Fail r.process.id reply.sense.asc)) c in
-        failed_at s h r.process reply.sense.asc own ((λ i. not (sym k i) || has_event h (events.Fail r.process.id reply.sense.asc)) ∙ two.1)
+        let two = and_parts (not (reply.status == QUEUE_FULL) || was_refused s h r.process.id) (not (reply.sense.key == ABORTED_COMMAND) || has_event h (Event.Fail r.process.id reply.sense.asc)) c in
+        failed_at s h r.process reply.sense.asc own ((λ i. not (sym k i) || has_event h (Event.Fail r.process.id reply.sense.asc)) ∙ two.1)
 
     after : (r : RunningProcess) → process_of s r.process.id ≡ Some r.process → (reply : Reply) → has_cause s h r.process.id reply ≡ true → (x y : Bool) → AreSenses s h (let c : Array = if x then record a { senses = (nexus_of r.process, reply.sense) ∷ senses_without a.senses (nexus_of r.process); holds = nexus_of r.process ∷ nexuses_without a.holds (nexus_of r.process) } else if y then record a { senses = senses_without a.senses (nexus_of r.process); holds = nexuses_without a.holds (nexus_of r.process) } else a in c.senses)
     after r own reply c true y = (stored r own reply c, without_is s h a.senses (nexus_of r.process) senses)
@@ -224,14 +207,14 @@ lifted s h e None b = tt
 lifted s h e (Some a) b = senses_more s h e a.senses b
 
 event_is : (s : ScenarioValue) (h : List Event) (a : Array) (e : Event) → IsSound s a → Caused s h a → AreSenses s h a.senses → AreSensesIf s h (Steps.event_step s a e)
-event_is s h a (events.Accept id) sound c b = accept_is s h a (process_of s id) b
-event_is s h a (events.Refuse id) sound c b = refuse_is s h a (process_of s id) b
-event_is s h a (events.Run id) sound c b = run_is s h a (is_some (guest_at a.guests id)) (Steps.running_process a id) b
-event_is s h a (events.Fail id code) sound c b = fail_is s h a id (check_condition (sense_of ABORTED_COMMAND code 0x00)) (Steps.running_process a id) b
-event_is s h a (events.End id status) sound c b = end_is s h a id status sound c b
-event_is s h a (events.Lost id) sound c b = lost_is s h a id b
-event_is s h a (events.Aborted i t n what) sound c b = abort_is s h a i t n what b
-event_is s h a (events.Reset dev) sound c b = reset_is s h a
+event_is s h a (Event.Accept id) sound c b = accept_is s h a (process_of s id) b
+event_is s h a (Event.Refuse id) sound c b = refuse_is s h a (process_of s id) b
+event_is s h a (Event.Run id) sound c b = run_is s h a (is_some (guest_at a.guests id)) (Steps.running_process a id) b
+event_is s h a (Event.Fail id code) sound c b = fail_is s h a id (check_condition (sense_of ABORTED_COMMAND code 0x00)) (Steps.running_process a id) b
+event_is s h a (Event.End id status) sound c b = end_is s h a id status sound c b
+event_is s h a (Event.Lost id) sound c b = lost_is s h a id b
+event_is s h a (Event.Aborted i t n what) sound c b = abort_is s h a i t n what b
+event_is s h a (Event.Reset dev) sound c b = reset_is s h a
 
 settled_is : (s : ScenarioValue) (h : List Event) (o : Option Array) → AreSensesIf s h o → AreSensesIf s h (Steps.settled_array_if o)
 settled_is s h None b = tt

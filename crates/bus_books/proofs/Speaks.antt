@@ -1,42 +1,17 @@
 -- What is said in a connection goes on with each of its rows.
-use Rattle.std.proofs.Common.{ℕ, ◌≡◌, Bool, true, false, not, ◌&&◌, ◌∙◌, List, [], ◌∷◌, ◌++◌, Option, Some, None, refl, sym, ap, subst, true≢false}
-use Rattle.std.specs.Prelude.{if◌then◌else◌, is_some, ◌%◌}
-use Rattle.bus_due.specs.bus_trace.specs.LineSet.{LineSet}
-use Rattle.bus_due.specs.bus_trace.specs.declared.Row.{Row}
-use Rattle.bus_due.specs.bus_trace.specs.declared.agreements.Agreement.{Agreement}
-use Rattle.bus_due.specs.bus_trace.specs.declared.changes.Change.{Change}
-use Rattle.bus_due.specs.bus_trace.specs.declared.connection.Connection.{Connection}
-use Rattle.bus_due.specs.bus_trace.specs.Terms.{receiver_in}
-use Rattle.bus_due.specs.bus_trace.specs.Phases.{changes_phase, is_message_out, is_message_in}
-use Rattle.bus_due.specs.bus_phases.specs.declared.dialogue.Dialogue.{Dialogue}
-use Rattle.bus_due.specs.bus_phases.specs.Dialogue.{fresh_bytes, byte_out, byte_in, byte_else, byte_crosses, phase_begins}
-use Rattle.bus_due.specs.msg_grammar.specs.declared.message.MsgOut.{MsgOut}
-use Rattle.bus_due.specs.msg_grammar.specs.Messages.{got_out}
-use Rattle.bus_due.specs.scenario.specs.Value.{ScenarioValue}
-use Rattle.bus_due.specs.bus_story.specs.Items.{Item}
-use Rattle.bus_due.specs.bus_story.specs.BusState.{whole_out, message_out, message_in}
-use Rattle.bus_due.specs.bus_dialogue.specs.declared.exchange.Cause.{Cause}
-use Rattle.bus_due.specs.bus_dialogue.specs.declared.exchange.Cause.TheVariants as causes
-use Rattle.bus_due.specs.bus_dialogue.specs.declared.exchange.Hearing.{Hearing}
-use Rattle.bus_due.specs.bus_dialogue.specs.declared.exchange.Leaving.{Leaving}
-use Rattle.bus_due.specs.bus_dialogue.specs.declared.exchange.Plan.{Plan}
-use Rattle.bus_due.specs.bus_dialogue.specs.Exchange.{Speech, Exchange, next_word, attends_with, speech_after_byte, plan_after_message, plan_anew, plan_anew_if, struck_plan, speech_of, speech_after_request, request_after}
-use Rattle.bus_due.specs.bus_dialogue.specs.Words.{parity_error, detected_error, answer_bytes}
-use Rattle.bus_due.specs.bus_dialogue.specs.Speaking.{words_after}
-use Rattle.bus_due.specs.bus_dialogue.specs.Planning.{plan_in_message_out}
-use Rattle.bus_due.specs.bus_dialogue.specs.declared.exchange.Messages.{Messages}
-use Rattle.bus_due.specs.scenario.specs.declared.value.HostDef.{HostDef}
-use Rattle.bus_due.specs.Defs.{host_of, opening}
-use Rattle.bus_due.specs.Sights.{hearing_of, leaving}
-use Rattle.bus_due.specs.RunState.{RunState, bus_of}
-use Rattle.bus_due.specs.RunSteps.{run_state_after}
-use Rattle.bus_due.proofs.Stills.{still_talk}
-use Rattle.bus_books.specs.Listening.{nothing_understood, form_messages}
-use Rattle.bus_books.specs.Rows.{RowKind, still, strikes, crosses, turns, IsRowIn, reading_in}
-use Rattle.bus_books.specs.Speaking.{AreWordsHeard, AreWordsFor, opens, refuses, answers, rejects_data, rejects_status, IsAboutToSpeak, IsSpeaking, SpeaksBy, Speaks, SaysNext}
-use Rattle.bus_books.proofs.Saying.{says_on}
-use Rattle.bus_books.proofs.Reading.{reads_on, errors_read, answer_reads}
-use Rattle.bus_books.proofs.InConnection.{dialogue_by, InConnection, in_connection, SamePhase, same_phase_is}
+use Rattle.bus_books.proofs
+use proofs.Names.{ℕ, ◌≡◌, Bool, true, false, not, ◌&&◌, ◌∙◌, List, [], ◌∷◌, ◌++◌, Option, Some, None, refl, sym, ap}
+use proofs.Names.{subst, true≢false, if◌then◌else◌, is_some, ◌%◌, LineSet, changes_phase, is_message_out, is_message_in}
+use proofs.Names.{receiver_in, Row, Agreement, Change, Connection, got_out, MsgOut, fresh_bytes, byte_out, byte_in}
+use proofs.Names.{byte_else, byte_crosses, phase_begins, Dialogue, ScenarioValue, HostDef, whole_out, message_out}
+use proofs.Names.{message_in, Item, Speech, Exchange, next_word, attends_with, speech_after_byte, plan_after_message}
+use proofs.Names.{plan_anew, plan_anew_if, struck_plan, speech_of, speech_after_request, request_after}
+use proofs.Names.{plan_in_message_out, words_after, parity_error, detected_error, answer_bytes, Cause, Hearing, Leaving}
+use proofs.Names.{Messages, Plan, still_talk, host_of, opening, RunState, bus_of, run_state_after, hearing_of, leaving}
+use proofs.Names.{nothing_understood, form_messages, RowKind, still, strikes, crosses, turns, IsRowIn, reading_in}
+use proofs.Names.{AreWordsHeard, AreWordsFor, opens, refuses, answers, rejects_data, rejects_status, IsAboutToSpeak}
+use proofs.{Names.{IsSpeaking, SpeaksBy, Speaks, SaysNext}, InConnection.{dialogue_by, InConnection, in_connection}}
+use proofs.{InConnection.{SamePhase, same_phase_is}, Reading.{reads_on, errors_read, answer_reads}, Saying.{says_on}}
 
 -- ---- what is kept is known otherwise
 
@@ -181,15 +156,15 @@ abbrev words_by : Bool → Bool → Option HostDef → Agreement → List ℕ
 words_by into struck h asked = if not into then detected_error else if struck then parity_error else answer_bytes h asked
 
 abbrev cause_by : Bool → Bool → Cause
-cause_by into cd = if into then causes.InMessage else if cd then causes.InStatus else causes.InData
+cause_by into cd = if into then Cause.InMessage else if cd then Cause.InStatus else Cause.InData
 
 asks_on : (s : ScenarioValue) (n : Connection) (v : Option Item) (x : Exchange) (d : Dialogue) (messages : Messages) (into cd struck : Bool)
     → IsSpeaking s n v (asking x (words_by into struck (host_of s n.initiator) x.speech.asked) (cause_by into cd) messages) (phase_begins d)
-asks_on s n v x d messages true cd true = speaks_anew s n v x d parity_error causes.InMessage messages _ _ refl errors_read.0 (refuses refl)
+asks_on s n v x d messages true cd true = speaks_anew s n v x d parity_error Cause.InMessage messages _ _ refl errors_read.0 (refuses refl)
 asks_on s n v x d messages true cd false =
-    speaks_anew s n v x d (answer_bytes (host_of s n.initiator) x.speech.asked) causes.InMessage messages _ _ refl (answer_reads (host_of s n.initiator) x.speech.asked) (answers refl)
-asks_on s n v x d messages false true struck = speaks_anew s n v x d detected_error causes.InStatus messages _ _ refl errors_read.1 (rejects_status refl)
-asks_on s n v x d messages false false struck = speaks_anew s n v x d detected_error causes.InData messages _ _ refl errors_read.1 (rejects_data refl)
+    speaks_anew s n v x d (answer_bytes (host_of s n.initiator) x.speech.asked) Cause.InMessage messages _ _ refl (answer_reads (host_of s n.initiator) x.speech.asked) (answers refl)
+asks_on s n v x d messages false true struck = speaks_anew s n v x d detected_error Cause.InStatus messages _ _ refl errors_read.1 (rejects_status refl)
+asks_on s n v x d messages false false struck = speaks_anew s n v x d detected_error Cause.InData messages _ _ refl errors_read.1 (rejects_data refl)
 
 turn_on : (s : ScenarioValue) (n : Connection) (v : Option Item) (x : Exchange) (d : Dialogue) (a : LineSet) (w : Hearing) (l : Leaving) (now fault : Bool) → w.begun ≡ x.begun → SpeaksBy s n v x d a
     → SpeaksBy s n v (still_talk true now fault (host_of s n.initiator) w l x) (phase_begins d) w.change.after

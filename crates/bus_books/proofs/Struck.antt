@@ -1,46 +1,21 @@
 -- A command fails only where a byte of it was struck.
-use Rattle.std.proofs.Common.{ℕ, ◌≡◌, Bool, true, false, List, [], ◌∷◌, ◌++◌, ◌∙◌, refl, sym, subst, Option, Some, None}
-use Rattle.std.specs.Prelude.{◌+◌, if◌then◌else◌, not, ◌&&◌, ◌||◌, ◌==◌, is_some, is_none, nat_lt}
-use Rattle.std.specs.List.{list_any}
-use Rattle.std.proofs.lemmas.Bool.{and_parts, eqb-true, or_right, or_left}
-use Rattle.bus_due.specs.bus_base.specs.declared.Event.{Event}
-use Rattle.bus_due.specs.bus_base.specs.declared.Event.TheVariants as events
-use Rattle.bus_due.specs.bus_base.specs.declared.ProcId.{ProcId}
-use Rattle.bus_due.specs.bus_trace.specs.Changes.{rises, falls}
-use Rattle.bus_due.specs.bus_trace.specs.LineSet.{LineSet}
-use Rattle.bus_due.specs.bus_trace.specs.declared.Kind.{Kind}
-use Rattle.bus_due.specs.bus_trace.specs.declared.Kind.TheVariants.{Drives, Fault}
-use Rattle.bus_due.specs.bus_trace.specs.declared.Row.{Row}
-use Rattle.bus_due.specs.bus_trace.specs.declared.changes.Change.{Change}
-use Rattle.bus_due.specs.bus_trace.specs.declared.connection.Connection.{Connection}
-use Rattle.bus_due.specs.bus_trace.specs.declared.selection.Call.{Call}
-use Rattle.bus_due.specs.bus_trace.specs.declared.selection.Calling.{Calling}
-use Rattle.bus_due.specs.bus_trace.specs.Phases.{is_data, is_command, changes_phase}
-use Rattle.bus_due.specs.bus_trace.specs.Terms.{is_fault}
-use Rattle.bus_due.specs.cdb_codec.specs.declared.sense.TheConstants.{PARITY_ERROR, INITIATOR_DETECTED_ERROR}
-use Rattle.bus_due.specs.cdb_codec.specs.declared.status.TheConstants.{CHECK_CONDITION}
-use Rattle.bus_due.specs.msg_grammar.specs.declared.message.MsgIn.{MsgIn}
-use Rattle.bus_due.specs.msg_grammar.specs.declared.message.MsgIn.TheVariants as to_initiator
-use Rattle.bus_due.specs.msg_grammar.specs.declared.message.MsgOut.{MsgOut}
-use Rattle.bus_due.specs.scenario.specs.declared.value.CmdDef.{CmdDef}
-use Rattle.bus_due.specs.scenario.specs.Value.{ScenarioValue}
-use Rattle.bus_due.specs.disk_array.specs.Processes.{same_id}
-use Rattle.bus_due.specs.bus_story.specs.BusState.{RowReading, row_reading}
-use Rattle.bus_due.specs.bus_story.specs.CarriedBytes.{CarriedBytes, nothing_carried, with_restored_pointers, carried_after_message, carried_after_byte, carried_after_fault, is_status_phase, is_whole_block, carried_at, carried_or_nothing, carried_of, with_carried}
+use Rattle.bus_books.proofs
+use proofs.Names.{ℕ, ◌≡◌, Bool, true, false, List, [], ◌∷◌, ◌++◌, ◌∙◌, refl, sym, subst, Option, Some, None, ◌+◌, not}
+use proofs.Names.{◌&&◌, ◌||◌, and_parts, eqb-true, or_right, or_left, list_any, if◌then◌else◌, ◌==◌, is_some, is_none}
+use proofs.Names.{nat_lt, all_three, wrong, Event, ProcId, rises, falls, LineSet, is_data, is_command, changes_phase}
+use proofs.Names.{is_fault, Kind, Drives, Fault, Row, Change, Connection, Call, Calling, PARITY_ERROR}
+use proofs.Names.{INITIATOR_DETECTED_ERROR, CHECK_CONDITION, MsgIn, MsgOut, ScenarioValue, CmdDef, same_id_is, id_self}
+use proofs.Names.{same_id, carried_id, RowReading, row_reading, CarriedBytes, nothing_carried, with_restored_pointers}
+use proofs.Names.{carried_after_message, carried_after_byte, carried_after_fault, is_status_phase, is_whole_block}
+use proofs.Names.{carried_at, carried_or_nothing, carried_of, with_carried, carried_if, row_events_by, Item, process}
+use proofs.Names.{abort, sense_item, is_open, count_item, Link, link_of, last_out, last_in, link_after_name, Story}
+use proofs.Names.{Ending, by_abort, by_reset, by_status, story_with_over, story_with_end, with_check, story_with_ends}
+use proofs.Names.{is_aborted, is_sense_stopped, marked_refused, marked_shown, story_after_event, story_after_events}
+use proofs.Names.{story_with_end_if, story, trace_history, aim_of, retries_of, is_counted, is_parity_error}
+use proofs.Names.{story_by_change, story_on_bus, story_with_restored, story_with_carried, same_event, has_event}
+use proofs.Names.{is_item_of, is_link_of, fails_with, has_failing_byte, is_strike, has_strike}
 use Rattle.bus_due.specs.bus_story.specs.HistoryEvents
-use Rattle.bus_due.specs.bus_story.specs.HistoryEvents.{carried_if, row_events_by}
-use Rattle.bus_due.specs.bus_story.specs.Items.{Item, process, abort, sense_item, is_open, count_item}
-use Rattle.bus_due.specs.bus_story.specs.Links.{Link, link_of, last_out, last_in, link_after_name}
-use Rattle.bus_due.specs.bus_story.specs.Story.{Story, Ending, by_abort, by_reset, by_status, story_with_over, story_with_end, with_check, story_with_ends, is_aborted, is_sense_stopped, marked_refused, marked_shown, story_after_event, story_after_events, story_with_end_if}
 use Rattle.bus_due.specs.bus_story.specs.TraceHistory
-use Rattle.bus_due.specs.bus_story.specs.TraceHistory.{story, trace_history, aim_of, retries_of, is_counted, is_parity_error, story_by_change, story_on_bus, story_with_restored, story_with_carried}
-use Rattle.bus_due.specs.bus_story.proofs.CarriedLists.{carried_id}
-use Rattle.bus_due.specs.Telling.{same_event}
-use Rattle.bus_books.specs.FullQueues.{has_event}
-use Rattle.bus_books.specs.Strikes.{is_item_of, is_link_of, fails_with, has_failing_byte, is_strike, has_strike}
-use Rattle.bus_due.specs.bus_base.proofs.Tests.{all_three, wrong}
-use Rattle.bus_due.specs.disk_array.proofs.SeatLookups.{same_id_is}
-use Rattle.bus_due.specs.disk_array.proofs.SeatReplies.{id_self}
 
 -- ---- what a process has carried: a failure has its fault row
 
@@ -217,14 +192,14 @@ out_struck s rows b l (Some m) e h =
     go undo false = tt
 
 message_is : (s : ScenarioValue) (rows : List Row) (k : CarriedBytes) (m : MsgIn) → IsCarried s rows k → IsCarried s rows (carried_after_message k m)
-message_is s rows k to_initiator.SavePointer h = h
-message_is s rows k to_initiator.RestorePointers h = tt
-message_is s rows k to_initiator.CommandComplete h = h
-message_is s rows k to_initiator.Disconnect h = h
-message_is s rows k to_initiator.Reject h = h
-message_is s rows k (to_initiator.Identify lun) h = h
-message_is s rows k (to_initiator.SimpleTag n) h = h
-message_is s rows k (to_initiator.Sdtr a) h = h
+message_is s rows k MsgIn.SavePointer h = h
+message_is s rows k MsgIn.RestorePointers h = tt
+message_is s rows k MsgIn.CommandComplete h = h
+message_is s rows k MsgIn.Disconnect h = h
+message_is s rows k MsgIn.Reject h = h
+message_is s rows k (MsgIn.Identify lun) h = h
+message_is s rows k (MsgIn.SimpleTag n) h = h
+message_is s rows k (MsgIn.Sdtr a) h = h
 
 message_if : (s : ScenarioValue) (rows : List Row) (o : Option CarriedBytes) (m : MsgIn) → IsCarriedIf s rows o → IsCarriedIf s rows (TraceHistory.carried_after_message_if o m)
 message_if s rows None m h = tt
@@ -350,17 +325,17 @@ check_same b id status = go (not id.sense && status == CHECK_CONDITION)
     go false = record { carried = refl; link = refl }
 
 event_struck : (s : ScenarioValue) (rows : List Row) (b : Story) (e : Event) → Struck s rows b → Struck s rows (story_after_event s b e)
-event_struck s rows b (events.Accept id) h = h
-event_struck s rows b (events.Refuse id) h = record { carried = with_is s rows b.carried (marked_refused (carried_of b.carried id)) h.carried (of_is s rows b.carried id h.carried); undo = h.undo }
-event_struck s rows b (events.Run id) h = record { carried = with_is s rows b.carried (marked_shown (carried_of b.carried id)) h.carried (of_is s rows b.carried id h.carried); undo = h.undo }
-event_struck s rows b (events.Fail id code) h = record { carried = with_is s rows b.carried (marked_shown (carried_of b.carried id)) h.carried (of_is s rows b.carried id h.carried); undo = h.undo }
-event_struck s rows b (events.End id status) h =
+event_struck s rows b (Event.Accept id) h = h
+event_struck s rows b (Event.Refuse id) h = record { carried = with_is s rows b.carried (marked_refused (carried_of b.carried id)) h.carried (of_is s rows b.carried id h.carried); undo = h.undo }
+event_struck s rows b (Event.Run id) h = record { carried = with_is s rows b.carried (marked_shown (carried_of b.carried id)) h.carried (of_is s rows b.carried id h.carried); undo = h.undo }
+event_struck s rows b (Event.Fail id code) h = record { carried = with_is s rows b.carried (marked_shown (carried_of b.carried id)) h.carried (of_is s rows b.carried id h.carried); undo = h.undo }
+event_struck s rows b (Event.End id status) h =
     same_struck s rows b (with_check (story_with_end b id (by_status status)) id status)
     (same_twice b (story_with_end b id (by_status status)) (with_check (story_with_end b id (by_status status)) id status) (record { carried = refl; link = refl }) (check_same (story_with_end b id (by_status status)) id status)) h
-event_struck s rows b (events.Lost id) h = record { carried = h.carried; undo = h.undo }
-event_struck s rows b (events.Aborted i t n what) h =
+event_struck s rows b (Event.Lost id) h = record { carried = h.carried; undo = h.undo }
+event_struck s rows b (Event.Aborted i t n what) h =
     same_struck s rows b (story_with_ends (is_aborted i t n what) (is_sense_stopped i t n what) by_abort 1 s.commands b) (with_ends_same (is_aborted i t n what) (is_sense_stopped i t n what) by_abort 1 s.commands b) h
-event_struck s rows b (events.Reset dev) h =
+event_struck s rows b (Event.Reset dev) h =
     same_struck s rows b (story_with_ends (λ c. true) (λ c. true) by_reset 1 s.commands b) (with_ends_same (λ c. true) (λ c. true) by_reset 1 s.commands b) h
 
 events_struck : (s : ScenarioValue) (rows : List Row) (b : Story) (shown : List Event) → Struck s rows b → Struck s rows (story_after_events s b shown)
@@ -385,41 +360,41 @@ struck_after s (row ∷ rows) = row_struck s rows row (struck_after s rows)
 no_failure : (e : Event) (xs : List Event) (f : Event) → same_event e f ≡ false → has_event (e ∷ xs) f ≡ true → has_event xs f ≡ true
 no_failure e xs f n h = (λ i. sym n i || has_event xs f) ∙ h
 
-queue_none : (s : ScenarioValue) (b : Story) (o : Option CarriedBytes) (lines : LineSet) (id : ProcId) (code : ℕ) → has_event (HistoryEvents.queue_events s b o lines) (events.Fail id code) ≡ false
+queue_none : (s : ScenarioValue) (b : Story) (o : Option CarriedBytes) (lines : LineSet) (id : ProcId) (code : ℕ) → has_event (HistoryEvents.queue_events s b o lines) (Event.Fail id code) ≡ false
 queue_none s b None lines id code = refl
-queue_none s b (Some k) lines id code = go (is_command lines && is_whole_block k) (is_some (Rattle.bus_due.specs.disk_array.specs.ArrayHistory.array_after s (events.Accept k.id ∷ b.history)))
+queue_none s b (Some k) lines id code = go (is_command lines && is_whole_block k) (is_some (Rattle.bus_due.specs.disk_array.specs.ArrayHistory.array_after s (Event.Accept k.id ∷ b.history)))
   where
-    go : (p q : Bool) → has_event (if p then (if q then events.Accept k.id else events.Refuse k.id) ∷ [] else []) (events.Fail id code) ≡ false
+    go : (p q : Bool) → has_event (if p then (if q then Event.Accept k.id else Event.Refuse k.id) ∷ [] else []) (Event.Fail id code) ≡ false
     go true true = refl
     go true false = refl
     go false q = refl
 
-status_is : (s : ScenarioValue) (rows : List Row) (o : Option CarriedBytes) (lines : LineSet) (arrived : List Event) (id : ProcId) (code : ℕ) → IsCarriedIf s rows o → has_event arrived (events.Fail id code) ≡ false → has_event (HistoryEvents.status_events o lines arrived) (events.Fail id code) ≡ true → has_strike s rows id code ≡ true
+status_is : (s : ScenarioValue) (rows : List Row) (o : Option CarriedBytes) (lines : LineSet) (arrived : List Event) (id : ProcId) (code : ℕ) → IsCarriedIf s rows o → has_event arrived (Event.Fail id code) ≡ false → has_event (HistoryEvents.status_events o lines arrived) (Event.Fail id code) ≡ true → has_strike s rows id code ≡ true
 status_is s rows None lines arrived id code c n h = wrong (sym h ∙ n)
 status_is s rows (Some k) lines arrived id code c n h = go (is_status_phase lines && not k.shown && not k.refused && not (list_any (λ e. HistoryEvents.is_refuse e) arrived)) h
   where
-    same : (x : ℕ) → has_strike s rows k.id x ≡ true → same_event (events.Fail k.id x) (events.Fail id code) ≡ true → has_strike s rows id code ≡ true
+    same : (x : ℕ) → has_strike s rows k.id x ≡ true → same_event (Event.Fail k.id x) (Event.Fail id code) ≡ true → has_strike s rows id code ≡ true
     same x m e =
         let two = and_parts (same_id k.id id) (x == code) e in
         (λ i. has_strike s rows (sym (same_id_is k.id id two.0) i) (sym (eqb-true x code two.1) i)) ∙ m
 
-    of_event : (x : Option ℕ) → IsFailure s rows k.id x → (q : Bool) → same_event (HistoryEvents.status_event k.id x) (events.Fail id code) ≡ q → (q || has_event arrived (events.Fail id code)) ≡ true → has_strike s rows id code ≡ true
+    of_event : (x : Option ℕ) → IsFailure s rows k.id x → (q : Bool) → same_event (HistoryEvents.status_event k.id x) (Event.Fail id code) ≡ q → (q || has_event arrived (Event.Fail id code)) ≡ true → has_strike s rows id code ≡ true
     of_event None m true e f = cc
     of_event (Some x) m true e f = same x m e
     of_event x m false e f = wrong (sym f ∙ n)
 
-    go : (q : Bool) → has_event (if q then HistoryEvents.status_event k.id k.failure ∷ arrived else arrived) (events.Fail id code) ≡ true → has_strike s rows id code ≡ true
+    go : (q : Bool) → has_event (if q then HistoryEvents.status_event k.id k.failure ∷ arrived else arrived) (Event.Fail id code) ≡ true → has_strike s rows id code ≡ true
     go false e = wrong (sym e ∙ n)
-    go true e = of_event k.failure c (same_event (HistoryEvents.status_event k.id k.failure) (events.Fail id code)) refl e
+    go true e = of_event k.failure c (same_event (HistoryEvents.status_event k.id k.failure) (Event.Fail id code)) refl e
 
-end_none : (o : Option CarriedBytes) (id : ProcId) (code : ℕ) → has_event (HistoryEvents.end_events o) (events.Fail id code) ≡ false
+end_none : (o : Option CarriedBytes) (id : ProcId) (code : ℕ) → has_event (HistoryEvents.end_events o) (Event.Fail id code) ≡ false
 end_none None id code = refl
 end_none (Some k) id code = refl
 
-free_none : (s : ScenarioValue) (l : Link) (last : Rattle.bus_due.specs.bus_story.specs.Links.LastMessage) (id : ProcId) (code : ℕ) → has_event (HistoryEvents.bus_free_events s l last) (events.Fail id code) ≡ false
+free_none : (s : ScenarioValue) (l : Link) (last : Rattle.bus_due.specs.bus_story.specs.Links.LastMessage) (id : ProcId) (code : ℕ) → has_event (HistoryEvents.bus_free_events s l last) (Event.Fail id code) ≡ false
 free_none s l Rattle.bus_due.specs.bus_story.specs.Links.plain id code = go l.item
   where
-    go : (o : Option Item) → has_event (HistoryEvents.item_loss_events o) (events.Fail id code) ≡ false
+    go : (o : Option Item) → has_event (HistoryEvents.item_loss_events o) (Event.Fail id code) ≡ false
     go None = refl
     go (Some (process p)) = refl
     go (Some (abort k)) = refl
@@ -427,16 +402,16 @@ free_none s l Rattle.bus_due.specs.bus_story.specs.Links.complete id code = refl
 free_none s l Rattle.bus_due.specs.bus_story.specs.Links.disconnect id code = refl
 free_none s l Rattle.bus_due.specs.bus_story.specs.Links.abortive id code = go l.item
   where
-    line : (o : Option Rattle.bus_due.specs.scenario.specs.declared.value.AbortDef.AbortDef) → has_event (HistoryEvents.abort_line_events o) (events.Fail id code) ≡ false
+    line : (o : Option Rattle.bus_due.specs.scenario.specs.declared.value.AbortDef.AbortDef) → has_event (HistoryEvents.abort_line_events o) (Event.Fail id code) ≡ false
     line None = refl
     line (Some a) = refl
 
-    go : (o : Option Item) → has_event (HistoryEvents.item_abort_events s o) (events.Fail id code) ≡ false
+    go : (o : Option Item) → has_event (HistoryEvents.item_abort_events s o) (Event.Fail id code) ≡ false
     go None = refl
     go (Some (process p)) = refl
     go (Some (abort k)) = line (HistoryEvents.abort_line_at s.aborts k)
 
-shown_is : (s : ScenarioValue) (rows : List Row) (row : Row) (id : ProcId) (code : ℕ) → has_event (row_events_by s (story s rows) (row_reading (story s rows).bus_state row) row) (events.Fail id code) ≡ true → has_strike s rows id code ≡ true
+shown_is : (s : ScenarioValue) (rows : List Row) (row : Row) (id : ProcId) (code : ℕ) → has_event (row_events_by s (story s rows) (row_reading (story s rows).bus_state row) row) (Event.Fail id code) ≡ true → has_strike s rows id code ≡ true
 shown_is s rows row id code h = go d.change.after.rst (rises d.change.own.rst d.change.next.rst) h
   where
     b : Story
@@ -445,7 +420,7 @@ shown_is s rows row id code h = go d.change.after.rst (rises d.change.own.rst d.
     d : RowReading
     d = row_reading b.bus_state row
 
-    by_link : (l : Link) (p q r : Bool) → has_event (if p then (if q then HistoryEvents.phase_events s b (carried_if b l.item) d.change else if r then HistoryEvents.end_events (carried_if b l.item) else []) else HistoryEvents.bus_free_events s l l.last) (events.Fail id code) ≡ true → has_strike s rows id code ≡ true
+    by_link : (l : Link) (p q r : Bool) → has_event (if p then (if q then HistoryEvents.phase_events s b (carried_if b l.item) d.change else if r then HistoryEvents.end_events (carried_if b l.item) else []) else HistoryEvents.bus_free_events s l l.last) (Event.Fail id code) ≡ true → has_strike s rows id code ≡ true
     by_link l true true r e =
         status_is s rows (carried_if b l.item) d.change.after (HistoryEvents.queue_events s b (carried_if b l.item) d.change.before) id code (carried_if_is s rows b l.item (struck_after s rows).carried)
         (queue_none s b (carried_if b l.item) d.change.before id code) e
@@ -453,11 +428,11 @@ shown_is s rows row id code h = go d.change.after.rst (rises d.change.own.rst d.
     by_link l true false false e = cc
     by_link l false q r e = wrong (sym e ∙ free_none s l l.last id code)
 
-    linked : (o : Option Link) → has_event (HistoryEvents.link_events s b o d) (events.Fail id code) ≡ true → has_strike s rows id code ≡ true
+    linked : (o : Option Link) → has_event (HistoryEvents.link_events s b o d) (Event.Fail id code) ≡ true → has_strike s rows id code ≡ true
     linked None e = cc
     linked (Some l) e = by_link l (is_some d.next) (changes_phase d.change) (HistoryEvents.is_completion l d.change) e
 
-    go : (q r : Bool) → has_event (if q then (if r then events.Reset row.dev ∷ [] else []) else HistoryEvents.link_events s b b.link d) (events.Fail id code) ≡ true → has_strike s rows id code ≡ true
+    go : (q r : Bool) → has_event (if q then (if r then Event.Reset row.dev ∷ [] else []) else HistoryEvents.link_events s b b.link d) (Event.Fail id code) ≡ true → has_strike s rows id code ≡ true
     go true true e = cc
     go true false e = cc
     go false r e = linked b.link e
@@ -470,10 +445,10 @@ either_list (x ∷ shown) history e z now before h = go (λ k. either_list shown
     go later true w k = now (λ i. w i || has_event shown e)
     go later false w k = later k
 
-pub strikes_are : (s : ScenarioValue) (rows : List Row) (id : ProcId) (code : ℕ) → has_event (trace_history s rows) (events.Fail id code) ≡ true → has_strike s rows id code ≡ true
+pub strikes_are : (s : ScenarioValue) (rows : List Row) (id : ProcId) (code : ℕ) → has_event (trace_history s rows) (Event.Fail id code) ≡ true → has_strike s rows id code ≡ true
 strikes_are s [] id code h = cc
 strikes_are s (row ∷ rows) id code h =
     let b : Story = story s rows in
     let d : RowReading = row_reading b.bus_state row in
     or_right (is_strike b row id code) (has_strike s rows id code)
-    (either_list (row_events_by s b d row) b.history (events.Fail id code) (has_strike s rows id code) (λ x. shown_is s rows row id code x) (λ x. strikes_are s rows id code x) h)
+    (either_list (row_events_by s b d row) b.history (Event.Fail id code) (has_strike s rows id code) (λ x. shown_is s rows row id code x) (λ x. strikes_are s rows id code x) h)

@@ -1,46 +1,17 @@
 -- The books hold after every row of a trace, and each tells what was to be said.
-use Rattle.std.proofs.Common.{ℕ, ◌≡◌, ◌<◌, Bool, true, false, not, ◌&&◌, ◌||◌, ◌∙◌, List, [], ◌∷◌, Option, Some, None, refl, sym, ap, subst, true≢false}
-use Rattle.std.specs.Prelude.{if◌then◌else◌, is_some, ◌==◌, ◌%◌}
-use Rattle.bus_due.specs.bus_trace.specs.declared.Row.{Row}
-use Rattle.bus_due.specs.bus_trace.specs.declared.changes.Change.{Change}
-use Rattle.bus_due.specs.bus_trace.specs.declared.connection.Connection.{Connection}
-use Rattle.bus_due.specs.bus_trace.specs.Changes.{falls}
-use Rattle.bus_due.specs.bus_trace.specs.Terms.{connection_of, connection_after, receiver_of}
-use Rattle.bus_due.specs.bus_trace.specs.Phases.{changes_phase}
-use Rattle.bus_due.specs.scenario.specs.Value.{ScenarioValue}
-use Rattle.bus_due.specs.disk_array.specs.Processes.{Process}
-use Rattle.bus_due.specs.bus_story.specs.BusState.{row_reading}
-use Rattle.bus_due.specs.bus_story.specs.Items.{Item}
-use Rattle.bus_due.specs.bus_story.specs.TraceHistory.{aim_of}
-use Rattle.bus_due.specs.bus_dialogue.specs.NextPhase.{phase_of}
-use Rattle.bus_due.specs.bus_dialogue.specs.Wants.{Ready}
-use Rattle.bus_due.specs.Faithful.{has_ends, is_known_process, is_true_leaving, is_true_crossing, is_true_beginning, is_true_hearing, is_faithful, faithful}
-use Rattle.bus_due.specs.RunState.{RunState, bus_of, process_item, process_served}
-use Rattle.bus_due.specs.RunSteps.{run_state, run_state_after, exchange_after, served_after, item_if, leaving_of}
-use Rattle.bus_due.specs.Wants.{ready_of}
-use Rattle.scsi_device.specs.Lines.{AreUnits}
-use Rattle.bus_books.specs.Carrying.{AllCarryOwn, SendsOwn}
-use Rattle.bus_books.specs.FirstBytes.{Opens}
-use Rattle.bus_books.specs.Giving.{Gives, IsQuiet}
-use Rattle.bus_books.specs.Items.{IsItem, is_process, is_abort, AimsAreItems}
-use Rattle.bus_books.specs.Knowing.{Knows}
-use Rattle.bus_books.specs.Rows.{IsRowIn}
-use Rattle.bus_books.specs.Speaking.{Speaks}
-use Rattle.bus_books.specs.Traces.{IsReadyFor, Begins, RowOf, apart, begins, goes_on, ends, under_reset, AreRowsOf, Books}
-use Rattle.bus_books.proofs.Aims.{aims_are}
-use Rattle.bus_books.proofs.CarriedRows.{carry_on, all_carry}
-use Rattle.bus_books.proofs.Faith.{row_is_faithful}
-use Rattle.bus_books.proofs.FirstBytes.{opens_first, opens_on}
-use Rattle.bus_books.proofs.FirstLinks.{knows_first}
-use Rattle.bus_books.proofs.FirstWords.{speaks_first}
-use Rattle.bus_books.proofs.Given.{gives_first}
-use Rattle.bus_books.proofs.Gives.{gives_on}
-use Rattle.bus_books.proofs.Knows.{knows_on}
-use Rattle.bus_books.proofs.Quiet.{quiet_first, quiet_on}
-use Rattle.bus_books.proofs.Speaks.{speaks_on}
-use Rattle.std.proofs.lemmas.Bool.{or_right}
-use Rattle.std.proofs.lemmas.Option.{same_Some}
-use Rattle.bus_due.specs.bus_base.proofs.Tests.{and_false, eq_self}
+use Rattle.bus_books.proofs
+use proofs.Names.{ℕ, ◌≡◌, ◌<◌, Bool, true, false, not, ◌&&◌, ◌||◌, ◌∙◌, List, [], ◌∷◌, Option, Some, None, refl, sym}
+use proofs.Names.{ap, subst, true≢false, or_right, same_Some, if◌then◌else◌, is_some, ◌==◌, ◌%◌, and_false, eq_self}
+use proofs.Names.{falls, changes_phase, connection_of, connection_after, receiver_of, Row, Change, Connection}
+use proofs.Names.{ScenarioValue, Process, row_reading, Item, aim_of, phase_of, Ready, has_ends, is_known_process}
+use proofs.Names.{is_true_leaving, is_true_crossing, is_true_beginning, is_true_hearing, is_faithful, faithful}
+use proofs.Names.{RunState, bus_of, process_item, process_served, run_state, run_state_after, exchange_after}
+use proofs.Names.{served_after, item_if, leaving_of, ready_of, AreUnits, AllCarryOwn, SendsOwn, Opens, Gives, IsQuiet}
+use proofs.Names.{IsItem, is_process, is_abort, AimsAreItems, Knows, IsRowIn, Speaks, IsReadyFor, Begins, RowOf, apart}
+use proofs.{Names.{begins, goes_on, ends, under_reset, AreRowsOf, Books}, Aims.{aims_are}, CarriedRows.{carry_on}}
+use proofs.{CarriedRows.{all_carry}, Faith.{row_is_faithful}, FirstBytes.{opens_first, opens_on}}
+use proofs.{FirstLinks.{knows_first}, FirstWords.{speaks_first}, Given.{gives_first}, Gives.{gives_on}}
+use proofs.{Knows.{knows_on}, Quiet.{quiet_first, quiet_on}, Speaks.{speaks_on}}
 
 -- ---- small facts
 

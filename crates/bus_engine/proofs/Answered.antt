@@ -27,7 +27,7 @@ use Rattle.delivery_laws.specs.progress_laws.proofs.AnsweredEnds.{answered_when_
 use Rattle.delivery_laws.specs.progress_laws.proofs.DebtTraces.{Indebted, indebted}
 use Rattle.delivery_laws.specs.progress_laws.proofs.Ended.{Joined, free_when_ended, unwanted_when_ended}
 use Rattle.delivery_laws.specs.progress_laws.proofs.QueuedTraces.{all_queued}
-use Rattle.delivery_laws.specs.right_laws.proofs.Right.{all_joined}
+use Rattle.delivery_laws.specs.right_laws.proofs.Ran.Right.{all_joined}
 use Rattle.initiator.specs.Causes.{has_status}
 use Rattle.initiator.specs.Received.{undoes_no_byte}
 use Rattle.bus_engine.specs.Answers.{are_answered, are_answered_from, are_replied_from, is_answered, is_replied, is_settled, sense_is_over}
@@ -39,7 +39,7 @@ use Rattle.bus_engine.proofs.RanTargets.{ran_there}
 use Rattle.bus_engine.proofs.Replied.{HaveReplies, all_replied}
 use Rattle.bus_engine.proofs.Settled.{over_told, sense_is_done, settled_status}
 use Rattle.bus_engine.proofs.Undone.{no_byte_undone}
-use Rattle.delivery_laws.specs.trace_laws.proofs.Tests.{plus_one}
+use Rattle.delivery_laws.specs.trace_laws.proofs.Common.Tests.{plus_one}
 
 -- ---- what is known of it
 

@@ -32,7 +32,7 @@ use Rattle.delivery_laws.specs.bus_laws.proofs.Prompt.{least_is}
 use Rattle.delivery_laws.specs.trace_laws.specs.Attendance.{AreShown, IsShown, ShowsIn, accepts, refuses, runs, fails, ends, loses, aborts}
 use Rattle.delivery_laws.specs.trace_laws.specs.RunsWhole.{IsWhole, RunsWhole, ends_badly, sends_all, sends_none}
 use Rattle.delivery_laws.specs.trace_laws.specs.RowAttendance.{IsAttended, IsCalmTurn}
-use Rattle.delivery_laws.specs.trace_laws.proofs.WholeRuns.{sent_all}
+use Rattle.delivery_laws.specs.trace_laws.proofs.Runs.Whole.{sent_all}
 use Rattle.std.proofs.lemmas.Bool.{or_right, and_from, lt-ltb, eq-eqb}
 use Rattle.bus_base.proofs.Tests.{wrong, or_true, implication, unless, or_middle}
 use Rattle.bus_due.specs.bus_dialogue.specs.Events.{is_empty}

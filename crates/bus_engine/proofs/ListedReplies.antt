@@ -30,17 +30,17 @@ use Rattle.disk_array.proofs.SoundArrays.{history_sound}
 use Rattle.disk_array.proofs.ArrayReplies.{abort_lists, fail_lists, loss_lists, reset_lists, took, end_lists}
 use Rattle.bus_due.specs.bus_story.specs.Right.{has_run, is_run_of}
 use Rattle.delivery_laws.specs.bus_books.proofs.Lookups.{id_is}
-use Rattle.delivery_laws.specs.trace_laws.proofs.ListedReplies.{accepted, refused, settles, running_id}
-use Rattle.delivery_laws.specs.trace_laws.proofs.OtherProcesses.{executed, reply_at}
-use Rattle.delivery_laws.specs.trace_laws.proofs.Impossible.{none_some}
+use Rattle.delivery_laws.specs.trace_laws.proofs.Events.Replies.{accepted, refused, settles, running_id}
+use Rattle.delivery_laws.specs.trace_laws.proofs.Events.Others.{executed, reply_at}
+use Rattle.delivery_laws.specs.trace_laws.proofs.Common.Impossible.{none_some}
 use Rattle.delivery_laws.specs.progress_laws.proofs.FetchedSenses.{sense_cdb}
 use Rattle.delivery_laws.specs.progress_laws.proofs.OwedEvents.{running_own}
-use Rattle.delivery_laws.specs.right_laws.proofs.WholeBlocks.{HasWhole, whole_always}
+use Rattle.delivery_laws.specs.right_laws.proofs.Replies.Blocks.{HasWhole, whole_always}
 use Rattle.delivery_laws.specs.scsi_device.proofs.FitLines.{command_fits, obeys_fits, seats_are}
 use Rattle.delivery_laws.specs.target_units.specs.Rooms.{AreOfLines}
 use Rattle.delivery_laws.specs.target_units.proofs.Rooms.{IsByLine, by_line, lines_always}
 use Rattle.initiator.specs.Received.{data_room}
-use Rattle.delivery_laws.specs.right_laws.proofs.ReplyLengths.{given_few, most_given, none_few}
+use Rattle.delivery_laws.specs.right_laws.proofs.Ran.Lengths.{given_few, most_given, none_few}
 use Rattle.bus_engine.proofs.ReplyRooms.{room_there}
 use Rattle.delivery_laws.proofs.SenseReplies.{execution_known, is_known}
 

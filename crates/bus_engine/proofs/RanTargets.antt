@@ -18,10 +18,10 @@ use Rattle.bus_due.specs.RunState.{RunState}
 use Rattle.bus_due.specs.RunSteps.{run_state}
 use Rattle.bus_due.proofs.Plains.{run_state_plain}
 use Rattle.delivery_laws.specs.trace_laws.proofs.Whole.{Whole, whole}
-use Rattle.delivery_laws.specs.right_laws.proofs.RowCrossings.{GoesSo, here_goes, known_served}
-use Rattle.delivery_laws.specs.right_laws.proofs.SentBytes.{answer_of}
-use Rattle.delivery_laws.specs.right_laws.proofs.ShownRows.{IsAnswer}
-use Rattle.delivery_laws.specs.right_laws.proofs.RanFacts.{run_either}
+use Rattle.delivery_laws.specs.right_laws.proofs.Ran.Crossings.{GoesSo, here_goes, known_served}
+use Rattle.delivery_laws.specs.right_laws.proofs.Ran.Sent.{answer_of}
+use Rattle.delivery_laws.specs.right_laws.proofs.Ran.Shown.{IsAnswer}
+use Rattle.delivery_laws.specs.right_laws.proofs.Ran.Facts.{run_either}
 use Rattle.delivery_laws.proofs.Present.{served_there}
 
 -- It runs with a row of a connection, whose target is there.

@@ -7,7 +7,7 @@ use Rattle.scenario.specs.Needs.{is_write, need_of}
 use Rattle.scenario.specs.Value.{ScenarioValue}
 use Rattle.scenario.specs.declared.value.CmdDef.{CmdDef}
 use Rattle.initiator.specs.Received.{data_room}
-use Rattle.delivery_laws.specs.right_laws.proofs.ReplyLengths.{most_given, need_is}
+use Rattle.delivery_laws.specs.right_laws.proofs.Ran.Lengths.{most_given, need_is}
 
 -- A command of a scenario needs 65536 bytes at most.
 pub room_there : (s : ScenarioValue) (c : CmdDef) (n : ℕ) → has_target s c.target ≡ true → need_of s c ≤ 65536 → n ≤ most_given (command_of c.cdb) (unit_of s c.target c.unit) → n ≤ data_room s c

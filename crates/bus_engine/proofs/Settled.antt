@@ -16,8 +16,8 @@ use Rattle.bus_due.specs.RunState.{RunState}
 use Rattle.bus_due.specs.bus_dialogue.specs.Wants.{OwnCommand}
 use Rattle.bus_due.specs.Wants.{own_command, own_commands}
 use Rattle.delivery_laws.specs.trace_laws.specs.ItemFacts.{Items}
-use Rattle.delivery_laws.specs.trace_laws.proofs.Impossible.{none_some}
-use Rattle.delivery_laws.specs.trace_laws.proofs.Tests.{plus_one}
+use Rattle.delivery_laws.specs.trace_laws.proofs.Common.Impossible.{none_some}
+use Rattle.delivery_laws.specs.trace_laws.proofs.Common.Tests.{plus_one}
 use Rattle.delivery_laws.specs.progress_laws.proofs.Answered.{AreUnwanted, sense_wanted}
 use Rattle.initiator.specs.declared.mine.Mine.{Mine}
 use Rattle.initiator.specs.Mines.{mine_of, mines_of}

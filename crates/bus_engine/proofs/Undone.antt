@@ -16,8 +16,8 @@ use Rattle.bus_due.specs.RunState.{RunState}
 use Rattle.bus_due.specs.RunSteps.{run_state}
 use Rattle.delivery_laws.specs.trace_laws.proofs.Whole.{Whole, standing_next, whole}
 use Rattle.delivery_laws.specs.right_laws.specs.Loads.{Load, UndoesLoads}
-use Rattle.delivery_laws.specs.right_laws.proofs.Carried.{same_is}
-use Rattle.delivery_laws.specs.right_laws.proofs.UndoneLoads.{load_asks}
+use Rattle.delivery_laws.specs.right_laws.proofs.Ran.Carried.{same_is}
+use Rattle.delivery_laws.specs.right_laws.proofs.Ran.Undone.{load_asks}
 use Rattle.delivery_laws.proofs.EndStatuses.{undo_loads}
 use Rattle.initiator.specs.Received.{has_bytes_of, undone_by, undoes_no_byte}
 

@@ -1,32 +1,12 @@
 -- What a row of lines does to the wishes of the devices, where no connection stands before it or after it.
-use Rattle.std.proofs.Common.{ℕ, ◌≡◌, ◌<◌, Bool, true, false, not, ◌&&◌, ◌∙◌, List, [], ◌∷◌, Option, None, refl, ap}
-use Rattle.std.specs.Prelude.{if◌then◌else◌, is_none}
-use Rattle.bus_due.specs.bus_base.specs.declared.Event.{Event}
-use Rattle.bus_due.specs.bus_base.specs.declared.Event.TheVariants as events
-use Rattle.bus_due.specs.bus_trace.specs.LineSet.{LineSet}
-use Rattle.bus_due.specs.bus_trace.specs.declared.Row.{Row}
-use Rattle.bus_due.specs.bus_trace.specs.Trace.{drives, bus}
-use Rattle.bus_due.specs.bus_trace.specs.declared.changes.Change.{Change}
-use Rattle.bus_due.specs.bus_trace.specs.declared.arbitration.Arbitration.{Arbitration}
-use Rattle.bus_due.specs.bus_trace.specs.declared.selection.Call.{Call}
-use Rattle.bus_due.specs.bus_trace.specs.Changes.{rises, falls, change_of}
-use Rattle.bus_due.specs.bus_trace.specs.Terms.{connection_after}
-use Rattle.bus_due.specs.scenario.specs.Value.{ScenarioValue}
-use Rattle.bus_due.specs.bus_story.specs.BusState.{RowReading, change_by, row_reading}
-use Rattle.bus_due.specs.bus_story.specs.Links.{Link}
-use Rattle.bus_due.specs.bus_story.specs.Story.{Story}
-use Rattle.bus_due.specs.bus_story.specs.HistoryEvents.{row_events_by, link_events}
-use Rattle.bus_due.specs.bus_story.specs.TraceHistory.{is_arbitration_entry, story_with_aim, story_after_calling, story_on_free_bus, story_on_bus, story_by_change}
-use Rattle.bus_due.specs.bus_story.proofs.StorySteps.{calling_link}
-use Rattle.bus_due.specs.RunState.{RunState, or_start}
-use Rattle.bus_due.specs.Wants.{want_time, ready_of, ready_among, ready_time, seek_of, item_want_time}
-use Rattle.bus_due.specs.RunSteps.{run_state, run_state_with_events}
-use Rattle.bus_due.specs.Plain.{AreOfDevices}
-use Rattle.bus_due.proofs.Plains.{run_state_plain, bus_state_is, change_same}
-use Rattle.bus_laws.proofs.Rows.{change_is}
-use Rattle.bus_laws.specs.Rows.{Stands, change_to, row_of_lines}
-use Rattle.bus_due.specs.bus_base.proofs.Tests.{and_more}
-use Rattle.bus_due.specs.disk_array.specs.Seats.{is_initiator}
+use Rattle.bus_laws.proofs
+use proofs.Names.{ℕ, ◌≡◌, ◌<◌, Bool, true, false, not, ◌&&◌, ◌∙◌, List, [], ◌∷◌, Option, None, refl, ap, if◌then◌else◌}
+use proofs.Names.{is_none, and_more, Event, rises, falls, change_of, LineSet, connection_after, drives, bus, Row}
+use proofs.Names.{Arbitration, Change, Call, ScenarioValue, is_initiator, calling_link, RowReading, change_by}
+use proofs.Names.{row_reading, row_events_by, link_events, Link, Story, is_arbitration_entry, story_with_aim}
+use proofs.Names.{story_after_calling, story_on_free_bus, story_on_bus, story_by_change, run_state_plain, bus_state_is}
+use proofs.Names.{change_same, AreOfDevices, RunState, or_start, run_state, run_state_with_events, want_time, ready_of}
+use proofs.{Names.{ready_among, ready_time, seek_of, item_want_time, Stands, change_to, row_of_lines}, Rows.{change_is}}
 
 -- What a row that shows nothing leaves of what is sent, of aims, of the link, of the array and of its times.
 pub record Leaves (k j : RunState) (b : Story) : Type 0 where
@@ -38,7 +18,7 @@ pub record Leaves (k j : RunState) (b : Story) : Type 0 where
 
 pub nothing_shown : (s : ScenarioValue) (b : Story) (d : RowReading) (row : Row) → d.change.after.rst ≡ false → b.link ≡ None → row_events_by s b d row ≡ []
 nothing_shown s b d row e f =
-    ap (λ (q : Bool). if q then (if rises d.change.own.rst d.change.next.rst then events.Reset row.dev ∷ [] else []) else link_events s b b.link d) e
+    ap (λ (q : Bool). if q then (if rises d.change.own.rst d.change.next.rst then Event.Reset row.dev ∷ [] else []) else link_events s b b.link d) e
     ∙ ap (λ (x : Option Link). link_events s b x d) f
 
 pub on_free : (s : ScenarioValue) (b : Story) (d : RowReading) (row : Row) → d.change.after.rst ≡ false → b.bus_state.connection ≡ None → d.next ≡ None → story_by_change s b d row ≡ story_on_free_bus s b d row

@@ -1,35 +1,12 @@
 -- What is due from the rise of SEL to its fall.
-use Rattle.std.proofs.Common.{ℕ, ◌≡◌, ◌≢◌, ◌<◌, ◌+◌, Bool, true, false, not, ◌==◌, ◌∙◌, List, Option, Some, None, refl, sym, ap, arith}
-use Rattle.std.specs.Prelude.{if◌then◌else◌, ◌&&◌, nat_lt}
-use Rattle.std.proofs.lemmas.Bool.Decides.{nat_tests}
-use Rattle.bus_due.specs.bus_trace.specs.LineSet.{LineSet, none, same_set, ids_set}
-use Rattle.bus_due.specs.bus_trace.specs.declared.Row.{Row}
-use Rattle.bus_due.specs.bus_trace.specs.Trace.{drives, since_line, line_times}
-use Rattle.bus_due.specs.bus_trace.specs.Terms.{connection}
-use Rattle.bus_due.specs.Sights.{want_of, flip_of}
-use Rattle.bus_due.specs.bus_trace.specs.declared.selection.Call.{Call}
-use Rattle.bus_due.specs.bus_trace.specs.declared.selection.Calling.{Calling}
-use Rattle.bus_due.specs.scenario.specs.Value.{ScenarioValue}
-use Rattle.bus_due.specs.bus_story.specs.Samples.{latency_of}
-use Rattle.bus_due.specs.bus_story.specs.TraceHistory.{aim_of}
-use Rattle.bus_due.specs.Wants.{callee}
-use Rattle.bus_due.specs.bus_reactions.specs.declared.due.Due.{Due}
-use Rattle.bus_due.specs.bus_reactions.specs.Reactions.{due_at, fault_or}
-use Rattle.bus_due.specs.bus_lines.specs.declared.stage.Stage.TheVariants.{InCalling, InAnswer}
-use Rattle.bus_due.specs.bus_lines.specs.Stage.{stage}
-use Rattle.bus_due.specs.bus_reactions.specs.FreeBus.{contender_lines}
-use Rattle.bus_due.specs.bus_reactions.specs.Calling.{answer, answered_due, loser_release, calling_start, caller_due, called_due, with_calling_mark}
-use Rattle.bus_due.specs.bus_reactions.specs.declared.due.Want.{Want}
-use Rattle.bus_due.specs.RunSteps.{run_state}
-use Rattle.bus_due.specs.Plain.{AreOfDevices}
-use Rattle.bus_due.specs.bus_trace.specs.declared.Kind.TheVariants.{Drives}
-use Rattle.bus_laws.specs.Reactions.{own_time}
-use Rattle.bus_laws.specs.Reactions.{device_with, unreset_due}
-use Rattle.bus_laws.proofs.Dues.{due_in, is_at, where_is}
-use Rattle.bus_laws.specs.Callings.{answer_lines, awaiting_call, begun_call, call_with, both_ids, won_call, withdrawn_call}
-use Rattle.std.proofs.lemmas.Bool.{ne_eqb}
-use Rattle.bus_due.specs.bus_base.proofs.Tests.{eq_self}
-use Rattle.bus_due.specs.disk_array.specs.Seats.{is_initiator}
+use Rattle.bus_laws.proofs
+use proofs.Names.{ℕ, ◌≡◌, ◌≢◌, ◌<◌, ◌+◌, Bool, true, false, not, ◌∙◌, List, Option, Some, None, refl, sym, ap, arith}
+use proofs.Names.{◌&&◌, ne_eqb, nat_tests, ◌==◌, if◌then◌else◌, nat_lt, eq_self, LineSet, none, same_set, ids_set}
+use proofs.Names.{connection, drives, since_line, line_times, Drives, Row, Call, Calling, stage, InCalling, InAnswer}
+use proofs.Names.{ScenarioValue, is_initiator, latency_of, aim_of, answer, answered_due, loser_release, calling_start}
+use proofs.Names.{caller_due, called_due, with_calling_mark, contender_lines, due_at, fault_or, Due, Want, AreOfDevices}
+use proofs.Names.{run_state, want_of, flip_of, callee, answer_lines, awaiting_call, begun_call, call_with, both_ids}
+use proofs.{Names.{won_call, withdrawn_call, own_time, device_with, unreset_due}, Dues.{due_in, is_at, where_is}}
 
 -- What a device wants, and the fault that would strike it where it samples the IDs.
 abbrev pub want_at : ScenarioValue → List Row → ℕ → Want

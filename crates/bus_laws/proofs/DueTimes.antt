@@ -1,48 +1,20 @@
 -- What is due comes within the longest delay of the rows and of the times of the scenario; and so do the rows of a prompt trace.
-use Rattle.std.proofs.Common.{ℕ, ◌≡◌, ◌<◌, ◌≤◌, ◌+◌, ◌*◌, ◌^◌, Bool, true, false, List, [], ◌∷◌, Option, Some, None, refl, sym, ap, subst, arith, length}
-use Rattle.std.specs.Prelude.{if◌then◌else◌, ◌==◌, nat_lt}
-use Rattle.std.specs.List.{find, AllByRecursion}
-use Rattle.bus_due.specs.bus_trace.specs.View.{AreTimesBefore}
-use Rattle.bus_due.specs.bus_trace.specs.declared.Row.{Row}
-use Rattle.bus_due.specs.bus_trace.specs.declared.line_times.LineTimes.{LineTimes}
-use Rattle.bus_due.specs.bus_trace.specs.declared.agreements.TransferTimes.{TransferTimes}
-use Rattle.bus_due.specs.bus_trace.specs.declared.connection.Connection.{Connection}
-use Rattle.bus_due.specs.bus_trace.specs.Agreements.{fast_times, slow_times, times_or_slow, times_of}
-use Rattle.bus_due.specs.bus_phases.specs.declared.dialogue.Dialogue.{Dialogue}
-use Rattle.bus_due.specs.bus_lines.specs.declared.stage.Stage.{Stage}
-use Rattle.bus_due.specs.bus_lines.specs.Handshakes.{Handshakes}
-use Rattle.bus_due.specs.bus_lines.specs.Timely.{IsBefore, IsStageBefore, AreHandshakesBefore}
-use Rattle.bus_due.specs.scenario.specs.declared.value.HostDef.{HostDef}
-use Rattle.bus_due.specs.scenario.specs.declared.value.TargetDef.{TargetDef}
-use Rattle.bus_due.specs.scenario.specs.Value.{ScenarioValue}
-use Rattle.bus_due.specs.scenario.specs.Writing.{Obeys}
-use Rattle.bus_due.specs.disk_array.specs.Units.{Array, RunningProcess, is_held, unit_state_at}
-use Rattle.bus_due.specs.disk_array.specs.Seats.{current_of, is_initiator}
-use Rattle.bus_due.specs.bus_story.specs.Samples.{latency_of}
-use Rattle.bus_due.specs.bus_reactions.specs.declared.due.Myself.{Myself}
-use Rattle.bus_due.specs.bus_reactions.specs.Linking.{sample_time}
-use Rattle.bus_due.specs.bus_dialogue.specs.Wants.{Ready, ready_in, first_ready, is_ready_before}
-use Rattle.bus_due.specs.bus_dialogue.specs.Ends.{lag_by, seek_by}
-use Rattle.bus_due.specs.Own.{Own, own_at}
-use Rattle.bus_due.specs.RunState.{RunState, bus_of, array_of, agreement_of}
-use Rattle.bus_due.specs.RunSteps.{run_state}
-use Rattle.bus_due.specs.Wants.{item_want_time, since_of, seek_of, ready_at, ready_among, ready_of, ready_time, want_time}
-use Rattle.bus_due.specs.Sights.{sight_of, stage_of, want_of, flip_of, pace_of, offering_of, answering_of}
-use Rattle.bus_due.specs.Defs.{target_def_of}
-use Rattle.bus_due.specs.Connected.{is_receiver, end_due, connected_due}
-use Rattle.bus_due.specs.Due.{reset_from, self_of, link_due_of, stage_due, calm_due, device_due, due_if}
-use Rattle.bus_due.specs.Next.{due, IsPrompt}
-use Rattle.bus_due.specs.Plain.{AreOfDevices}
-use Rattle.bus_due.proofs.Plains.{run_state_plain}
-use Rattle.scsi_device.specs.Lines.{IsHostLine, IsTargetLine, FitsBus}
-use Rattle.scsi_device.proofs.FitLines.{obeys_fits}
-use Rattle.scsi_device.proofs.WantTimes.{wants_before, next_reset_before}
-use Rattle.bus_laws.proofs.ReactionTimes.{IsDueBefore, none_before, if_before, IsShortPace, AreAllBefore, longest, target_before, initiator_before, link_before, sample_before, reset_before}
-use Rattle.bus_laws.proofs.RowTimes.{ages_before, handshakes_before, stage_before, IsOwnBefore, own_before, current_before, since_before, AreNumbersBefore}
-use Rattle.bus_laws.proofs.Periods.{period_is_byte}
-use Rattle.bus_laws.proofs.Limits.{latency_within}
-use Rattle.bus_laws.proofs.Prompt.{least_is}
-use Rattle.bus_due.specs.bus_lines.proofs.Times.{ComeBefore, last_before}
+use Rattle.bus_laws.proofs
+use proofs.Names.{ℕ, ◌≡◌, ◌<◌, ◌≤◌, ◌+◌, ◌*◌, ◌^◌, Bool, true, false, List, [], ◌∷◌, Option, Some, None, refl, sym, ap}
+use proofs.Names.{subst, arith, length, find, AllByRecursion, if◌then◌else◌, ◌==◌, nat_lt, fast_times, slow_times}
+use proofs.Names.{times_or_slow, times_of, AreTimesBefore, Row, TransferTimes, Connection, LineTimes, ComeBefore}
+use proofs.Names.{last_before, Handshakes, IsBefore, IsStageBefore, AreHandshakesBefore, Stage, Dialogue, ScenarioValue}
+use proofs.Names.{Obeys, HostDef, TargetDef, current_of, is_initiator, Array, RunningProcess, is_held, unit_state_at}
+use proofs.Names.{latency_of, sample_time, Myself, lag_by, seek_by, Ready, ready_in, first_ready, is_ready_before}
+use proofs.Names.{run_state_plain, is_receiver, end_due, connected_due, target_def_of, reset_from, self_of, link_due_of}
+use proofs.Names.{stage_due, calm_due, device_due, due_if, due, IsPrompt, Own, own_at, AreOfDevices, RunState, bus_of}
+use proofs.Names.{array_of, agreement_of, run_state, sight_of, stage_of, want_of, flip_of, pace_of, offering_of}
+use proofs.Names.{answering_of, item_want_time, since_of, seek_of, ready_at, ready_among, ready_of, ready_time}
+use proofs.Names.{want_time, obeys_fits, wants_before, next_reset_before, IsHostLine, IsTargetLine, FitsBus}
+use proofs.{Limits.{latency_within}, Periods.{period_is_byte}, Prompt.{least_is}, ReactionTimes.{IsDueBefore}}
+use proofs.ReactionTimes.{none_before, if_before, IsShortPace, AreAllBefore, longest, target_before, initiator_before}
+use proofs.{ReactionTimes.{link_before, sample_before, reset_before}, RowTimes.{ages_before, handshakes_before}}
+use proofs.RowTimes.{stage_before, IsOwnBefore, own_before, current_before, since_before, AreNumbersBefore}
 
 -- ---- ready units
 

@@ -1,36 +1,12 @@
 -- What is due, in each stage and by what a device drives.
-use Rattle.std.proofs.Common.{ℕ, ◌≡◌, ◌≤◌, ◌<◌, ◌+◌, Bool, true, false, not, ◌∙◌, List, Option, Some, None, refl, sym, ap, arith}
-use Rattle.std.specs.Prelude.{max}
-use Rattle.bus_due.specs.bus_trace.specs.LineSet.{LineSet, none, has_id_above}
-use Rattle.bus_due.specs.bus_trace.specs.declared.Row.{Row}
-use Rattle.bus_due.specs.bus_trace.specs.declared.Kind.{Kind}
-use Rattle.bus_due.specs.bus_trace.specs.declared.Kind.TheVariants.{Drives, Fault}
-use Rattle.bus_due.specs.bus_trace.specs.Trace.{drives, bus}
-use Rattle.bus_due.specs.scenario.specs.Value.{ScenarioValue}
-use Rattle.bus_due.specs.bus_story.specs.Samples.{latency_of}
-use Rattle.bus_due.specs.bus_trace.specs.declared.arbitration.Arbitration.{Arbitration}
-use Rattle.bus_due.specs.Own.{Own}
-use Rattle.bus_due.specs.bus_reactions.specs.declared.due.Due.{Due}
-use Rattle.bus_due.specs.bus_reactions.specs.declared.due.Myself.{Myself}
-use Rattle.bus_due.specs.bus_reactions.specs.Reactions.{due_at, due_where}
-use Rattle.bus_due.specs.bus_lines.specs.declared.stage.Stage.{Stage}
-use Rattle.bus_due.specs.bus_lines.specs.declared.stage.Stage.TheVariants.{OnFreeBus, InArbitration, InReset}
-use Rattle.bus_due.specs.bus_lines.specs.Stage.{stage, stage_by}
-use Rattle.bus_due.specs.RunState.{bus_of}
-use Rattle.bus_due.specs.Wants.{want_time}
-use Rattle.bus_due.specs.bus_reactions.specs.FreeBus.{contender_lines, free_due, later_entry_if}
-use Rattle.bus_due.specs.RunSteps.{run_state}
-use Rattle.bus_due.specs.Due.{self_of, stage_due, link_due_of}
-use Rattle.bus_due.specs.Sights.{sight_of, want_of, flip_of}
-use Rattle.bus_due.specs.bus_reactions.specs.declared.sight.Sight.{Sight}
-use Rattle.bus_due.specs.bus_reactions.specs.Linking.{bus_clear, link_due_by, link_due, sample_time}
-use Rattle.bus_due.specs.bus_trace.specs.Terms.{connection, call, arbitration, free_since}
-use Rattle.bus_due.specs.bus_trace.specs.Trace.{line_times}
-use Rattle.bus_due.specs.Plain.{AreOfDevices}
-use Rattle.bus_due.proofs.Plains.{run_state_plain}
-use Rattle.bus_laws.specs.Reactions.{own_time}
-use Rattle.bus_laws.specs.Reactions.{device_with, unreset_due_if, unreset_due}
-use Rattle.std.proofs.lemmas.Bool.{not-true, leb-true}
+use Rattle.bus_laws.proofs
+use proofs.Names.{ℕ, ◌≡◌, ◌≤◌, ◌<◌, ◌+◌, Bool, true, false, not, ◌∙◌, List, Option, Some, None, refl, sym, ap, arith}
+use proofs.Names.{not-true, leb-true, max, LineSet, none, has_id_above, connection, call, arbitration, free_since}
+use proofs.Names.{drives, bus, line_times, Kind, Drives, Fault, Row, Arbitration, stage, stage_by, Stage, OnFreeBus}
+use proofs.Names.{InArbitration, InReset, ScenarioValue, latency_of, contender_lines, free_due, later_entry_if}
+use proofs.Names.{bus_clear, link_due_by, link_due, sample_time, due_at, due_where, Due, Myself, Sight, run_state_plain}
+use proofs.Names.{self_of, stage_due, link_due_of, Own, AreOfDevices, bus_of, run_state, sight_of, want_of, flip_of}
+use proofs.Names.{want_time, own_time, device_with, unreset_due_if, unreset_due}
 
 abbrev seen_at : List Row → Stage → Sight
 seen_at p g = record { bus = bus p; ages = line_times p; stage = g }

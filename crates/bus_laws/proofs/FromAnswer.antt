@@ -1,53 +1,20 @@
 -- A row that ends a calling: after the answer, or without one.
-use Rattle.std.proofs.Common.{inl, inr, ℕ, ◌≡◌, ◌≢◌, ◌<◌, ◌≤◌, ◌+◌, Bool, true, false, not, ◌&&◌, ◌==◌, ◌∙◌, List, ◌∷◌, Option, Some, None, refl, sym, ap, subst, arith}
-use Rattle.std.specs.Prelude.{if◌then◌else◌}
-use Rattle.std.specs.Int.Bits.{or_zero_r}
-use Rattle.std.proofs.lemmas.Bool.{cases_eq}
-use Rattle.std.proofs.lemmas.Option.{none-some}
-use Rattle.bus_due.specs.bus_trace.specs.LineSet.{LineSet, none, union}
-use Rattle.bus_due.specs.bus_trace.specs.declared.Row.{Row}
-use Rattle.bus_due.specs.bus_trace.specs.declared.Kind.TheVariants.{Drives}
-use Rattle.bus_due.specs.bus_trace.specs.Trace.{drives, bus, since, since_line}
-use Rattle.bus_due.specs.bus_trace.proofs.Buses.{bus_one, bus_two}
-use Rattle.bus_due.specs.bus_trace.specs.declared.selection.Call.{Call}
-use Rattle.bus_due.specs.bus_trace.specs.declared.selection.Calling.{Calling}
-use Rattle.bus_due.specs.bus_trace.specs.Terms.{call, when}
-use Rattle.bus_due.specs.scenario.specs.Value.{ScenarioValue}
-use Rattle.bus_due.specs.bus_story.specs.Samples.{latency_of}
-use Rattle.bus_due.specs.bus_reactions.specs.declared.due.Due.{Due}
-use Rattle.bus_due.specs.bus_lines.specs.declared.stage.Stage.TheVariants.{InCalling, InAnswer}
-use Rattle.bus_due.specs.bus_lines.specs.Stage.{stage}
-use Rattle.bus_due.specs.RunSteps.{run_state}
-use Rattle.bus_due.specs.Least.{IsLeast}
-use Rattle.bus_due.specs.Plain.{AreOfDevices}
-use Rattle.bus_laws.specs.Reactions.{own_time, device_with}
-use Rattle.bus_due.specs.bus_reactions.specs.Calling.{answered_due}
-use Rattle.bus_due.specs.bus_reactions.specs.declared.due.Want.{Want}
-use Rattle.bus_laws.specs.Reactions.{unreset_due}
-use Rattle.bus_laws.proofs.Rows.{change_is, stands_after, stage_is, since_is, drives_own, drives_other, own_time_own}
-use Rattle.bus_laws.proofs.Seens.{obeys_apart, duty_none, pulses_none}
-use Rattle.bus_laws.specs.Ends.{by_selection, by_reselection}
-use Rattle.bus_due.specs.bus_phases.specs.Phases.{pulses, pulses_after, duty, duty_after, duty_left, turned, turned_after, is_attention_held}
-use Rattle.bus_due.specs.bus_lines.specs.Handshakes.{handshakes, handshakes_after}
-use Rattle.bus_due.specs.bus_dialogue.specs.Hearing.{begun, begun_after}
-use Rattle.bus_laws.proofs.Obeys.{give_up_obeys, selected, selection_end_obeys, takeover_obeys, reselected_lines, reselection_end_obeys}
-use Rattle.bus_laws.proofs.Dues.{is_there, is_at}
-use Rattle.bus_laws.proofs.CallDues.{gives_up_due, after_withdrawal_due, goes_on_due, waiting_due, apart_due, want_at}
-use Rattle.bus_laws.proofs.Apart.{still_row_keeps, missed_row_keeps}
-use Rattle.bus_laws.proofs.FromWon.{quiet_others}
-use Rattle.bus_laws.proofs.FromCalling.{only_caller}
-use Rattle.bus_due.specs.bus_trace.specs.declared.connection.Connection.{Connection}
-use Rattle.bus_due.specs.bus_trace.specs.LineSet.{byte_set}
-use Rattle.bus_due.specs.bus_trace.specs.Changes.{rises}
-use Rattle.bus_due.specs.bus_trace.specs.Terms.{free_since, connected, receiver_of}
-use Rattle.bus_due.specs.bus_rules.specs.Seen.{others_in_call}
-use Rattle.bus_due.specs.bus_lines.specs.declared.stage.Stage.TheVariants.{OnFreeBus}
-use Rattle.bus_due.specs.Wants.{want_time}
-use Rattle.bus_laws.proofs.Dues.{is_entry, free_due_is}
-use Rattle.bus_laws.specs.Stages.{CalmStanding, IsAnswered, Calls, NextCalmRow, on_free_bus, in_connection, after_takeover}
-use Rattle.bus_laws.specs.Rows.{Stands, row_of_lines}
-use Rattle.bus_laws.specs.Callings.{answer_lines, answered_calling, calling_lines, call_with, resumed_calling, withdrawn_call}
-use Rattle.bus_due.specs.bus_base.proofs.Tests.{eq_self}
+use Rattle.bus_laws.proofs
+use proofs.Names.{inl, inr, ℕ, ◌≡◌, ◌≢◌, ◌<◌, ◌≤◌, ◌+◌, Bool, true, false, not, ◌&&◌, ◌∙◌, List, ◌∷◌, Option, Some}
+use proofs.Names.{None, refl, sym, ap, subst, arith, cases_eq, none-some, or_zero_r, ◌==◌, if◌then◌else◌, eq_self}
+use proofs.Names.{bus_one, bus_two, rises, LineSet, none, union, byte_set, call, when, free_since, connected}
+use proofs.Names.{receiver_of, drives, bus, since, since_line, Drives, Row, Connection, Call, Calling, handshakes}
+use proofs.Names.{handshakes_after, stage, InCalling, InAnswer, OnFreeBus, pulses, pulses_after, duty, duty_after}
+use proofs.Names.{duty_left, turned, turned_after, is_attention_held, others_in_call, ScenarioValue, latency_of}
+use proofs.Names.{answered_due, Due, Want, begun, begun_after, IsLeast, AreOfDevices, run_state, want_time}
+use proofs.Names.{answer_lines, answered_calling, calling_lines, call_with, resumed_calling, withdrawn_call}
+use proofs.Names.{by_selection, by_reselection, own_time, device_with, unreset_due, Stands, row_of_lines, CalmStanding}
+use proofs.{Names.{IsAnswered, Calls, NextCalmRow, on_free_bus, in_connection, after_takeover}, Apart.{still_row_keeps}}
+use proofs.{Apart.{missed_row_keeps}, CallDues.{gives_up_due, after_withdrawal_due, goes_on_due, waiting_due}}
+use proofs.{CallDues.{apart_due, want_at}, Dues.{is_there, is_at, is_entry, free_due_is}, FromCalling.{only_caller}}
+use proofs.{FromWon.{quiet_others}, Obeys.{give_up_obeys, selected, selection_end_obeys, takeover_obeys}}
+use proofs.{Obeys.{reselected_lines, reselection_end_obeys}, Rows.{change_is, stands_after, stage_is, since_is}}
+use proofs.{Rows.{drives_own, drives_other, own_time_own}, Seens.{obeys_apart, duty_none, pulses_none}}
 
 none_link : (n : Connection) → (let a : Option Connection = Some n in a) ≡ None → ⊥
 none_link n e = absurd cc

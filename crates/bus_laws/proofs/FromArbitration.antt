@@ -1,36 +1,16 @@
 -- A row in an arbitration: a later entry, or the rise of SEL.
-use Rattle.std.proofs.Common.{◌⊎◌, inl, inr, ℕ, ◌≡◌, ◌≢◌, ◌<◌, ◌≤◌, ◌+◌, true, false, ◌∙◌, List, ◌∷◌, Some, None, refl, sym, ap, subst, arith}
-use Rattle.std.proofs.lemmas.Bool.{cases_eq}
-use Rattle.bus_due.specs.bus_trace.specs.LineSet.{LineSet, none, has_id_above}
-use Rattle.bus_due.specs.bus_trace.specs.declared.Row.{Row}
-use Rattle.bus_due.specs.bus_trace.specs.declared.Kind.TheVariants.{Drives}
-use Rattle.bus_due.specs.bus_trace.specs.Trace.{drives, bus, since_line}
-use Rattle.bus_due.specs.bus_trace.specs.declared.arbitration.Arbitration.{Arbitration}
-use Rattle.bus_due.specs.bus_trace.specs.Terms.{raised, raised_next}
-use Rattle.bus_due.specs.scenario.specs.Value.{ScenarioValue}
-use Rattle.bus_due.specs.bus_story.specs.TraceHistory.{aim_of}
-use Rattle.bus_due.specs.bus_story.specs.Samples.{latency_of}
-use Rattle.bus_due.specs.bus_reactions.specs.declared.due.Due.{Due}
-use Rattle.bus_due.specs.bus_lines.specs.declared.stage.Stage.TheVariants.{InArbitration, InCalling}
-use Rattle.bus_due.specs.bus_lines.specs.Stage.{stage}
-use Rattle.bus_due.specs.bus_reactions.specs.FreeBus.{contender_lines, later_entry_if}
-use Rattle.bus_due.specs.Wants.{want_time, callee}
-use Rattle.bus_due.specs.RunSteps.{run_state}
-use Rattle.bus_due.specs.Least.{IsLeast}
-use Rattle.bus_due.specs.Plain.{AreOfDevices}
-use Rattle.bus_laws.specs.Reactions.{own_time}
-use Rattle.bus_laws.specs.Reactions.{device_with, unreset_due}
-use Rattle.bus_laws.proofs.Rows.{stands_after, stage_is, since_is, drives_own, drives_other, own_time_own, own_time_other, raised_own, raised_other}
-use Rattle.bus_laws.proofs.Held.{ContendsOrNot, entries_is, winner_is}
-use Rattle.bus_laws.proofs.Seens.{obeys_apart}
-use Rattle.bus_laws.proofs.Obeys.{late_entry_obeys, win_obeys}
-use Rattle.bus_laws.proofs.Dues.{is_there, is_at, is_entry, is_entry_in, win_due, idle_due, same_entry_in}
-use Rattle.bus_laws.proofs.CallDues.{loser_due, quiet_due, calls_due, is_calling}
-use Rattle.bus_laws.proofs.Apart.{entry_row_keeps, still_row_keeps}
-use Rattle.bus_laws.proofs.FromFree.{row_is}
-use Rattle.bus_laws.specs.Stages.{CalmStanding, Arbitrating, IsContender, NextCalmRow, IsLoser, in_arbitration, after_arbitration}
-use Rattle.bus_laws.specs.Rows.{Stands, row_of_lines}
-use Rattle.bus_laws.specs.Callings.{arbitration_bus, won_call, won_bus}
+use Rattle.bus_laws.proofs
+use proofs.Names.{◌⊎◌, inl, inr, ℕ, ◌≡◌, ◌≢◌, ◌<◌, ◌≤◌, ◌+◌, true, false, ◌∙◌, List, ◌∷◌, Some, None, refl, sym, ap}
+use proofs.Names.{subst, arith, cases_eq, LineSet, none, has_id_above, raised, raised_next, drives, bus, since_line}
+use proofs.Names.{Drives, Row, Arbitration, stage, InArbitration, InCalling, ScenarioValue, latency_of, aim_of}
+use proofs.Names.{contender_lines, later_entry_if, Due, IsLeast, AreOfDevices, run_state, want_time, callee}
+use proofs.Names.{arbitration_bus, won_call, won_bus, own_time, device_with, unreset_due, Stands, row_of_lines}
+use proofs.Names.{CalmStanding, Arbitrating, IsContender, NextCalmRow, IsLoser, in_arbitration, after_arbitration}
+use proofs.{Apart.{entry_row_keeps, still_row_keeps}, CallDues.{loser_due, quiet_due, calls_due, is_calling}}
+use proofs.{Dues.{is_there, is_at, is_entry, is_entry_in, win_due, idle_due, same_entry_in}, FromFree.{row_is}}
+use proofs.{Held.{ContendsOrNot, entries_is, winner_is}, Obeys.{late_entry_obeys, win_obeys}, Rows.{stands_after}}
+use proofs.Rows.{stage_is, since_is, drives_own, drives_other, own_time_own, own_time_other, raised_own, raised_other}
+use proofs.Seens.{obeys_apart}
 
 contends_or_not_of : (s : ScenarioValue) (p : List Row) (a : Arbitration) (e : ℕ) → (drives p e ≡ none) ⊎ IsContender s p a e → ContendsOrNot p e
 contends_or_not_of s p a e (inl n) = inl n

@@ -1,47 +1,20 @@
 -- A row in a calling, until the answer.
-use Rattle.std.proofs.Common.{◌⊎◌, inl, inr, ℕ, ◌≡◌, ◌≢◌, ◌<◌, ◌≤◌, ◌+◌, ◌^◌, Bool, true, false, not, ◌||◌, ◌&&◌, ◌==◌, ◌∙◌, List, ◌∷◌, Option, Some, None, refl, sym, ap, subst, arith}
-use Rattle.std.specs.Prelude.{if◌then◌else◌}
-use Rattle.std.specs.Int.{bit_at}
-use Rattle.std.specs.Int.Bits.{or_zero_r}
-use Rattle.std.proofs.lemmas.Bool.{cases_eq, ne_eqb}
-use Rattle.std.proofs.lemmas.Bool.Decides.{nat_tests}
-use Rattle.std.proofs.lemmas.Option.{none-some}
-use Rattle.bus_due.specs.bus_trace.specs.LineSet.{LineSet, none, union, line_of}
-use Rattle.bus_due.specs.bus_trace.specs.declared.Row.{Row}
-use Rattle.bus_due.specs.bus_trace.specs.declared.Kind.TheVariants.{Drives, Fault}
-use Rattle.bus_due.specs.bus_trace.specs.Trace.{drives, bus, since, since_line, line_times}
-use Rattle.bus_due.specs.bus_trace.proofs.Ages.{since_le, since_line_le}
-use Rattle.bus_due.specs.bus_trace.proofs.Buses.{bus_one, bus_two}
-use Rattle.bus_due.specs.bus_trace.proofs.Ids.{has_id-ids_set}
-use Rattle.bus_due.specs.bus_trace.specs.declared.selection.Call.{Call}
-use Rattle.bus_due.specs.bus_trace.specs.declared.selection.Calling.{Calling}
-use Rattle.bus_due.specs.bus_trace.specs.declared.changes.Change.{Change}
-use Rattle.bus_due.specs.bus_trace.specs.Changes.{change_of}
-use Rattle.bus_due.specs.bus_trace.proofs.OneRow.{drives-fault}
-use Rattle.bus_due.specs.bus_trace.specs.Terms.{call, when}
-use Rattle.bus_due.specs.scenario.specs.Value.{ScenarioValue}
-use Rattle.bus_due.specs.bus_story.specs.Samples.{latency_of}
-use Rattle.bus_due.specs.bus_reactions.specs.declared.due.Due.{Due}
-use Rattle.bus_due.specs.bus_reactions.specs.Reactions.{due_at, fault_or}
-use Rattle.bus_due.specs.bus_lines.specs.declared.stage.Stage.TheVariants.{InCalling, InAnswer}
-use Rattle.bus_due.specs.bus_lines.specs.Stage.{stage}
-use Rattle.bus_due.specs.Least.{IsLeast}
-use Rattle.bus_due.specs.Plain.{AreOfDevices}
-use Rattle.bus_laws.specs.Reactions.{own_time, device_with}
-use Rattle.bus_due.specs.bus_reactions.specs.Calling.{answered_due}
-use Rattle.bus_due.specs.bus_reactions.specs.declared.due.Want.{Want}
-use Rattle.bus_laws.specs.Reactions.{unreset_due}
-use Rattle.bus_laws.proofs.Rows.{fault_change, stands_by, since_same, stands_after, stage_is, since_is, drives_own, drives_other, own_time_own}
-use Rattle.bus_laws.proofs.Seens.{obeys_apart, obeys_by}
-use Rattle.bus_laws.proofs.Obeys.{asks_obeys, answer_obeys, struck_obeys, withdrawal_obeys}
-use Rattle.bus_laws.proofs.Dues.{is_there, is_at}
-use Rattle.bus_laws.proofs.CallDues.{struck_due, gives_up_due, after_withdrawal_due, asks_due, before_due, waits_due, answers_due, aside_due, goes_on_due, waiting_due, apart_due, want_at, flip_at}
-use Rattle.bus_laws.proofs.Apart.{still_row_keeps, still_keeps}
-use Rattle.bus_laws.proofs.FromWon.{quiet_others}
-use Rattle.bus_laws.specs.Stages.{CalmStanding, AwaitsAnswer, Calls, HasShortLatencies, NextCalmRow, after_answer, awaiting_answer, after_withdrawal}
-use Rattle.bus_laws.specs.Rows.{Stands, change_to, row_of_fault, row_of_lines}
-use Rattle.bus_laws.specs.Callings.{answer_lines, answered_calling, awaiting_call, begun_call, calling_lines, call_with, both_ids, new_calling_at, withdrawn_call}
-use Rattle.bus_due.specs.bus_base.proofs.Tests.{eq_self}
+use Rattle.bus_laws.proofs
+use proofs.Names.{◌⊎◌, inl, inr, ℕ, ◌≡◌, ◌≢◌, ◌<◌, ◌≤◌, ◌+◌, ◌^◌, Bool, true, false, not, ◌||◌, ◌&&◌, ◌∙◌, List, ◌∷◌}
+use proofs.Names.{Option, Some, None, refl, sym, ap, subst, arith, cases_eq, ne_eqb, nat_tests, none-some, bit_at}
+use proofs.Names.{or_zero_r, ◌==◌, if◌then◌else◌, eq_self, since_le, since_line_le, bus_one, bus_two, has_id-ids_set}
+use proofs.Names.{drives-fault, change_of, LineSet, none, union, line_of, call, when, drives, bus, since, since_line}
+use proofs.Names.{line_times, Drives, Fault, Row, Change, Call, Calling, stage, InCalling, InAnswer, ScenarioValue}
+use proofs.Names.{latency_of, answered_due, due_at, fault_or, Due, Want, IsLeast, AreOfDevices, answer_lines}
+use proofs.Names.{answered_calling, awaiting_call, begun_call, calling_lines, call_with, both_ids, new_calling_at}
+use proofs.Names.{withdrawn_call, own_time, device_with, unreset_due, Stands, change_to, row_of_fault, row_of_lines}
+use proofs.Names.{CalmStanding, AwaitsAnswer, Calls, HasShortLatencies, NextCalmRow, after_answer, awaiting_answer}
+use proofs.{Names.{after_withdrawal}, Apart.{still_row_keeps, still_keeps}, CallDues.{struck_due, gives_up_due}}
+use proofs.CallDues.{after_withdrawal_due, asks_due, before_due, waits_due, answers_due, aside_due, goes_on_due}
+use proofs.{CallDues.{waiting_due, apart_due, want_at, flip_at}, Dues.{is_there, is_at}, FromWon.{quiet_others}}
+use proofs.{Obeys.{asks_obeys, answer_obeys, struck_obeys, withdrawal_obeys}, Rows.{fault_change, stands_by}}
+use proofs.Rows.{since_same, stands_after, stage_is, since_is, drives_own, drives_other, own_time_own}
+use proofs.Seens.{obeys_apart, obeys_by}
 
 -- no device but the caller drives anything
 pub only_caller : (s : ScenarioValue) (p : List Row) (k : Call) (c d : ℕ) (x b : LineSet) → Calls s p k c d x none b → (e : ℕ) → e < 8 → e ≢ c → drives p e ≡ none

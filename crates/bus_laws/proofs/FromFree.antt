@@ -1,32 +1,13 @@
 -- A row on a free bus.
-use Rattle.std.proofs.Common.{inl, inr, ℕ, ◌≡◌, ◌≢◌, ◌<◌, ◌≤◌, ◌+◌, true, false, ◌∙◌, List, ◌∷◌, Some, None, refl, sym, ap, subst, arith}
-use Rattle.std.proofs.lemmas.Bool.{cases_eq}
-use Rattle.bus_due.specs.bus_trace.specs.LineSet.{LineSet, none}
-use Rattle.bus_due.specs.bus_trace.specs.declared.Row.{Row}
-use Rattle.bus_due.specs.bus_trace.specs.declared.Kind.TheVariants.{Drives}
-use Rattle.bus_due.specs.bus_trace.specs.Trace.{drives, bus}
-use Rattle.bus_due.specs.bus_trace.proofs.Buses.{bus_one}
-use Rattle.bus_due.specs.bus_trace.specs.declared.arbitration.Arbitration.{Arbitration}
-use Rattle.bus_due.specs.bus_trace.specs.Terms.{free_since, raised, raised_next}
-use Rattle.bus_due.specs.scenario.specs.Value.{ScenarioValue}
-use Rattle.bus_due.specs.bus_reactions.specs.declared.due.Due.{Due}
-use Rattle.bus_due.specs.bus_lines.specs.declared.stage.Stage.TheVariants.{OnFreeBus, InArbitration}
-use Rattle.bus_due.specs.bus_lines.specs.Stage.{stage}
-use Rattle.bus_due.specs.bus_reactions.specs.FreeBus.{contender_lines, free_due}
-use Rattle.bus_due.specs.Wants.{want_time}
-use Rattle.bus_due.specs.RunSteps.{run_state}
-use Rattle.bus_due.specs.Least.{IsLeast}
-use Rattle.bus_due.specs.Plain.{AreOfDevices}
-use Rattle.bus_laws.specs.Reactions.{own_time}
-use Rattle.bus_laws.specs.Reactions.{device_with, unreset_due}
-use Rattle.bus_laws.proofs.Rows.{stands_after, stage_is, drives_own, drives_other, own_time_own, raised_own}
-use Rattle.bus_laws.proofs.Seens.{obeys_apart}
-use Rattle.bus_laws.proofs.Obeys.{entry_obeys}
-use Rattle.bus_laws.proofs.Dues.{is_there, is_entry, is_entry_in, win_due, idle_due, free_due_is, same_entry}
-use Rattle.bus_laws.proofs.Apart.{entry_row_keeps}
-use Rattle.bus_laws.specs.Stages.{CalmStanding, IsContender, FreeBus, NextCalmRow, in_arbitration}
-use Rattle.bus_laws.specs.Rows.{Stands, row_of_lines}
-use Rattle.bus_laws.specs.Callings.{arbitration_bus}
+use Rattle.bus_laws.proofs
+use proofs.Names.{inl, inr, ℕ, ◌≡◌, ◌≢◌, ◌<◌, ◌≤◌, ◌+◌, true, false, ◌∙◌, List, ◌∷◌, Some, None, refl, sym, ap, subst}
+use proofs.Names.{arith, cases_eq, bus_one, LineSet, none, free_since, raised, raised_next, drives, bus, Drives, Row}
+use proofs.Names.{Arbitration, stage, OnFreeBus, InArbitration, ScenarioValue, contender_lines, free_due, Due, IsLeast}
+use proofs.Names.{AreOfDevices, run_state, want_time, arbitration_bus, own_time, device_with, unreset_due, Stands}
+use proofs.Names.{row_of_lines, CalmStanding, IsContender, FreeBus, NextCalmRow, in_arbitration}
+use proofs.{Apart.{entry_row_keeps}, Dues.{is_there, is_entry, is_entry_in, win_due, idle_due, free_due_is, same_entry}}
+use proofs.{Obeys.{entry_obeys}, Rows.{stands_after, stage_is, drives_own, drives_other, own_time_own, raised_own}}
+use proofs.Seens.{obeys_apart}
 
 -- a row whose kind is run_state
 pub row_is : (row : Row) (l : LineSet) → row.kind ≡ Drives l → row ≡ row_of_lines row.time row.dev l

@@ -1,40 +1,13 @@
 -- A row under RST, and one that raises it.
-use Rattle.std.proofs.Common.{inl, inr, ℕ, ◌≡◌, ◌<◌, ◌≤◌, Bool, true, false, ◌∙◌, List, [], ◌∷◌, Option, Some, None, refl, sym, ap, arith}
-use Rattle.std.specs.Prelude.{if◌then◌else◌}
-use Rattle.std.proofs.lemmas.Bool.{cases_eq}
-use Rattle.bus_due.specs.bus_base.specs.declared.Event.TheVariants as events
-use Rattle.bus_due.specs.bus_trace.specs.LineSet.{LineSet}
-use Rattle.bus_due.specs.bus_trace.proofs.Buses.{bus_on}
-use Rattle.bus_due.specs.bus_trace.specs.declared.Row.{Row}
-use Rattle.bus_due.specs.bus_trace.specs.declared.Kind.{Kind}
-use Rattle.bus_due.specs.bus_trace.specs.declared.Kind.TheVariants.{Drives, Fault}
-use Rattle.bus_due.specs.bus_trace.specs.Trace.{drives, bus}
-use Rattle.bus_due.specs.bus_trace.specs.declared.connection.Connection.{Connection}
-use Rattle.bus_due.specs.bus_trace.specs.declared.changes.Change.{Change}
-use Rattle.bus_due.specs.bus_trace.specs.Changes.{change_of, rises, falls}
-use Rattle.bus_due.specs.bus_trace.specs.Terms.{when, connection, connection_after}
-use Rattle.bus_due.specs.scenario.specs.Value.{ScenarioValue}
-use Rattle.bus_due.specs.bus_story.specs.BusState.{row_reading}
-use Rattle.bus_due.specs.bus_story.specs.Story.{by_reset, story_after_events}
-use Rattle.bus_due.specs.bus_story.specs.HistoryEvents.{link_events}
-use Rattle.bus_due.specs.bus_story.specs.TraceHistory.{story_on_bus}
-use Rattle.bus_due.specs.bus_story.specs.Samples.{latency_of}
-use Rattle.bus_due.specs.bus_story.proofs.StorySteps.{free_link, ends_link}
-use Rattle.bus_due.specs.bus_reactions.specs.declared.due.Due.{Due}
-use Rattle.bus_due.specs.Own.{Own, own_of}
-use Rattle.bus_due.specs.RunSteps.{run_state}
-use Rattle.bus_due.specs.Due.{reset_from}
-use Rattle.bus_due.specs.Next.{due}
-use Rattle.bus_due.specs.Least.{IsLeast}
-use Rattle.bus_due.specs.Plain.{AreOfDevices}
-use Rattle.bus_due.proofs.Plains.{run_state_plain}
-use Rattle.bus_laws.specs.Reactions.{unreset_due, reset_due, reset_due_if}
-use Rattle.bus_laws.proofs.Rows.{drives_own}
-use Rattle.bus_laws.proofs.Apart.{change_plain}
-use Rattle.bus_due.specs.bus_reactions.specs.Reset.{rst_assertion}
-use Rattle.bus_due.specs.bus_trace.proofs.OneRow.{drives-other, drives-fault}
-use Rattle.bus_laws.proofs.Resets.{comes_by_first, due_calm, own_reset_is, reset_after, own_other, released_own, own_fault}
-use Rattle.bus_laws.specs.Rows.{row_of_lines, row_of_fault}
+use Rattle.bus_laws.proofs
+use proofs.Names.{inl, inr, ℕ, ◌≡◌, ◌<◌, ◌≤◌, Bool, true, false, ◌∙◌, List, [], ◌∷◌, Option, Some, None, refl, sym, ap}
+use proofs.Names.{arith, cases_eq, if◌then◌else◌, Event, bus_on, drives-other, drives-fault, change_of, rises, falls}
+use proofs.Names.{LineSet, when, connection, connection_after, drives, bus, Kind, Drives, Fault, Row, Change}
+use proofs.Names.{Connection, ScenarioValue, free_link, ends_link, row_reading, link_events, latency_of, by_reset}
+use proofs.Names.{story_after_events, story_on_bus, rst_assertion, Due, run_state_plain, reset_from, IsLeast, due, Own}
+use proofs.Names.{own_of, AreOfDevices, run_state, unreset_due, reset_due, reset_due_if, row_of_lines, row_of_fault}
+use proofs.{Apart.{change_plain}, Resets.{comes_by_first, due_calm, own_reset_is, reset_after, own_other, released_own}}
+use proofs.{Resets.{own_fault}, Rows.{drives_own}}
 
 -- ---- RST on the bus and at the devices
 
@@ -54,10 +27,10 @@ link_in_reset s p row g h lt e rst =
     let d = row_reading k.story.bus_state row in
     let c = change_plain s row p h lt ∙ e in
     let r : d.change.after.rst ≡ true = ap (λ (x : Change). x.after.rst) c ∙ rst in
-    ap (λ (q : Bool). (story_after_events s (if q then record k.story { link = None } else story_on_bus s k.story k.story.bus_state.connection d.next d row) (if q then (if rises d.change.own.rst d.change.next.rst then events.Reset row.dev ∷ [] else []) else link_events s k.story k.story.link d)).link) r
+    ap (λ (q : Bool). (story_after_events s (if q then record k.story { link = None } else story_on_bus s k.story k.story.bus_state.connection d.next d row) (if q then (if rises d.change.own.rst d.change.next.rst then Event.Reset row.dev ∷ [] else []) else link_events s k.story k.story.link d)).link) r
     ∙ go (rises d.change.own.rst d.change.next.rst)
   where
-    go : (q : Bool) → (story_after_events s (record (run_state s p).story { link = None }) (if q then events.Reset row.dev ∷ [] else [])).link ≡ None
+    go : (q : Bool) → (story_after_events s (record (run_state s p).story { link = None }) (if q then Event.Reset row.dev ∷ [] else [])).link ≡ None
     go true = ends_link (λ c. true) (λ c. true) by_reset 1 s.commands (record (run_state s p).story { link = None })
     go false = refl
 
@@ -70,7 +43,7 @@ link_apart s p row g h lt e rst alone link =
     let pl = run_state_plain s p h in
     let r : d.change.after.rst ≡ false = ap (λ (x : Change). x.after.rst) c ∙ rst in
     let next : d.next ≡ None = (λ i. connection_after (pl.connection i) (pl.call i) ((change_plain s row p h lt) i) row) ∙ alone in
-    ap (λ (q : Bool). (story_after_events s (if q then record k.story { link = None } else story_on_bus s k.story k.story.bus_state.connection d.next d row) (if q then (if rises d.change.own.rst d.change.next.rst then events.Reset row.dev ∷ [] else []) else link_events s k.story k.story.link d)).link) r
+    ap (λ (q : Bool). (story_after_events s (if q then record k.story { link = None } else story_on_bus s k.story k.story.bus_state.connection d.next d row) (if q then (if rises d.change.own.rst d.change.next.rst then Event.Reset row.dev ∷ [] else []) else link_events s k.story k.story.link d)).link) r
     ∙ (λ i. (story_after_events s (story_on_bus s k.story k.story.bus_state.connection (next i) d row) (link_events s k.story (link i) d)).link)
     ∙ go k.story.bus_state.connection
   where

@@ -1,43 +1,16 @@
 -- A row after SEL rose, until both IDs stand: a loser releases all, or the won_bus calls.
-use Rattle.std.proofs.Common.{◌⊎◌, inl, inr, ℕ, ◌≡◌, ◌≢◌, ◌<◌, ◌≤◌, ◌+◌, Bool, true, false, not, ◌||◌, ◌&&◌, ◌==◌, ◌∙◌, List, ◌∷◌, Some, None, refl, sym, ap, subst, arith}
-use Rattle.std.specs.Prelude.{if◌then◌else◌}
-use Rattle.std.proofs.lemmas.Bool.{cases_eq, ne_eqb}
-use Rattle.bus_due.specs.bus_trace.specs.LineSet.{LineSet, none, same_set}
-use Rattle.bus_due.specs.bus_trace.specs.declared.Row.{Row}
-use Rattle.bus_due.specs.bus_trace.specs.declared.Kind.TheVariants.{Drives}
-use Rattle.bus_due.specs.bus_trace.specs.Trace.{drives, bus, since_line}
-use Rattle.bus_due.specs.bus_trace.proofs.Buses.{bus_one}
-use Rattle.bus_due.specs.bus_trace.specs.Terms.{call, drives_two_ids, new_calling}
-use Rattle.bus_due.specs.bus_rules.specs.Seen.{others_in_call, others_drive}
-use Rattle.bus_due.specs.scenario.specs.Value.{ScenarioValue}
-use Rattle.bus_due.specs.bus_story.specs.TraceHistory.{aim_of}
-use Rattle.bus_due.specs.bus_story.specs.Samples.{latency_of}
-use Rattle.bus_due.specs.bus_reactions.specs.declared.due.Due.{Due}
-use Rattle.bus_due.specs.bus_reactions.specs.Reactions.{due_at}
-use Rattle.bus_due.specs.bus_lines.specs.declared.stage.Stage.TheVariants.{InCalling}
-use Rattle.bus_due.specs.bus_lines.specs.Stage.{stage}
-use Rattle.bus_due.specs.bus_reactions.specs.FreeBus.{contender_lines}
-use Rattle.bus_due.specs.Wants.{callee}
-use Rattle.bus_due.specs.RunSteps.{run_state}
-use Rattle.bus_due.specs.Least.{IsLeast}
-use Rattle.bus_due.specs.Plain.{AreOfDevices}
-use Rattle.bus_laws.specs.Reactions.{own_time}
-use Rattle.bus_laws.specs.Reactions.{unreset_due}
-use Rattle.bus_laws.proofs.TwoIds.{IsCall, is_call}
-use Rattle.bus_laws.proofs.Rows.{stands_after, stage_is, since_is, drives_own, drives_other, own_time_own, own_time_other}
-use Rattle.bus_laws.proofs.Held.{winner_is}
-use Rattle.bus_laws.proofs.Seens.{obeys_apart}
-use Rattle.bus_laws.proofs.Obeys.{won_lines, loser_obeys, call_obeys}
-use Rattle.bus_laws.proofs.Dues.{is_there, is_at}
-use Rattle.bus_laws.proofs.CallDues.{loser_due, quiet_due, calls_due, is_calling, asks_due, before_due}
-use Rattle.bus_laws.proofs.Apart.{still_row_keeps}
-use Rattle.bus_laws.proofs.FromFree.{row_is}
-use Rattle.bus_laws.proofs.FromArbitration.{lost_or}
-use Rattle.bus_laws.specs.Stages.{CalmStanding, HasShortLatencies, NextCalmRow, IsLoser, ArbitrationWon, with_both_ids, after_arbitration}
-use Rattle.bus_laws.specs.Rows.{Stands, row_of_lines}
-use Rattle.bus_laws.specs.Callings.{begun_call, both_ids, new_calling_at, won_call, won_bus}
-use Rattle.bus_due.specs.bus_base.proofs.Tests.{eq_self}
-use Rattle.bus_due.specs.disk_array.specs.Seats.{is_initiator}
+use Rattle.bus_laws.proofs
+use proofs.Names.{◌⊎◌, inl, inr, ℕ, ◌≡◌, ◌≢◌, ◌<◌, ◌≤◌, ◌+◌, Bool, true, false, not, ◌||◌, ◌&&◌, ◌∙◌, List, ◌∷◌, Some}
+use proofs.Names.{None, refl, sym, ap, subst, arith, cases_eq, ne_eqb, ◌==◌, if◌then◌else◌, eq_self, bus_one, LineSet}
+use proofs.Names.{none, same_set, call, drives_two_ids, new_calling, drives, bus, since_line, Drives, Row, stage}
+use proofs.Names.{InCalling, others_in_call, others_drive, ScenarioValue, is_initiator, latency_of, aim_of}
+use proofs.Names.{contender_lines, due_at, Due, IsLeast, AreOfDevices, run_state, callee, begun_call, both_ids}
+use proofs.Names.{new_calling_at, won_call, won_bus, own_time, unreset_due, Stands, row_of_lines, CalmStanding}
+use proofs.Names.{HasShortLatencies, NextCalmRow, IsLoser, ArbitrationWon, with_both_ids, after_arbitration}
+use proofs.{Apart.{still_row_keeps}, CallDues.{loser_due, quiet_due, calls_due, is_calling, asks_due, before_due}}
+use proofs.{Dues.{is_there, is_at}, FromArbitration.{lost_or}, FromFree.{row_is}, Held.{winner_is}, Obeys.{won_lines}}
+use proofs.{Obeys.{loser_obeys, call_obeys}, Rows.{stands_after, stage_is, since_is, drives_own, drives_other}}
+use proofs.{Rows.{own_time_own, own_time_other}, Seens.{obeys_apart}, TwoIds.{IsCall, is_call}}
 
 in_won : (s : ScenarioValue) (p : List Row) (c t0 : ℕ) → ArbitrationWon s p c t0 → stage p ≡ InCalling (won_call c t0)
 in_won s p c t0 h = stage_is p _ _ _ _ h.stands

@@ -1,14 +1,8 @@
 -- What targets hear, over all rows of a run: a forward pass over the rows decides it.
-use Rattle.std.proofs.Common.{◌≡◌, Bool, true, List, [], ◌∷◌, refl}
-use Rattle.std.specs.Prelude.{◌&&◌}
-use Rattle.std.proofs.lemmas.Bool.{and_from, and_parts}
-use Rattle.bus_due.specs.bus_trace.specs.declared.Row.{Row}
-use Rattle.bus_due.specs.scenario.specs.Value.{ScenarioValue}
-use Rattle.bus_due.specs.bus_story.specs.BusState.{RowReading, row_reading}
-use Rattle.bus_due.specs.RunState.{RunState}
-use Rattle.bus_due.specs.RunSteps.{first_run_state, run_state, run_state_after}
-use Rattle.bus_due.proofs.Seams.{onto}
-use Rattle.scsi_device.specs.Heard.{Instructions, no_instructions, instructions, instructions_by, is_heard_after, heard}
+use Rattle.bus_laws.proofs
+use proofs.Names.{◌≡◌, Bool, true, List, [], ◌∷◌, refl, ◌&&◌, and_from, and_parts, Row, ScenarioValue, RowReading}
+use proofs.Names.{row_reading, onto, RunState, first_run_state, run_state, run_state_after, Instructions}
+use proofs.Names.{no_instructions, instructions, instructions_by, is_heard_after, heard}
 
 -- The rows are given the oldest first.
 abbrev pub rows_heard : ScenarioValue → RunState → Instructions → List Row → Bool

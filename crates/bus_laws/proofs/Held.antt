@@ -1,13 +1,8 @@
 -- A bus on which only data lines, BSY and SEL are driven.
-use Rattle.std.proofs.Common.{◌⊎◌, inl, inr, ◌≢◌, ℕ, zero, suc, ◌≡◌, ◌<◌, Bool, true, false, List, ◌∙◌, refl, sym, ap, arith}
-use Rattle.bus_due.specs.bus_trace.specs.LineSet.{LineSet, none, union}
-use Rattle.bus_due.specs.bus_trace.specs.View.{union_below}
-use Rattle.bus_due.specs.bus_trace.specs.declared.Row.{Row}
-use Rattle.bus_due.specs.bus_trace.specs.Trace.{drives, bus}
-use Rattle.std.proofs.lemmas.Bool.{cases_eq}
-use Rattle.bus_due.specs.bus_trace.proofs.Buses.{bus_on, bus_off}
-use Rattle.bus_due.specs.bus_reactions.specs.FreeBus.{contender_lines}
-use Rattle.bus_laws.specs.Callings.{arbitration_bus, won_bus}
+use Rattle.bus_laws.proofs
+use proofs.Names.{◌⊎◌, inl, inr, ◌≢◌, ℕ, zero, suc, ◌≡◌, ◌<◌, Bool, true, false, List, ◌∙◌, refl, sym, ap, arith}
+use proofs.Names.{cases_eq, bus_on, bus_off, LineSet, none, union, drives, bus, union_below, Row, contender_lines}
+use proofs.Names.{arbitration_bus, won_bus}
 
 abbrev pub held : LineSet → LineSet
 held x = record none { data_bits = x.data_bits; bsy = x.bsy; sel = x.sel }

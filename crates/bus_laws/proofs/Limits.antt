@@ -1,17 +1,8 @@
 -- The latencies of a scenario that obeys the rules of its text are within their limit.
-use Rattle.std.proofs.Common.{ℕ, ◌≡◌, ◌≤◌, Bool, true, false, List, [], ◌∷◌, Option, Some, arith}
-use Rattle.std.specs.Prelude.{◌==◌, if◌then◌else◌}
-use Rattle.std.specs.List.{find, AllByRecursion}
-use Rattle.std.proofs.lemmas.Option.{same_Some}
-use Rattle.bus_due.specs.scenario.specs.declared.value.HostDef.{HostDef}
-use Rattle.bus_due.specs.scenario.specs.declared.value.TargetDef.{TargetDef}
-use Rattle.bus_due.specs.scenario.specs.Value.{ScenarioValue}
-use Rattle.bus_due.specs.scenario.specs.Writing.{Obeys}
-use Rattle.bus_due.specs.bus_story.specs.Samples.{host_latency, target_latency, latency_of}
-use Rattle.scsi_device.specs.Lines.{IsHostLine, IsTargetLine, FitsBus}
-use Rattle.scsi_device.proofs.FitLines.{obeys_fits}
-use Rattle.bus_laws.specs.Stages.{HasShortLatencies}
-use Rattle.bus_due.specs.bus_base.proofs.Tests.{none_number}
+use Rattle.bus_laws.proofs
+use proofs.Names.{ℕ, ◌≡◌, ◌≤◌, Bool, true, false, List, [], ◌∷◌, Option, Some, arith, same_Some, find, AllByRecursion}
+use proofs.Names.{◌==◌, if◌then◌else◌, none_number, ScenarioValue, Obeys, HostDef, TargetDef, host_latency}
+use proofs.Names.{target_latency, latency_of, obeys_fits, IsHostLine, IsTargetLine, FitsBus, HasShortLatencies}
 
 host_found : (s : ScenarioValue) (hosts : List HostDef) (dev lat : ℕ) → AllByRecursion (IsHostLine s) hosts → host_latency (find (λ (h : HostDef). h.dev == dev) hosts) ≡ Some lat → lat ≤ 100
 host_found s [] dev lat a e = absurd (none_number lat e)

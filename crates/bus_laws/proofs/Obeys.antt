@@ -1,27 +1,12 @@
 -- Rows that obey the rules.
-use Rattle.std.proofs.Common.{ℕ, ◌≡◌, ◌≢◌, ◌≤◌, ◌+◌, ◌^◌, Bool, true, false, List, Some, None, refl, ap, sym, ◌∙◌, arith}
-use Rattle.std.specs.Prelude.{◌==◌, nat_le, not, ◌&&◌, ◌||◌}
-use Rattle.std.proofs.lemmas.Bool.Decides.{nat_tests}
-use Rattle.bus_due.specs.bus_trace.specs.LineSet.{LineSet, none, has_id_above, same, line_of}
-use Rattle.bus_due.specs.bus_trace.specs.declared.Row.{Row}
-use Rattle.bus_due.specs.bus_trace.specs.Trace.{last_time, since, since_line}
-use Rattle.std.specs.Int.{bit_at}
-use Rattle.bus_due.specs.bus_trace.specs.declared.arbitration.Arbitration.{Arbitration}
-use Rattle.bus_due.specs.bus_trace.specs.Terms.{free_since, raised}
-use Rattle.bus_due.specs.bus_rules.specs.Rules.{lowest_broken, keeps, judged_rules}
-use Rattle.bus_due.specs.bus_rules.proofs.First.{none_broken}
-use Rattle.bus_due.specs.bus_trace.specs.Changes.{implies, raises_none}
-use Rattle.bus_due.specs.bus_rules.specs.Selection.{calls_exactly}
-use Rattle.bus_due.specs.bus_rules.specs.declared.seen.Seen.{Seen}
-use Rattle.bus_due.specs.bus_reactions.specs.FreeBus.{contender_lines}
-use Rattle.bus_laws.proofs.Seens.{seen_apart}
-use Rattle.bus_laws.proofs.TwoIds.{IsCall}
-use Rattle.std.specs.Int.Bits.{or_zero_r, or_self}
-use Rattle.std.specs.Int.RustNames.{bit_or}
-use Rattle.bus_laws.specs.Rows.{change_to, row_of_fault, row_of_lines}
-use Rattle.bus_laws.specs.Callings.{answer_lines, answered_calling, awaiting_call, begun_call, calling_lines, call_with, both_ids, arbitration_bus, won_call, resumed_calling, won_bus, withdrawn_call}
-use Rattle.std.proofs.lemmas.Bool.{le-leb, ne_eqb}
-use Rattle.bus_due.specs.bus_base.proofs.Tests.{or_true, eq_self}
+use Rattle.bus_laws.proofs
+use proofs.Names.{ℕ, ◌≡◌, ◌≢◌, ◌≤◌, ◌+◌, ◌^◌, Bool, true, false, List, Some, None, refl, ap, sym, ◌∙◌, arith, not, ◌&&◌}
+use proofs.Names.{◌||◌, le-leb, ne_eqb, nat_tests, bit_at, or_zero_r, or_self, bit_or, ◌==◌, nat_le, or_true, eq_self}
+use proofs.Names.{implies, raises_none, LineSet, none, has_id_above, same, line_of, free_since, raised, last_time}
+use proofs.Names.{since, since_line, Row, Arbitration, none_broken, lowest_broken, keeps, judged_rules, calls_exactly}
+use proofs.Names.{Seen, contender_lines, answer_lines, answered_calling, awaiting_call, begun_call, calling_lines}
+use proofs.Names.{call_with, both_ids, arbitration_bus, won_call, resumed_calling, won_bus, withdrawn_call, change_to}
+use proofs.{Names.{row_of_fault, row_of_lines}, Seens.{seen_apart}, TwoIds.{IsCall}}
 
 pub entry_obeys : (p : List Row) (t d : ℕ) → last_time p ≤ t → free_since p + 1200 ≤ t → lowest_broken (seen_apart p d (change_to none (contender_lines d) none (contender_lines d)) None None false) (row_of_lines t d (contender_lines d)) ≡ None
 entry_obeys p t d e f = grind (arith, nat_tests)

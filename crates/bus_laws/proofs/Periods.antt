@@ -1,30 +1,14 @@
 -- The transfer period factor and the REQ/ACK offset of every agreement are bytes: they came in a message.
-use Rattle.std.proofs.Common.{ℕ, ◌<◌, ◌%◌, Bool, true, false, not, ◌&&◌, List, [], ◌∷◌, ◌++◌, Option, Some, None, arith}
-use Rattle.std.specs.Prelude.{if◌then◌else◌, ◌==◌, is_some}
-use Rattle.std.specs.List.{AllByRecursion}
-use Rattle.bus_due.specs.bus_trace.specs.declared.Row.{Row}
-use Rattle.bus_due.specs.bus_trace.specs.declared.agreements.Agreement.{Agreement}
-use Rattle.bus_due.specs.bus_trace.specs.declared.changes.Change.{Change}
-use Rattle.bus_due.specs.bus_trace.specs.declared.connection.Connection.{Connection}
-use Rattle.bus_due.specs.bus_trace.specs.Trace.{bus}
-use Rattle.bus_due.specs.bus_trace.specs.Changes.{change_of}
-use Rattle.bus_due.specs.bus_trace.specs.Terms.{connection, receiver_of}
-use Rattle.bus_due.specs.bus_trace.specs.Phases.{is_message_out, is_message_in, is_command, changes_phase}
-use Rattle.bus_due.specs.msg_grammar.specs.declared.message.Got.{Got}
-use Rattle.bus_due.specs.msg_grammar.specs.declared.message.Got.TheVariants.{Whole, More, Unknown}
-use Rattle.bus_due.specs.msg_grammar.specs.declared.message.MsgOut.{MsgOut}
-use Rattle.bus_due.specs.msg_grammar.specs.declared.message.MsgIn.{MsgIn}
-use Rattle.bus_due.specs.msg_grammar.specs.Grammar.{Form, alone, tagged, extended, reserved, got_after, got_by, got_tag, got_fields, got_code, got_offer, as_got}
-use Rattle.bus_due.specs.msg_grammar.specs.Messages.{form_out, form_in, got_out, got_in, is_of_eight}
-use Rattle.bus_due.specs.bus_phases.specs.declared.words.Word.{Word}
-use Rattle.bus_due.specs.bus_phases.specs.declared.words.Word.TheVariants as words
-use Rattle.bus_due.specs.bus_phases.specs.declared.words.End.{End}
-use Rattle.bus_due.specs.bus_phases.specs.declared.words.End.TheVariants as ends
-use Rattle.bus_due.specs.bus_phases.specs.declared.spoken.Spoken.{Spoken}
-use Rattle.bus_due.specs.bus_phases.specs.declared.spoken.Heard.{Heard}
-use Rattle.bus_due.specs.bus_phases.specs.declared.dialogue.Dialogue.{Dialogue}
-use Rattle.bus_due.specs.bus_phases.specs.Half.{left_of}
-use Rattle.bus_due.specs.bus_phases.specs.Dialogue.{word_out, word_in, spoken_with_word, is_of_other, void_or_now, heard_with_out, heard_with_command, void_with_byte, opened, heard_out, heard_in, fresh_bytes, fresh_heard, byte_out, heard_if_begun, byte_in, byte_crosses, phase_begins, dialogue_on, closed_agreement_by, dialogue_after, agreed, dialogue, asynchronous}
+use Rattle.bus_laws.proofs
+use proofs.Names.{ℕ, ◌<◌, ◌%◌, Bool, true, false, not, ◌&&◌, List, [], ◌∷◌, ◌++◌, Option, Some, None, arith}
+use proofs.Names.{AllByRecursion, if◌then◌else◌, ◌==◌, is_some, change_of, is_message_out, is_message_in, is_command}
+use proofs.Names.{changes_phase, connection, receiver_of, bus, Row, Agreement, Change, Connection, Form, alone, tagged}
+use proofs.Names.{extended, reserved, got_after, got_by, got_tag, got_fields, got_code, got_offer, as_got, form_out}
+use proofs.Names.{form_in, got_out, got_in, is_of_eight, Got, Whole, More, Unknown, MsgIn, MsgOut, word_out, word_in}
+use proofs.Names.{spoken_with_word, is_of_other, void_or_now, heard_with_out, heard_with_command, void_with_byte}
+use proofs.Names.{opened, heard_out, heard_in, fresh_bytes, fresh_heard, byte_out, heard_if_begun, byte_in}
+use proofs.Names.{byte_crosses, phase_begins, dialogue_on, closed_agreement_by, dialogue_after, agreed, dialogue}
+use proofs.Names.{asynchronous, left_of, Dialogue, Heard, Spoken, End, Word}
 
 -- ---- messages
 
@@ -35,12 +19,12 @@ abbrev IsByteAgreement : Agreement → Type 0
 IsByteAgreement a = (a.period < 256) × (a.offset < 256)
 
 abbrev IsShortWord : Word → Type 0
-IsShortWord (words.Offer a) = IsByteAgreement a
-IsShortWord words.Reject = Unit {0}
-IsShortWord words.Restore = Unit {0}
-IsShortWord words.DeviceReset = Unit {0}
-IsShortWord words.ParityError = Unit {0}
-IsShortWord words.Other = Unit {0}
+IsShortWord (Word.Offer a) = IsByteAgreement a
+IsShortWord Word.Reject = Unit {0}
+IsShortWord Word.Restore = Unit {0}
+IsShortWord Word.DeviceReset = Unit {0}
+IsShortWord Word.ParityError = Unit {0}
+IsShortWord Word.Other = Unit {0}
 
 -- Whatever message a first byte of this form makes with bytes after it.
 abbrev IsShortForm : {M : Type 0} → (M → Word) → Form M → Type 0
@@ -134,33 +118,33 @@ record IsShortHeard (h : Heard) : Type 0 where
   void : IsShortVoid h.void
 
 word_short : (v : Spoken) (end : End) (w : Word) → IsByteAgreement v.agreement → IsShortWord w → IsByteAgreement (spoken_with_word v end w).agreement
-word_short v end (words.Offer a) h g = go (is_of_other v.offer end)
+word_short v end (Word.Offer a) h g = go (is_of_other v.offer end)
   where
     go : (q : Bool) → IsByteAgreement (if q then record v { agreement = a; offer = None; answered = Some end } else record v { offer = Some end; answered = None }).agreement
     go true = g
     go false = h
-word_short v end words.Reject h g = go (is_of_other v.offer end) (is_of_other v.answered end)
+word_short v end Word.Reject h g = go (is_of_other v.offer end) (is_of_other v.answered end)
   where
     go : (q r : Bool) → IsByteAgreement (if q then record v { agreement = record v.agreement { offset = 0 }; offer = None; answered = None } else if r then record v { agreement = record v.agreement { offset = 0 }; answered = None } else record v { answered = None }).agreement
     go true r = (h.0, omega arith)
     go false true = (h.0, omega arith)
     go false false = h
-word_short v end words.Restore h g = h
-word_short v end words.DeviceReset h g = (h.0, omega arith)
-word_short v end words.ParityError h g = h
-word_short v end words.Other h g = h
+word_short v end Word.Restore h g = h
+word_short v end Word.DeviceReset h g = (h.0, omega arith)
+word_short v end Word.ParityError h g = h
+word_short v end Word.Other h g = h
 
 void_short : (o : Option Spoken) (v : Spoken) → IsShortVoid o → IsByteAgreement v.agreement → IsByteAgreement (void_or_now o v).agreement
 void_short None v a b = b
 void_short (Some w) v a b = a
 
 out_short : (h : Heard) (w : Word) → IsShortHeard h → IsShortWord w → IsShortHeard (heard_with_out h w)
-out_short h (words.Offer a) k g = record { now = word_short h.now ends.Initiator (words.Offer a) k.now g; void = tt }
-out_short h words.Reject k g = record { now = word_short h.now ends.Initiator words.Reject k.now g; void = tt }
-out_short h words.Restore k g = record { now = k.now; void = tt }
-out_short h words.DeviceReset k g = record { now = (k.now.0, omega arith); void = tt }
-out_short h words.ParityError k g = record { now = void_short h.void h.now k.void k.now; void = tt }
-out_short h words.Other k g = record { now = k.now; void = tt }
+out_short h (Word.Offer a) k g = record { now = word_short h.now End.Initiator (Word.Offer a) k.now g; void = tt }
+out_short h Word.Reject k g = record { now = word_short h.now End.Initiator Word.Reject k.now g; void = tt }
+out_short h Word.Restore k g = record { now = k.now; void = tt }
+out_short h Word.DeviceReset k g = record { now = (k.now.0, omega arith); void = tt }
+out_short h Word.ParityError k g = record { now = void_short h.void h.now k.void k.now; void = tt }
+out_short h Word.Other k g = record { now = k.now; void = tt }
 
 heard_out_short : (h : Heard) (g : Got MsgOut) → IsShortHeard h → IsShortGot word_out g → IsShortHeard (heard_out h g)
 heard_out_short h (Whole m n) k g = out_short h (word_out m) k g
@@ -168,7 +152,7 @@ heard_out_short h More k g = k
 heard_out_short h Unknown k g = k
 
 heard_in_short : (h : Heard) (g : Got MsgIn) → IsShortHeard h → IsShortGot word_in g → IsShortHeard (heard_in h g)
-heard_in_short h (Whole m n) k g = record { now = word_short h.now ends.Target (word_in m) k.now g; void = k.void }
+heard_in_short h (Whole m n) k g = record { now = word_short h.now End.Target (word_in m) k.now g; void = k.void }
 heard_in_short h More k g = k
 heard_in_short h Unknown k g = k
 

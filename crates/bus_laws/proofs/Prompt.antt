@@ -1,18 +1,9 @@
 -- The rows of a prompt trace while no connection stands.
-use Rattle.std.proofs.Common.{◌≡◌, false, List, [], ◌∷◌, Some, refl, sym, subst}
-use Rattle.bus_due.specs.bus_trace.specs.Trace.{bus}
-use Rattle.bus_due.specs.bus_trace.specs.declared.Kind.TheVariants.{Drives}
-use Rattle.bus_due.specs.bus_rules.specs.Reset.{only_rst}
-use Rattle.bus_laws.specs.Rows.{row_of_lines}
-use Rattle.bus_laws.proofs.FromFree.{row_is}
-use Rattle.bus_laws.proofs.ResetSteps.{raises}
-use Rattle.bus_due.specs.bus_trace.specs.declared.Row.{Row}
-use Rattle.bus_due.specs.scenario.specs.Value.{ScenarioValue}
-use Rattle.bus_due.specs.Next.{due, next, IsPrompt}
-use Rattle.bus_due.specs.Least.{IsLeast}
-use Rattle.bus_due.proofs.Leasts.{least_some}
-use Rattle.bus_laws.specs.Stages.{HasShortLatencies, BusStage, Standing, NextRow, is_connected, HaveNoConnection}
-use Rattle.bus_laws.proofs.Together.{standing_first, stage_first, standing_next, from_stage}
+use Rattle.bus_laws.proofs
+use proofs.Names.{◌≡◌, false, List, [], ◌∷◌, Some, refl, sym, subst, bus, Drives, Row, only_rst, ScenarioValue}
+use proofs.Names.{least_some, IsLeast, due, next, IsPrompt, row_of_lines, HasShortLatencies, BusStage, Standing}
+use proofs.{Names.{NextRow, is_connected, HaveNoConnection}, FromFree.{row_is}, ResetSteps.{raises}}
+use proofs.Together.{standing_first, stage_first, standing_next, from_stage}
 
 pub least_is : (s : ScenarioValue) (p : List Row) (row : Row) → next s p ≡ Some row → IsLeast (due s p) 8 row
 least_is s p row e = least_some (due s p) 8 row e

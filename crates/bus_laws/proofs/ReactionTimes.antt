@@ -1,36 +1,16 @@
 -- By when a reaction comes: within the longest delay after the latest time that it looks at.
-use Rattle.std.proofs.Common.{inl, inr, ℕ, ◌≡◌, ◌<◌, ◌≤◌, ◌+◌, Bool, true, false, not, ◌&&◌, ◌||◌, Option, Some, None, ap, arith, length}
-use Rattle.std.specs.Prelude.{if◌then◌else◌, max, nat_lt, nat_le, ◌==◌, is_none}
-use Rattle.std.proofs.lemmas.Option.{none-some}
-use Rattle.bus_due.specs.bus_trace.specs.LineSet.{LineSet, none, has_id_above, same_set}
-use Rattle.bus_due.specs.bus_trace.specs.View.{AreTimesBefore}
-use Rattle.bus_due.specs.bus_trace.specs.declared.arbitration.Arbitration.{Arbitration}
-use Rattle.bus_due.specs.bus_trace.specs.declared.selection.Call.{Call}
-use Rattle.bus_due.specs.bus_trace.specs.declared.selection.Calling.{Calling}
-use Rattle.bus_due.specs.bus_trace.specs.Phases.{is_message_out}
-use Rattle.bus_due.specs.bus_lines.specs.Handshakes.{Handshakes, room_by, or_zero}
-use Rattle.bus_due.specs.bus_lines.specs.Timely.{IsBefore, IsCallingBefore, IsStageBefore, AreHandshakesBefore}
-use Rattle.bus_due.specs.bus_lines.specs.declared.stage.Stage.{Stage}
-use Rattle.bus_due.specs.bus_lines.specs.declared.stage.Stage.TheVariants.{OnFreeBus, InArbitration, InCalling, InAnswer, InConnection, InReset}
-use Rattle.bus_due.specs.bus_reactions.specs.declared.due.Due.{Due}
-use Rattle.bus_due.specs.bus_reactions.specs.declared.due.Myself.{Myself}
-use Rattle.bus_due.specs.bus_reactions.specs.declared.due.Want.{Want}
-use Rattle.bus_due.specs.bus_reactions.specs.declared.sight.Sight.{Sight}
-use Rattle.bus_due.specs.bus_reactions.specs.declared.ends.Pace.{Pace}
-use Rattle.bus_due.specs.bus_reactions.specs.declared.ends.Offering.{Offering}
-use Rattle.bus_due.specs.bus_reactions.specs.declared.ends.Answering.{Answering}
-use Rattle.bus_due.specs.bus_reactions.specs.Reactions.{due_at, due_where, fault_due, earlier_due}
-use Rattle.bus_due.specs.bus_reactions.specs.FreeBus.{free_due, arbitration_due, later_entry_if, entry}
-use Rattle.bus_due.specs.bus_reactions.specs.Calling.{loser_release, calling_start, unanswered_due, caller_due, answer, is_called, called_due, calling_due, answer_due}
-use Rattle.bus_due.specs.bus_reactions.specs.Linking.{link_due_by}
-use Rattle.bus_due.specs.bus_reactions.specs.Reset.{rst_assertion, with_reset}
-use Rattle.bus_due.specs.bus_reactions.specs.Target.{first_req, has_io_turned, byte_bits, bits_if, hold_end, set_up_end, last_hold_end}
-use Rattle.bus_due.specs.bus_reactions.specs.Initiator.{rose_with_ack, oldest_req_time, next_ack_time, ack_pulse_time, byte_hold_end, byte_time}
-use Rattle.bus_due.specs.bus_reactions.specs.Ends.{target_due, initiator_due, sample_due, owes_release}
-use Rattle.bus_laws.proofs.Dues.{is_at}
-use Rattle.bus_laws.proofs.Resets.{one_of}
-use Rattle.bus_due.specs.bus_trace.specs.declared.Kind.TheVariants.{Fault}
-use Rattle.bus_due.specs.bus_base.proofs.Tests.{if_less}
+use Rattle.bus_laws.proofs
+use proofs.Names.{inl, inr, ℕ, ◌≡◌, ◌<◌, ◌≤◌, ◌+◌, Bool, true, false, not, ◌&&◌, ◌||◌, Option, Some, None, ap, arith}
+use proofs.Names.{length, none-some, if◌then◌else◌, max, nat_lt, nat_le, ◌==◌, is_none, if_less, LineSet, none}
+use proofs.Names.{has_id_above, same_set, is_message_out, AreTimesBefore, Fault, Arbitration, Call, Calling, Handshakes}
+use proofs.Names.{room_by, or_zero, IsBefore, IsCallingBefore, IsStageBefore, AreHandshakesBefore, Stage, OnFreeBus}
+use proofs.Names.{InArbitration, InCalling, InAnswer, InConnection, InReset, loser_release, calling_start}
+use proofs.Names.{unanswered_due, caller_due, answer, is_called, called_due, calling_due, answer_due, target_due}
+use proofs.Names.{initiator_due, sample_due, owes_release, free_due, arbitration_due, later_entry_if, entry}
+use proofs.Names.{rose_with_ack, oldest_req_time, next_ack_time, ack_pulse_time, byte_hold_end, byte_time, link_due_by}
+use proofs.Names.{due_at, due_where, fault_due, earlier_due, rst_assertion, with_reset, first_req, has_io_turned}
+use proofs.Names.{byte_bits, bits_if, hold_end, set_up_end, last_hold_end, Due, Myself, Want, Answering, Offering, Pace}
+use proofs.{Names.{Sight}, Dues.{is_at}, Resets.{one_of}}
 
 -- ---- what comes before a time
 

@@ -1,23 +1,11 @@
 -- Rows under RST, and the row that raises it, obey the rules.
-use Rattle.std.proofs.Common.{ℕ, ◌≡◌, ◌≤◌, ◌+◌, Bool, true, false, not, ◌&&◌, ◌||◌, ◌∙◌, List, None, refl, ap}
-use Rattle.std.specs.Prelude.{if◌then◌else◌, nat_le}
-use Rattle.bus_due.specs.bus_trace.specs.LineSet.{LineSet, none, union, same, same_set}
-use Rattle.bus_due.specs.bus_trace.proofs.Sets.{same_set-self}
-use Rattle.bus_due.specs.bus_trace.proofs.Buses.{union-none}
-use Rattle.bus_due.specs.bus_trace.specs.declared.Row.{Row}
-use Rattle.bus_due.specs.bus_trace.specs.Trace.{last_time, line_times}
-use Rattle.bus_due.specs.bus_trace.specs.declared.changes.Change.{Change}
-use Rattle.bus_due.specs.bus_trace.specs.Changes.{change_of, implies, rises, falls, is_within}
-use Rattle.bus_due.specs.bus_trace.specs.Terms.{raised}
-use Rattle.bus_due.specs.bus_rules.specs.declared.seen.Seen.{Seen}
-use Rattle.bus_due.specs.bus_rules.specs.Seen.{seen, seen_with}
-use Rattle.bus_due.specs.bus_rules.specs.Order.{is_in_order, is_news}
-use Rattle.bus_due.specs.bus_rules.specs.Reset.{is_reset, only_rst, raises_rst_alone, is_quiet_in_reset, holds_reset, keeps_reset}
-use Rattle.bus_due.specs.bus_rules.specs.Rules.{test, stands_in_reset, keeps, judged_rules, lowest_broken, broken_rule}
-use Rattle.bus_due.specs.bus_rules.proofs.First.{none_broken}
-use Rattle.bus_laws.specs.Rows.{change_to, row_of_lines}
-use Rattle.std.proofs.lemmas.Bool.{and_right, le-leb}
-use Rattle.bus_due.specs.bus_base.proofs.Tests.{all_three}
+use Rattle.bus_laws.proofs
+use proofs.Names.{ℕ, ◌≡◌, ◌≤◌, ◌+◌, Bool, true, false, not, ◌&&◌, ◌||◌, ◌∙◌, List, None, refl, ap, and_right, le-leb}
+use proofs.Names.{if◌then◌else◌, nat_le, all_three, union-none, same_set-self, change_of, implies, rises, falls}
+use proofs.Names.{is_within, LineSet, none, union, same, same_set, raised, last_time, line_times, Row, Change}
+use proofs.Names.{none_broken, is_in_order, is_news, is_reset, only_rst, raises_rst_alone, is_quiet_in_reset}
+use proofs.Names.{holds_reset, keeps_reset, test, stands_in_reset, keeps, judged_rules, lowest_broken, broken_rule}
+use proofs.Names.{seen, seen_with, Seen, change_to, row_of_lines}
 
 other_rule : (n : ℕ) (v : Seen) (row : Row) → stands_in_reset n ≡ false → is_reset v ≡ true → keeps n v row ≡ true
 other_rule n v row a b = λ i. if not (a i) && b i then true else test n v row

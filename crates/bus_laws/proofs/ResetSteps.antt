@@ -1,48 +1,19 @@
 -- The rows under RST, to the free bus, and the row that raises it.
-use Rattle.std.proofs.Common.{◌⊎◌, inl, inr, ℕ, zero, suc, ◌≡◌, ◌≢◌, ◌<◌, ◌≤◌, ◌+◌, Bool, true, false, ◌||◌, ◌∙◌, List, ◌∷◌, Option, Some, None, refl, sym, ap, subst, arith}
-use Rattle.std.specs.Prelude.{nat_le, if◌then◌else◌}
-use Rattle.std.proofs.lemmas.Bool.{cases_eq, or_right, or_left, le-leb}
-use Rattle.std.specs.Int.Bits.{or_zero_r}
-use Rattle.std.specs.Int.RustNames.{bit_or}
-use Rattle.std.proofs.lemmas.Option.{none-some}
-use Rattle.bus_due.specs.bus_trace.specs.LineSet.{LineSet, none, union, same_set}
-use Rattle.bus_due.specs.bus_trace.specs.View.{union_below}
-use Rattle.bus_due.specs.bus_trace.proofs.Sets.{same_set-eq, same_set-self}
-use Rattle.bus_due.specs.bus_trace.proofs.Buses.{bus_on, bus_off, bus_one, bus_none}
-use Rattle.bus_due.specs.bus_trace.specs.declared.Row.{Row}
-use Rattle.bus_due.specs.bus_trace.specs.declared.Kind.TheVariants.{Drives}
-use Rattle.bus_due.specs.bus_trace.specs.Trace.{drives, bus, last_time, line_times, since_line, newer_line}
-use Rattle.bus_due.specs.bus_trace.specs.declared.arbitration.Arbitration.{Arbitration}
-use Rattle.bus_due.specs.bus_trace.specs.declared.selection.Call.{Call}
-use Rattle.bus_due.specs.bus_trace.specs.declared.connection.Connection.{Connection}
-use Rattle.bus_due.specs.bus_trace.specs.Changes.{change_of, implies, rises, falls, is_within}
-use Rattle.bus_due.specs.bus_trace.specs.Terms.{raised, raised_next, arbitration, arbitration_after, call, connection, connection_after, free_since}
-use Rattle.bus_due.specs.scenario.specs.Value.{ScenarioValue}
-use Rattle.bus_due.specs.bus_story.specs.Samples.{latency_of}
-use Rattle.bus_due.specs.bus_reactions.specs.declared.due.Due.{Due}
-use Rattle.bus_due.specs.bus_reactions.specs.Reactions.{due_at, earlier_due}
-use Rattle.bus_due.specs.bus_reactions.specs.Linking.{bus_clear}
-use Rattle.bus_due.specs.Own.{Own, own_of}
-use Rattle.bus_due.specs.RunSteps.{run_state}
-use Rattle.bus_due.specs.Next.{due}
-use Rattle.bus_due.specs.Least.{IsLeast}
-use Rattle.bus_due.specs.Plain.{AreOfDevices}
-use Rattle.bus_due.specs.bus_rules.specs.Reset.{only_rst}
-use Rattle.bus_due.specs.bus_rules.specs.Rules.{broken_rule}
-use Rattle.bus_due.specs.bus_trace.proofs.Ages.{since_line_le}
-use Rattle.bus_laws.specs.Reactions.{own_time, device_with, unreset_due, reset_due}
-use Rattle.bus_laws.proofs.Rows.{change_is, since_is, drives_own, drives_other, raised_own, raised_other, stage_is, stands_by}
-use Rattle.bus_laws.proofs.Dues.{is_at, due_in_reset}
-use Rattle.bus_laws.proofs.FromReset.{off_at, link_in_reset, link_apart, resets_ahead}
-use Rattle.bus_laws.proofs.FromFree.{row_is}
-use Rattle.bus_laws.proofs.Dues.{is_there, is_entry, free_due_is}
-use Rattle.bus_due.specs.Wants.{want_time}
-use Rattle.bus_due.specs.bus_lines.specs.declared.stage.Stage.TheVariants.{OnFreeBus}
-use Rattle.bus_due.specs.bus_lines.specs.Stage.{stage}
-use Rattle.bus_laws.proofs.ResetObeys.{reset_row_obeys, raises_rst, none_within}
-use Rattle.bus_laws.proofs.Resets.{one_of, comes_by, due_calm, due_holding, due_there, own_reset_is, own_other, rst_own}
-use Rattle.bus_laws.specs.Stages.{HasShortLatencies, on_free_bus, in_reset, NextRow, HoldsReset, IsUnderRst, quiet, holds, lingers, UnderRst, Standing}
-use Rattle.bus_laws.specs.Rows.{row_of_lines, change_to, Stands}
+use Rattle.bus_laws.proofs
+use proofs.Names.{◌⊎◌, inl, inr, ℕ, zero, suc, ◌≡◌, ◌≢◌, ◌<◌, ◌≤◌, ◌+◌, Bool, true, false, ◌||◌, ◌∙◌, List, ◌∷◌, Option}
+use proofs.Names.{Some, None, refl, sym, ap, subst, arith, cases_eq, or_right, or_left, le-leb, none-some, or_zero_r}
+use proofs.Names.{bit_or, nat_le, if◌then◌else◌, since_line_le, bus_on, bus_off, bus_one, bus_none, same_set-eq}
+use proofs.Names.{same_set-self, change_of, implies, rises, falls, is_within, LineSet, none, union, same_set, raised}
+use proofs.Names.{raised_next, arbitration, arbitration_after, call, connection, connection_after, free_since, drives}
+use proofs.Names.{bus, last_time, line_times, since_line, newer_line, union_below, Drives, Row, Arbitration, Connection}
+use proofs.Names.{Call, stage, OnFreeBus, only_rst, broken_rule, ScenarioValue, latency_of, bus_clear, due_at}
+use proofs.Names.{earlier_due, Due, IsLeast, due, Own, own_of, AreOfDevices, run_state, want_time, own_time}
+use proofs.Names.{device_with, unreset_due, reset_due, row_of_lines, change_to, Stands, HasShortLatencies, on_free_bus}
+use proofs.{Names.{in_reset, NextRow, HoldsReset, IsUnderRst, quiet, holds, lingers, UnderRst, Standing}, Dues.{is_at}}
+use proofs.{Dues.{due_in_reset, is_there, is_entry, free_due_is}, FromFree.{row_is}, FromReset.{off_at, link_in_reset}}
+use proofs.{FromReset.{link_apart, resets_ahead}, ResetObeys.{reset_row_obeys, raises_rst, none_within}}
+use proofs.Resets.{one_of, comes_by, due_calm, due_holding, due_there, own_reset_is, own_other, rst_own}
+use proofs.Rows.{change_is, since_is, drives_own, drives_other, raised_own, raised_other, stage_is, stands_by}
 
 -- ---- a device that does not drive RST, under RST
 

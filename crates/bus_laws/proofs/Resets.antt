@@ -1,34 +1,13 @@
 -- RST: what is due round what is due without it, and the rows that raise and release it (6.2.2).
-use Rattle.std.proofs.Common.{◌⊎◌, inl, inr, ℕ, ◌≡◌, ◌≢◌, ◌<◌, ◌≤◌, ◌+◌, Bool, true, false, not, ◌&&◌, ◌∙◌, List, [], ◌∷◌, Option, Some, None, refl, sym, ap, arith}
-use Rattle.std.specs.Prelude.{nat_lt, if◌then◌else◌, min, ◌==◌}
-use Rattle.std.proofs.lemmas.Bool.{ltb-false, ne_eqb}
-use Rattle.std.proofs.lemmas.Bool.Decides.{nat_tests}
-use Rattle.std.proofs.lemmas.Option.{same_Some, none-some}
-use Rattle.bus_due.specs.bus_trace.specs.LineSet.{LineSet, none}
-use Rattle.bus_due.specs.bus_trace.specs.declared.Row.{Row}
-use Rattle.bus_due.specs.bus_trace.specs.declared.Kind.TheVariants.{Drives, Fault}
-use Rattle.bus_due.specs.bus_trace.specs.Trace.{drives}
-use Rattle.bus_due.specs.bus_trace.specs.Changes.{change_of, rises, falls}
-use Rattle.bus_due.specs.bus_trace.specs.Terms.{when}
-use Rattle.bus_due.specs.scenario.specs.declared.value.ResetDef.{ResetDef}
-use Rattle.bus_due.specs.scenario.specs.Value.{ScenarioValue}
-use Rattle.bus_due.specs.bus_story.specs.Samples.{latency_of}
-use Rattle.bus_due.specs.bus_reactions.specs.declared.due.Due.{Due}
-use Rattle.bus_due.specs.bus_reactions.specs.Reactions.{due_at, earlier_due, sooner_time, time_if}
-use Rattle.bus_due.specs.bus_reactions.specs.Reset.{rst_assertion, rst_release}
-use Rattle.bus_due.specs.Own.{Own, own_at, own_of, own_after, own_next}
-use Rattle.bus_due.specs.RunSteps.{run_state}
-use Rattle.bus_due.specs.Due.{self_of, is_reset_past, reset_from, calm_due, device_due, due_if}
-use Rattle.bus_due.specs.Next.{due}
-use Rattle.bus_due.specs.Plain.{AreOfDevices}
-use Rattle.bus_due.proofs.Plains.{run_state_plain}
-use Rattle.bus_due.specs.bus_rules.specs.Reset.{only_rst}
-use Rattle.bus_laws.specs.Reactions.{unreset_due_if, unreset_due, reset_due_if, reset_due}
-use Rattle.bus_laws.proofs.Dues.{is_at}
-use Rattle.bus_laws.specs.Stages.{HasDevice}
-use Rattle.bus_laws.specs.Rows.{row_of_lines}
-use Rattle.bus_due.specs.bus_base.proofs.Tests.{eq_self, none_number}
-use Rattle.bus_due.proofs.Leasts.{some_eq}
+use Rattle.bus_laws.proofs
+use proofs.Names.{◌⊎◌, inl, inr, ℕ, ◌≡◌, ◌≢◌, ◌<◌, ◌≤◌, ◌+◌, Bool, true, false, not, ◌&&◌, ◌∙◌, List, [], ◌∷◌, Option}
+use proofs.Names.{Some, None, refl, sym, ap, arith, ltb-false, ne_eqb, nat_tests, same_Some, none-some, nat_lt}
+use proofs.Names.{if◌then◌else◌, min, ◌==◌, eq_self, none_number, change_of, rises, falls, LineSet, none, when, drives}
+use proofs.Names.{Drives, Fault, Row, only_rst, ScenarioValue, ResetDef, latency_of, due_at, earlier_due, sooner_time}
+use proofs.Names.{time_if, rst_assertion, rst_release, Due, some_eq, run_state_plain, self_of, is_reset_past}
+use proofs.Names.{reset_from, calm_due, device_due, due_if, due, Own, own_at, own_of, own_after, own_next, AreOfDevices}
+use proofs.Names.{run_state, unreset_due_if, unreset_due, reset_due_if, reset_due, row_of_lines, HasDevice}
+use proofs.Dues.{is_at}
 
 -- ---- the first of two
 

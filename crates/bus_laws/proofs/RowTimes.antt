@@ -1,36 +1,14 @@
 -- All that is kept of rows which come before a time lies before it.
-use Rattle.std.proofs.Common.{ℕ, zero, suc, ◌≡◌, ◌<◌, Bool, true, false, List, [], ◌∷◌, Option, Some, None, refl, arith, length, replicate}
-use Rattle.std.specs.Prelude.{if◌then◌else◌, ◌==◌, ◌&&◌, slice_index}
-use Rattle.std.specs.List.{AllByRecursion}
-use Rattle.bus_due.specs.bus_base.specs.declared.Event.{Event}
-use Rattle.bus_due.specs.bus_trace.specs.LineSet.{line_of, data_of}
-use Rattle.bus_due.specs.bus_trace.specs.View.{driven_at, AreTimesBefore}
-use Rattle.bus_due.specs.bus_trace.specs.declared.Row.{Row}
-use Rattle.bus_due.specs.bus_trace.specs.declared.Kind.{Kind}
-use Rattle.bus_due.specs.bus_trace.specs.declared.Kind.TheVariants.{Drives, Fault}
-use Rattle.bus_due.specs.bus_trace.specs.declared.changes.Change.{Change}
-use Rattle.bus_due.specs.bus_trace.specs.declared.arbitration.Arbitration.{Arbitration}
-use Rattle.bus_due.specs.bus_trace.specs.declared.selection.Call.{Call}
-use Rattle.bus_due.specs.bus_trace.specs.declared.selection.Calling.{Calling}
-use Rattle.bus_due.specs.bus_trace.specs.declared.connection.Connection.{Connection}
-use Rattle.bus_due.specs.bus_trace.specs.Trace.{drives, bus, last_time, since, line_times}
-use Rattle.bus_due.specs.bus_trace.specs.Changes.{rises, change_of}
-use Rattle.bus_due.specs.bus_trace.specs.Terms.{arbitration, call, connection, free_since}
-use Rattle.bus_due.specs.bus_lines.specs.BusView.{BusViewValue, IsBusViewOf}
-use Rattle.bus_due.specs.bus_lines.specs.Effect.{effect}
-use Rattle.bus_due.specs.bus_lines.specs.Handshakes.{handshakes}
-use Rattle.bus_due.specs.bus_lines.specs.Timely.{IsBefore, IsCallingBefore, IsCallBefore, IsConnectionBefore, IsArbitrationBefore, IsStageBefore, AreHandshakesBefore, IsTimely}
-use Rattle.bus_due.specs.bus_lines.specs.Stage.{stage, stage_by, call_stage, answer_stage}
-use Rattle.bus_due.specs.bus_lines.proofs.Times.{timely, ComeBefore}
-use Rattle.bus_due.specs.scenario.specs.Value.{ScenarioValue}
-use Rattle.bus_due.specs.disk_array.specs.Units.{UnitState, Array}
-use Rattle.bus_due.specs.Own.{Own, own_of, own_next}
-use Rattle.bus_due.specs.RunState.{RunState, or_start}
-use Rattle.bus_due.specs.RunSteps.{run_state, current_times_after, current_times_if, is_same_running, array_after_events}
-use Rattle.bus_due.specs.Wants.{since_of}
-use Rattle.bus_due.specs.bus_story.specs.BusState.{row_reading}
-use Rattle.bus_due.specs.bus_story.specs.HistoryEvents.{row_events_by}
-use Rattle.bus_due.specs.bus_base.proofs.Tests.{if_less}
+use Rattle.bus_laws.proofs
+use proofs.Names.{ℕ, zero, suc, ◌≡◌, ◌<◌, Bool, true, false, List, [], ◌∷◌, Option, Some, None, refl, arith, length}
+use proofs.Names.{replicate, ◌&&◌, AllByRecursion, if◌then◌else◌, ◌==◌, slice_index, if_less, Event, rises, change_of}
+use proofs.Names.{line_of, data_of, arbitration, call, connection, free_since, drives, bus, last_time, since}
+use proofs.Names.{line_times, driven_at, AreTimesBefore, Kind, Drives, Fault, Row, Arbitration, Change, Connection}
+use proofs.Names.{Call, Calling, timely, ComeBefore, BusViewValue, IsBusViewOf, effect, handshakes, stage, stage_by}
+use proofs.Names.{call_stage, answer_stage, IsBefore, IsCallingBefore, IsCallBefore, IsConnectionBefore}
+use proofs.Names.{IsArbitrationBefore, IsStageBefore, AreHandshakesBefore, IsTimely, ScenarioValue, UnitState, Array}
+use proofs.Names.{row_reading, row_events_by, Own, own_of, own_next, RunState, or_start, run_state, current_times_after}
+use proofs.Names.{current_times_if, is_same_running, array_after_events, since_of}
 
 -- ---- the bus
 

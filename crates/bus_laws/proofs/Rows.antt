@@ -1,23 +1,10 @@
 -- What one more row changes of what stands on the bus.
-use Rattle.std.proofs.Common.{ℕ, ◌≡◌, ◌≢◌, Bool, true, false, List, ◌∷◌, ◌∙◌, refl, sym, ap, Option}
-use Rattle.std.specs.Prelude.{◌==◌, if◌then◌else◌}
-use Rattle.bus_due.specs.bus_trace.specs.LineSet.{LineSet}
-use Rattle.bus_due.specs.bus_trace.specs.declared.Row.{Row}
-use Rattle.bus_due.specs.bus_trace.proofs.OneRow.{bus-fault}
-use Rattle.bus_due.specs.bus_trace.specs.Trace.{drives, bus, since, newer, since_line, newer_line}
-use Rattle.bus_due.specs.bus_trace.specs.declared.changes.Change.{Change}
-use Rattle.bus_due.specs.bus_trace.specs.declared.arbitration.Arbitration.{Arbitration}
-use Rattle.bus_due.specs.bus_trace.specs.declared.selection.Call.{Call}
-use Rattle.bus_due.specs.bus_trace.specs.declared.connection.Connection.{Connection}
-use Rattle.bus_due.specs.bus_trace.specs.Changes.{change_of}
-use Rattle.bus_due.specs.bus_trace.specs.Terms.{arbitration_after, call_after, connection_after, free_since, raised, raised_next}
-use Rattle.bus_due.specs.Own.{own_after}
-use Rattle.bus_due.specs.bus_lines.specs.Stage.{stage, stage_by}
-use Rattle.bus_due.specs.Own.{own_of}
-use Rattle.bus_laws.specs.Reactions.{own_time}
-use Rattle.bus_laws.specs.Rows.{Stands, change_to, row_of_fault, row_of_lines}
-use Rattle.std.proofs.lemmas.Bool.{ne_eqb}
-use Rattle.bus_due.specs.bus_base.proofs.Tests.{eq_self}
+use Rattle.bus_laws.proofs
+use proofs.Names.{ℕ, ◌≡◌, ◌≢◌, Bool, true, false, List, ◌∷◌, ◌∙◌, refl, sym, ap, Option, ne_eqb, ◌==◌, if◌then◌else◌}
+use proofs.Names.{eq_self, bus-fault, change_of, LineSet, arbitration_after, call_after, connection_after, free_since}
+use proofs.Names.{raised, raised_next, drives, bus, since, newer, since_line, newer_line, Row, Arbitration, Change}
+use proofs.Names.{Connection, Call, stage, stage_by, own_after, own_of, own_time, Stands, change_to, row_of_fault}
+use proofs.Names.{row_of_lines}
 
 pub drives_own : (p : List Row) (t d : ℕ) (l : LineSet) → drives (row_of_lines t d l ∷ p) d ≡ l
 drives_own p t d l = λ i. if eq_self d i then l else drives p d

@@ -1,25 +1,11 @@
 -- What the rules see of a row of lines where no connection stands.
-use Rattle.std.proofs.Common.{ap, ℕ, ◌≡◌, Bool, false, not, List, [], ◌∷◌, ◌∙◌, refl, Option, None}
-use Rattle.std.specs.Prelude.{is_some}
-use Rattle.bus_due.specs.bus_trace.specs.LineSet.{LineSet, data_of}
-use Rattle.bus_due.specs.bus_trace.specs.declared.Row.{Row}
-use Rattle.bus_due.specs.bus_trace.specs.Trace.{drives, bus, last_time, since, since_line, line_times}
-use Rattle.bus_due.specs.bus_trace.specs.declared.changes.Change.{Change}
-use Rattle.bus_due.specs.bus_trace.specs.declared.arbitration.Arbitration.{Arbitration}
-use Rattle.bus_due.specs.bus_trace.specs.declared.selection.Call.{Call}
-use Rattle.bus_due.specs.bus_phases.specs.declared.reading.Reading.TheVariants as readings
-use Rattle.bus_due.specs.bus_rules.specs.declared.seen.Seen.{Seen}
-use Rattle.bus_due.specs.bus_trace.specs.Changes.{change_of}
-use Rattle.bus_due.specs.bus_trace.specs.Terms.{raised, call, connection, receiver}
-use Rattle.bus_due.specs.bus_phases.specs.declared.attention.Duty.TheVariants as duties
-use Rattle.bus_due.specs.bus_phases.specs.Phases.{pulses, pulses_after, no_pulses, turned, duty, duty_after, is_attention_held}
-use Rattle.bus_due.specs.bus_phases.specs.Dialogue.{dialogue, dialogue_after, agreed, opened, asynchronous, no_command}
-use Rattle.bus_due.specs.bus_phases.specs.Half.{is_nil}
-use Rattle.bus_due.specs.bus_phases.specs.Reading.{reading_of}
-use Rattle.bus_due.specs.bus_rules.specs.Seen.{seen, seen_with, others_in_call, id_since, drives_bsy, initiator_of, initiator_data, target_data}
-use Rattle.bus_due.specs.bus_rules.specs.Rules.{lowest_broken, broken_rule}
-use Rattle.bus_laws.proofs.Rows.{change_is}
-use Rattle.bus_laws.specs.Rows.{Stands, change_to, row_of_lines}
+use Rattle.bus_laws.proofs
+use proofs.Names.{ap, ℕ, ◌≡◌, Bool, false, not, List, [], ◌∷◌, ◌∙◌, refl, Option, None, is_some, change_of, LineSet}
+use proofs.Names.{data_of, raised, call, connection, receiver, drives, bus, last_time, since, since_line, line_times}
+use proofs.Names.{Row, Arbitration, Change, Call, dialogue, dialogue_after, agreed, opened, asynchronous, no_command}
+use proofs.Names.{is_nil, pulses, pulses_after, no_pulses, turned, duty, duty_after, is_attention_held, reading_of}
+use proofs.Names.{Duty, Reading, lowest_broken, broken_rule, seen, seen_with, others_in_call, id_since, drives_bsy}
+use proofs.{Names.{initiator_of, initiator_data, target_data, Seen, Stands, change_to, row_of_lines}, Rows.{change_is}}
 
 -- what of it is of no rule here but for its times
 -- without a connection nothing was said
@@ -27,7 +13,7 @@ pub dialogue_none : (p : List Row) → connection p ≡ None → dialogue p ≡ 
 dialogue_none [] e = refl
 dialogue_none (row ∷ rows) e = λ i. dialogue_after (dialogue rows) (connection rows) (e i) (agreed rows) (change_of rows row)
 
-pub duty_none : (p : List Row) → connection p ≡ None → duty p ≡ duties.Nothing
+pub duty_none : (p : List Row) → connection p ≡ None → duty p ≡ Duty.Nothing
 duty_none [] e = refl
 duty_none (row ∷ rows) e = λ i. duty_after (duty rows) (e i) (change_of rows row) (is_attention_held (change_of rows row) (since_line (λ s. s.atn) rows) row.time)
 
@@ -60,7 +46,7 @@ seen_apart p dev c a k others = record {
   command = no_command;
   is_half = false;
   begun = false;
-  reading = readings.NoMessage;
+  reading = Reading.NoMessage;
 }
 
 pub seen_by : (p : List Row) (row : Row) (g : Change) (b : LineSet) (a : Option Arbitration) (k : Option Call) (others : Bool) → Stands p b a k None → change_of p row ≡ g → others_in_call (drives p) k ≡ others → seen p row ≡ seen_apart p row.dev g a k others

@@ -1,37 +1,16 @@
 -- The stages together: the next row keeps all that holds, and what holds after it.
-use Rattle.std.proofs.Common.{inl, inr, ℕ, ◌≡◌, ◌<◌, ◌≤◌, Bool, false, not, ◌&&◌, ◌∙◌, List, [], ◌∷◌, Option, Some, None, refl, sym, ap, subst, arith}
-use Rattle.std.specs.Prelude.{is_some}
-use Rattle.std.proofs.lemmas.Bool.{cases_eq}
-use Rattle.bus_due.specs.bus_trace.specs.LineSet.{LineSet}
-use Rattle.bus_due.specs.bus_trace.specs.View.{union_below}
-use Rattle.bus_due.specs.bus_trace.specs.declared.Row.{Row}
-use Rattle.bus_due.specs.bus_trace.specs.declared.arbitration.Arbitration.{Arbitration}
-use Rattle.bus_due.specs.bus_trace.specs.declared.selection.Call.{Call}
-use Rattle.bus_due.specs.bus_trace.specs.declared.connection.Connection.{Connection}
-use Rattle.bus_due.specs.bus_trace.specs.Trace.{bus, last_time}
-use Rattle.bus_due.specs.bus_trace.specs.Terms.{connection}
-use Rattle.bus_due.specs.bus_trace.proofs.Ages.{since_le, since_line_le}
-use Rattle.bus_due.specs.bus_trace.proofs.OneRow.{drives-other}
-use Rattle.bus_due.specs.scenario.specs.Value.{ScenarioValue}
-use Rattle.bus_due.specs.bus_reactions.specs.declared.due.Due.{Due}
-use Rattle.bus_due.specs.bus_rules.specs.Rules.{broken_rule}
-use Rattle.bus_due.specs.bus_rules.proofs.First.{row_none}
-use Rattle.bus_due.specs.bus_rules.specs.Reset.{only_rst}
-use Rattle.bus_due.specs.Next.{due}
-use Rattle.bus_due.specs.Least.{IsLeast}
-use Rattle.bus_due.specs.Plain.{AreOfDevices}
-use Rattle.bus_laws.specs.Reactions.{unreset_due, reset_due}
-use Rattle.bus_laws.specs.Rows.{row_of_lines, Stands}
-use Rattle.bus_laws.specs.Stages.{HasShortLatencies, CalmStanding, AreAhead, BusStage, on_free_bus, in_arbitration, after_arbitration, with_both_ids, awaiting_answer, after_withdrawal, after_answer, after_takeover, in_reset, in_connection, NextCalmRow, HasDevice, Standing, NextRow, is_connected}
-use Rattle.bus_laws.proofs.Joint.{own_time_le}
-use Rattle.bus_laws.proofs.FromFree.{from_free, row_is}
-use Rattle.bus_laws.proofs.FromArbitration.{from_arbitration}
-use Rattle.bus_laws.proofs.FromWon.{from_won}
-use Rattle.bus_laws.proofs.FromCalling.{from_calls, from_asking}
-use Rattle.bus_laws.proofs.FromAnswer.{from_withdrawn, from_answered, from_resumed}
-use Rattle.bus_laws.proofs.Resets.{one_of, comes_by, due_calm, due_there, own_reset_is}
-use Rattle.bus_laws.proofs.FromReset.{off_at, resets_ahead}
-use Rattle.bus_laws.proofs.ResetSteps.{from_reset, raises}
+use Rattle.bus_laws.proofs
+use proofs.Names.{inl, inr, ℕ, ◌≡◌, ◌<◌, ◌≤◌, Bool, false, not, ◌&&◌, ◌∙◌, List, [], ◌∷◌, Option, Some, None, refl, sym}
+use proofs.Names.{ap, subst, arith, cases_eq, is_some, since_le, since_line_le, drives-other, LineSet, connection, bus}
+use proofs.Names.{last_time, union_below, Row, Arbitration, Connection, Call, row_none, only_rst, broken_rule}
+use proofs.Names.{ScenarioValue, Due, IsLeast, due, AreOfDevices, unreset_due, reset_due, row_of_lines, Stands}
+use proofs.Names.{HasShortLatencies, CalmStanding, AreAhead, BusStage, on_free_bus, in_arbitration, after_arbitration}
+use proofs.Names.{with_both_ids, awaiting_answer, after_withdrawal, after_answer, after_takeover, in_reset}
+use proofs.{Names.{in_connection, NextCalmRow, HasDevice, Standing, NextRow, is_connected}, FromAnswer.{from_withdrawn}}
+use proofs.{FromAnswer.{from_answered, from_resumed}, FromArbitration.{from_arbitration}, FromCalling.{from_calls}}
+use proofs.{FromCalling.{from_asking}, FromFree.{from_free, row_is}, FromReset.{off_at, resets_ahead}}
+use proofs.{FromWon.{from_won}, Joint.{own_time_le}, ResetSteps.{from_reset, raises}, Resets.{one_of, comes_by}}
+use proofs.Resets.{due_calm, due_there, own_reset_is}
 
 -- ---- before the first row
 

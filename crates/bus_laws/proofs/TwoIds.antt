@@ -1,11 +1,7 @@
 -- The IDs of a calling.
-use Rattle.std.proofs.Common.{ℕ, ◌≡◌, ◌≢◌, ◌+◌, ◌^◌, ◌<◌, ◌==◌, ◌||◌, ◌&&◌, Bool, true, false, refl}
-use Rattle.std.specs.Int.{bit_at}
-use Rattle.std.specs.Int.RustNames.{count_ones}
-use Rattle.std.proofs.lemmas.Bool.{agree_below, agree_below_at, eqb-true, ne_eqb, and_parts}
-use Rattle.bus_due.specs.bus_trace.specs.Terms.{drives_two_ids, other_id}
-use Rattle.bus_laws.specs.Callings.{both_ids}
-use Rattle.bus_due.specs.bus_base.proofs.Tests.{or_second}
+use Rattle.bus_laws.proofs
+use proofs.Names.{ℕ, ◌≡◌, ◌≢◌, ◌+◌, ◌^◌, ◌<◌, ◌||◌, ◌&&◌, Bool, true, false, refl, agree_below, agree_below_at}
+use proofs.Names.{eqb-true, ne_eqb, and_parts, bit_at, count_ones, ◌==◌, or_second, drives_two_ids, other_id, both_ids}
 
 abbrev good : Bool → ℕ → ℕ → Bool
 good m a b = (a == b) || (drives_two_ids a (both_ids m a b) && ((other_id (both_ids m a b) a == b) && (bit_at (both_ids m a b).data_bits 8 == 1)))

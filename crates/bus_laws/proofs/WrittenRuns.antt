@@ -1,15 +1,8 @@
 -- Writes come whole, over all rows of a run: a forward pass over the rows decides it.
-use Rattle.std.proofs.Common.{◌≡◌, Bool, true, List, [], ◌∷◌, refl}
-use Rattle.std.specs.Prelude.{◌&&◌}
-use Rattle.std.proofs.lemmas.Bool.{and_from, and_parts}
-use Rattle.bus_due.specs.bus_trace.specs.declared.Row.{Row}
-use Rattle.bus_due.specs.scenario.specs.Value.{ScenarioValue}
-use Rattle.bus_due.specs.bus_story.specs.BusState.{RowReading, row_reading}
-use Rattle.bus_due.specs.RunState.{RunState}
-use Rattle.bus_due.specs.RunSteps.{first_run_state, run_state, run_state_after}
-use Rattle.bus_due.specs.Sights.{hearing_of}
-use Rattle.bus_due.proofs.Seams.{onto}
-use Rattle.scsi_device.specs.Writes.{Writer, writers, writers_after, is_written, written}
+use Rattle.bus_laws.proofs
+use proofs.Names.{◌≡◌, Bool, true, List, [], ◌∷◌, refl, ◌&&◌, and_from, and_parts, Row, ScenarioValue, RowReading}
+use proofs.Names.{row_reading, onto, RunState, first_run_state, run_state, run_state_after, hearing_of, Writer, writers}
+use proofs.Names.{writers_after, is_written, written}
 
 -- The rows are given the oldest first.
 abbrev pub rows_written : ScenarioValue → RunState → List Writer → List Row → Bool

@@ -1,26 +1,16 @@
 -- In a history that the plain disk array permits each command that arrives is refused exactly where it finds the queue of its unit full (7.8).
-use Rattle.std.proofs.Common.{ℕ, ◌≡◌, ◌+◌, Bool, true, false, not, ◌&&◌, ◌∙◌, List, [], ◌∷◌, ◌++◌, Option, Some, None, refl, sym, ap, arith}
-use Rattle.std.specs.Prelude.{if◌then◌else◌, ◌==◌, is_some, nat_lt}
-use Rattle.std.proofs.lemmas.Bool.{and_from, ne_eqb}
-use Rattle.std.proofs.lemmas.Bool.Decides.{nat_tests}
-use Rattle.bus_due.specs.bus_base.specs.declared.ProcId.{ProcId}
-use Rattle.bus_due.specs.bus_base.specs.declared.Event.{Event}
-use Rattle.bus_due.specs.bus_base.specs.declared.Event.TheVariants as events
-use Rattle.bus_due.specs.bus_base.proofs.Tests.{wrong'}
-use Rattle.bus_due.specs.cdb_codec.specs.Cdb.{command_of}
-use Rattle.bus_due.specs.scenario.specs.Value.{ScenarioValue}
-use Rattle.bus_due.specs.disk_array.specs.ArrayHistory.{array_after, array_step}
-use Rattle.bus_due.specs.disk_array.specs.Execution.{is_request_sense}
-use Rattle.bus_due.specs.disk_array.specs.Processes.{Process, process_of}
-use Rattle.bus_due.specs.disk_array.specs.Steps.{accept_step, accept_step_at, event_step, process_count, queue_step, settled_array_if, with_guest}
-use Rattle.bus_due.specs.disk_array.specs.Units.{Array, UnitState, unit_state_at, with_unit}
-use Rattle.progress_laws.specs.trace_laws.proofs.Impossible.{none_some}
-use Rattle.progress_laws.specs.bus_books.specs.FullQueues.{finds_full_queue, finds_full_queue_if, is_full}
-use Rattle.delivery_laws.specs.Endings.{arrive_by_room, arrives_by_room}
+use Rattle.delivery_laws.proofs
+use proofs.Names.{ℕ, ◌≡◌, ◌+◌, Bool, true, false, not, ◌&&◌, ◌∙◌, List, [], ◌∷◌, ◌++◌, Option, Some, None, refl, sym}
+use proofs.Names.{ap, arith, and_from, ne_eqb, nat_tests, if◌then◌else◌, ◌==◌, is_some, nat_lt, wrong', Event, ProcId}
+use proofs.Names.{command_of, ScenarioValue, array_after, array_step, is_request_sense, Process, process_of}
+use proofs.Names.{accept_step, accept_step_at, event_step, process_count, queue_step, settled_array_if, with_guest}
+use proofs.Names.{Array, UnitState, unit_state_at, with_unit, finds_full_queue, finds_full_queue_if, none_some}
+use proofs.Names.{arrive_by_room, arrives_by_room}
+use Rattle.progress_laws.specs.bus_books.specs.FullQueues.{is_full}
 
 -- What the array refuses (refusals_have_causes of the books).
 abbrev pub AreRefusals : Type 0
-AreRefusals = (s : ScenarioValue) (a : Array) (id : ProcId) → is_some (event_step s a (events.Refuse id)) ≡ finds_full_queue a (process_of s id)
+AreRefusals = (s : ScenarioValue) (a : Array) (id : ProcId) → is_some (event_step s a (Event.Refuse id)) ≡ finds_full_queue a (process_of s id)
 
 below : (a b : ℕ) → nat_lt a b ≡ true → (a == b) ≡ false
 below a b e = ne_eqb a b (λ z. grind (arith, nat_tests))
@@ -58,14 +48,14 @@ by_room s [] a refuses e = refl
 by_room s (x ∷ h) a refuses e = go (array_after s h) refl e (λ b z. by_room s h b refuses z)
   where
     event : (b : Array) (y : Event) → array_after s h ≡ Some b → is_some (event_step s b y) ≡ true → arrives_by_room s h y ≡ true
-    event b (events.Accept id) z w = ap (λ (q : Bool). not q) (ap (λ (o : Option Array). finds_full_queue_if o (process_of s id)) z ∙ taken b (process_of s id) w)
-    event b (events.Refuse id) z w = ap (λ (o : Option Array). finds_full_queue_if o (process_of s id)) z ∙ sym (refuses s b id) ∙ w
-    event b (events.Run id) z w = refl
-    event b (events.Fail id code) z w = refl
-    event b (events.End id status) z w = refl
-    event b (events.Lost id) z w = refl
-    event b (events.Aborted i t n what) z w = refl
-    event b (events.Reset dev) z w = refl
+    event b (Event.Accept id) z w = ap (λ (q : Bool). not q) (ap (λ (o : Option Array). finds_full_queue_if o (process_of s id)) z ∙ taken b (process_of s id) w)
+    event b (Event.Refuse id) z w = ap (λ (o : Option Array). finds_full_queue_if o (process_of s id)) z ∙ sym (refuses s b id) ∙ w
+    event b (Event.Run id) z w = refl
+    event b (Event.Fail id code) z w = refl
+    event b (Event.End id status) z w = refl
+    event b (Event.Lost id) z w = refl
+    event b (Event.Aborted i t n what) z w = refl
+    event b (Event.Reset dev) z w = refl
 
     go : (o : Option Array) → array_after s h ≡ o → array_step s x o ≡ Some a → ((b : Array) → array_after s h ≡ Some b → arrive_by_room s h ≡ true) → arrive_by_room s (x ∷ h) ≡ true
     go None z st rest = none_some a st

@@ -1,72 +1,28 @@
 -- A calling of a device that is there ends without an answer only where a fault struck the IDs that it sampled; so an initiator calls in
 -- vain for an item no more often than faults struck its callings for it (6.1.3, 6.1.3.1).
-use Rattle.std.proofs.Common.{ℕ, ◌≡◌, ◌⊎◌, inl, inr, ◌<◌, ◌≤◌, ◌+◌, ◌^◌, Bool, true, false, not, ◌&&◌, ◌||◌, ◌∙◌, List, [], ◌∷◌, Option, Some, None, refl, sym, ap, subst, arith}
-use Rattle.std.specs.Prelude.{if◌then◌else◌, ◌==◌, ◌++◌, is_none, is_some, nat_lt}
-use Rattle.std.specs.List.{list_any}
-use Rattle.std.proofs.lemmas.Bool.{cases_eq}
-use Rattle.std.proofs.lemmas.Bool.Decides.{nat_tests}
-use Rattle.std.proofs.lemmas.Option.{same_Some}
-use Rattle.bus_due.specs.bus_base.specs.declared.Event.{Event}
-use Rattle.bus_due.specs.bus_base.specs.declared.Event.TheVariants as events
-use Rattle.bus_due.specs.cdb_codec.specs.declared.status.TheConstants.{CHECK_CONDITION}
-use Rattle.bus_due.specs.bus_base.proofs.Tests.{wrong, wrong', and_first, and_second, none_between}
-use Rattle.bus_due.specs.bus_trace.specs.LineSet.{LineSet, none}
-use Rattle.bus_due.specs.bus_trace.specs.declared.Row.{Row}
-use Rattle.bus_due.specs.bus_trace.specs.declared.Kind.TheVariants.{Drives}
-use Rattle.bus_due.specs.bus_trace.specs.declared.changes.Change.{Change}
-use Rattle.bus_due.specs.bus_trace.specs.declared.connection.Connection.{Connection}
-use Rattle.bus_due.specs.bus_trace.specs.declared.selection.Call.{Call}
-use Rattle.bus_due.specs.bus_trace.specs.declared.selection.Calling.{Calling}
-use Rattle.bus_due.specs.bus_trace.specs.Changes.{change_of, rises, falls}
-use Rattle.bus_due.specs.bus_trace.specs.Terms.{call, calling_after, caller_goes_on, called_goes_on, connection, drives_two_ids, is_fault, new_calling}
-use Rattle.bus_due.specs.bus_trace.specs.Trace.{bus, drives}
-use Rattle.bus_due.specs.bus_trace.proofs.Buses.{bus_on}
-use Rattle.bus_due.specs.bus_trace.proofs.OneRow.{drives-other}
-use Rattle.bus_due.specs.bus_rules.specs.Reset.{only_rst}
-use Rattle.bus_due.specs.bus_rules.proofs.First.{row_none}
-use Rattle.bus_due.specs.scenario.specs.declared.value.CmdDef.{CmdDef}
-use Rattle.bus_due.specs.scenario.specs.Lookups.{has_target}
-use Rattle.bus_due.specs.scenario.specs.Value.{ScenarioValue}
-use Rattle.bus_due.specs.scenario.specs.Writing.{Obeys}
-use Rattle.bus_due.specs.disk_array.specs.Processes.{command_at, process_if}
-use Rattle.bus_due.specs.bus_story.specs.BusState.{RowReading, row_reading}
-use Rattle.bus_due.specs.bus_story.specs.HistoryEvents.{row_events_by}
-use Rattle.bus_due.specs.bus_story.specs.Items.{Item, process, abort, same_item, count_item, is_open, command_id, command_item, sense_item}
-use Rattle.bus_due.specs.bus_story.specs.Links.{link_of}
-use Rattle.bus_due.specs.bus_story.specs.Samples.{latency_of}
-use Rattle.bus_due.specs.bus_story.specs.Outcomes.{ending_of}
-use Rattle.bus_due.specs.bus_story.specs.Story.{Story, Ending, by_status, by_abort, by_reset, unanswered, story_with_over, story_with_end, story_with_ends, is_aborted, is_sense_stopped, story_after_event, story_after_events, story_with_end_if}
-use Rattle.bus_due.specs.bus_story.specs.TraceHistory.{aim_of, is_arbitration_entry, retries_of, story_after_calling, story_after_calling_by, story_after_connection, story_by_change, story_on_bus, story_on_free_bus, story_with_aim, story_with_restored, story_with_sent, story_with_try, story_without_answer}
-use Rattle.bus_due.specs.bus_story.proofs.StorySteps.{events_aims, restored_aims, sent_aims}
-use Rattle.bus_due.specs.bus_dialogue.specs.PhaseBytes.{one_if}
-use Rattle.progress_laws.specs.bus_books.proofs.Aims.{connected_aims}
-use Rattle.bus_due.specs.Least.{IsLeast}
-use Rattle.bus_due.specs.Next.{due, IsPrompt}
-use Rattle.bus_due.specs.Plain.{AreOfDevices, IsPlain}
-use Rattle.bus_due.specs.RunState.{RunState}
-use Rattle.bus_due.specs.RunSteps.{run_state}
-use Rattle.bus_due.specs.Wants.{initiator_if, ready_of, target_if, target_of}
-use Rattle.bus_due.proofs.Plains.{run_state_plain}
-use Rattle.progress_laws.specs.bus_laws.specs.Callings.{calling_lines, won_call}
-use Rattle.progress_laws.specs.bus_laws.specs.Reactions.{unreset_due}
-use Rattle.progress_laws.specs.bus_laws.specs.Rows.{row_of_lines}
-use Rattle.progress_laws.specs.bus_laws.specs.Stages.{CalmStanding, BusStage, on_free_bus, in_arbitration, after_arbitration, with_both_ids, awaiting_answer, after_withdrawal, after_answer, after_takeover, in_reset, in_connection}
-use Rattle.progress_laws.specs.bus_laws.proofs.Apart.{change_plain}
-use Rattle.progress_laws.specs.bus_laws.proofs.Prompt.{least_is}
-use Rattle.progress_laws.specs.bus_laws.proofs.Rows.{drives_own}
-use Rattle.progress_laws.specs.bus_laws.proofs.Together.{reset_or_calm, by_reset, by_calm}
-use Rattle.progress_laws.specs.trace_laws.proofs.Called.{IsDueCall, sel_of_call}
-use Rattle.progress_laws.specs.trace_laws.proofs.Impossible.{none_some}
-use Rattle.progress_laws.specs.trace_laws.proofs.Joint.{Stood}
-use Rattle.progress_laws.specs.trace_laws.proofs.OpenCommands.{item_is}
-use Rattle.progress_laws.specs.trace_laws.proofs.PointerWaits.{connection_sent}
-use Rattle.progress_laws.specs.trace_laws.proofs.Whole.{Whole, whole}
-use Rattle.progress_laws.specs.trace_laws.specs.ItemFacts.{IsNext}
-use Rattle.right_laws.proofs.Calls.{GoesOn, call_goes}
-use Rattle.right_laws.proofs.StruckCallings.{asks_row, reset_sel, struck_out, waits_row}
-use Rattle.right_laws.proofs.Moments.{apart_of}
-use Rattle.progress_laws.proofs.Rooms.{target_there}
-use Rattle.delivery_laws.specs.Delivery.{is_selecting, is_for_item, is_call_for, is_calling_fault, calling_faults}
+use Rattle.delivery_laws.proofs
+use proofs.Names.{ℕ, ◌≡◌, ◌⊎◌, inl, inr, ◌<◌, ◌≤◌, ◌+◌, ◌^◌, Bool, true, false, not, ◌&&◌, ◌||◌, ◌∙◌, List, [], ◌∷◌}
+use proofs.Names.{Option, Some, None, refl, sym, ap, subst, arith, ◌++◌, cases_eq, nat_tests, same_Some, list_any}
+use proofs.Names.{if◌then◌else◌, ◌==◌, is_none, is_some, nat_lt, wrong, wrong', and_first, and_second, none_between}
+use proofs.Names.{Event, bus_on, drives-other, change_of, rises, falls, LineSet, none, call, calling_after}
+use proofs.Names.{caller_goes_on, called_goes_on, connection, drives_two_ids, is_fault, new_calling, bus, drives}
+use proofs.Names.{Drives, Row, Change, Connection, Call, Calling, CHECK_CONDITION, row_none, only_rst, has_target}
+use proofs.Names.{ScenarioValue, Obeys, CmdDef, command_at, process_if, events_aims, restored_aims, sent_aims}
+use proofs.Names.{RowReading, row_reading, row_events_by, Item, process, abort, same_item, count_item, is_open}
+use proofs.Names.{command_id, command_item, sense_item, link_of, ending_of, latency_of, Story, Ending, by_status}
+use proofs.Names.{by_abort, unanswered, story_with_over, story_with_end, story_with_ends, is_aborted, is_sense_stopped}
+use proofs.Names.{story_after_event, story_after_events, story_with_end_if, aim_of, is_arbitration_entry, retries_of}
+use proofs.Names.{story_after_calling, story_after_calling_by, story_after_connection, story_by_change, story_on_bus}
+use proofs.Names.{story_on_free_bus, story_with_aim, story_with_restored, story_with_sent, story_with_try}
+use proofs.Names.{story_without_answer, one_if, run_state_plain, IsLeast, due, IsPrompt, AreOfDevices, IsPlain}
+use proofs.Names.{RunState, run_state, initiator_if, ready_of, target_if, target_of, connected_aims, change_plain}
+use proofs.Names.{least_is, drives_own, reset_or_calm, by_calm, calling_lines, won_call, unreset_due, row_of_lines}
+use proofs.Names.{CalmStanding, BusStage, on_free_bus, in_arbitration, after_arbitration, with_both_ids}
+use proofs.Names.{awaiting_answer, after_withdrawal, after_answer, after_takeover, in_reset, in_connection, none_some}
+use proofs.Names.{item_is, IsDueCall, sel_of_call, Stood, connection_sent, Whole, whole, IsNext, target_there, asks_row}
+use proofs.Names.{reset_sel, struck_out, waits_row, GoesOn, call_goes, apart_of, is_selecting, is_for_item, is_call_for}
+use proofs.Names.{is_calling_fault, calling_faults}
+use Rattle.progress_laws.specs.bus_laws.proofs.Together.{by_reset}
 
 -- ---- a row of the caller
 
@@ -117,18 +73,18 @@ ends_tries drops stops e k (c ∷ commands) b =
     go false false = refl
 
 event_tries : (s : ScenarioValue) (b : Story) (e : Event) → (story_after_event s b e).sent.tries ≡ b.sent.tries
-event_tries s b (events.Accept id) = refl
-event_tries s b (events.Refuse id) = refl
-event_tries s b (events.Run id) = refl
-event_tries s b (events.Fail id code) = refl
-event_tries s b (events.End id status) = go (not id.sense && status == CHECK_CONDITION)
+event_tries s b (Event.Accept id) = refl
+event_tries s b (Event.Refuse id) = refl
+event_tries s b (Event.Run id) = refl
+event_tries s b (Event.Fail id code) = refl
+event_tries s b (Event.End id status) = go (not id.sense && status == CHECK_CONDITION)
   where
     go : (q : Bool) → (if q then record (story_with_end b id (by_status status)) { sent = record (story_with_end b id (by_status status)).sent { checks = b.sent.checks ++ id.command ∷ [] } } else story_with_end b id (by_status status)).sent.tries ≡ b.sent.tries
     go true = refl
     go false = refl
-event_tries s b (events.Lost id) = refl
-event_tries s b (events.Aborted host target unit what) = ends_tries (is_aborted host target unit what) (is_sense_stopped host target unit what) by_abort 1 s.commands b
-event_tries s b (events.Reset dev) = ends_tries (λ c. true) (λ c. true) by_reset 1 s.commands b
+event_tries s b (Event.Lost id) = refl
+event_tries s b (Event.Aborted host target unit what) = ends_tries (is_aborted host target unit what) (is_sense_stopped host target unit what) by_abort 1 s.commands b
+event_tries s b (Event.Reset dev) = ends_tries (λ c. true) (λ c. true) Ending.by_reset 1 s.commands b
 
 pub events_tries : (s : ScenarioValue) (b : Story) (shown : List Event) → (story_after_events s b shown).sent.tries ≡ b.sent.tries
 events_tries s b [] = refl

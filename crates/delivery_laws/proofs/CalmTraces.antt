@@ -1,60 +1,22 @@
 -- In a scenario without resets no row drives RST, and without aborts too its history has neither a reset nor an abort (6.2.2, 6.6).
-use Rattle.std.proofs.Common.{ℕ, ◌≡◌, Bool, true, false, not, ◌&&◌, ◌∙◌, List, [], ◌∷◌, ◌++◌, Option, Some, None, refl, sym, ap}
-use Rattle.std.specs.Prelude.{if◌then◌else◌, is_some}
-use Rattle.std.specs.List.{list_all, list_any}
-use Rattle.std.proofs.lemmas.Bool.{and_from}
-use Rattle.bus_due.specs.bus_base.specs.declared.Event.{Event}
-use Rattle.bus_due.specs.bus_base.specs.declared.Event.TheVariants as events
-use Rattle.bus_due.specs.bus_base.proofs.Tests.{wrong, wrong', and_false, and_first, and_second}
-use Rattle.bus_due.specs.bus_trace.specs.LineSet.{LineSet, none}
-use Rattle.bus_due.specs.bus_trace.specs.View.{union_below}
-use Rattle.bus_due.specs.bus_trace.specs.declared.Row.{Row}
-use Rattle.bus_due.specs.bus_trace.specs.declared.changes.Change.{Change}
-use Rattle.bus_due.specs.bus_trace.specs.declared.connection.Connection.{Connection}
-use Rattle.bus_due.specs.bus_trace.specs.Changes.{rises}
-use Rattle.bus_due.specs.bus_trace.specs.Phases.{changes_phase, is_command}
-use Rattle.bus_due.specs.bus_trace.specs.Trace.{bus}
-use Rattle.bus_due.specs.scenario.specs.declared.value.AbortDef.{AbortDef}
-use Rattle.bus_due.specs.scenario.specs.declared.value.ResetDef.{ResetDef}
-use Rattle.bus_due.specs.scenario.specs.Value.{ScenarioValue}
-use Rattle.bus_due.specs.scenario.specs.Writing.{Obeys}
-use Rattle.bus_due.specs.disk_array.specs.ArrayHistory.{array_after}
-use Rattle.bus_due.specs.bus_story.specs.BusState.{RowReading, row_reading}
-use Rattle.bus_due.specs.bus_story.specs.CarriedBytes.{CarriedBytes, is_whole_block, is_status_phase}
-use Rattle.bus_due.specs.bus_story.specs.HistoryEvents.{abort_line_at, abort_line_events, bus_free_events, carried_if, end_events, is_completion, is_refuse, item_abort_events, item_loss_events, link_events, phase_events, queue_events, row_events_by, status_event, status_events}
-use Rattle.bus_due.specs.bus_story.specs.Items.{Item, process, abort}
-use Rattle.bus_due.specs.bus_story.specs.Links.{Link, LastMessage, plain, complete, disconnect, abortive}
-use Rattle.bus_due.specs.bus_story.specs.Samples.{latency_of}
-use Rattle.bus_due.specs.bus_story.specs.Story.{Story}
-use Rattle.bus_due.specs.bus_reactions.specs.Reset.{rst_assertion}
-use Rattle.bus_due.specs.Due.{reset_from}
-use Rattle.bus_due.specs.Least.{IsLeast}
-use Rattle.bus_due.specs.Next.{due, IsPrompt}
-use Rattle.bus_due.specs.Own.{own_of}
-use Rattle.bus_due.specs.RunState.{RunState}
-use Rattle.bus_due.specs.RunSteps.{run_state}
-use Rattle.progress_laws.specs.scsi_device.proofs.FitLines.{obeys_fits}
-use Rattle.progress_laws.specs.bus_laws.specs.Reactions.{reset_due, reset_due_if, unreset_due}
-use Rattle.progress_laws.specs.bus_laws.specs.Stages.{HasShortLatencies, CalmStanding, BusStage, on_free_bus, in_arbitration, after_arbitration, with_both_ids, awaiting_answer, after_withdrawal, after_answer, after_takeover, in_reset, in_connection, is_connected}
-use Rattle.progress_laws.specs.bus_laws.proofs.Apart.{change_plain}
-use Rattle.progress_laws.specs.bus_laws.proofs.FromAnswer.{from_withdrawn, from_answered, from_resumed}
-use Rattle.progress_laws.specs.bus_laws.proofs.FromArbitration.{from_arbitration}
-use Rattle.progress_laws.specs.bus_laws.proofs.FromCalling.{from_calls, from_asking}
-use Rattle.progress_laws.specs.bus_laws.proofs.FromFree.{from_free}
-use Rattle.progress_laws.specs.bus_laws.proofs.FromWon.{from_won}
-use Rattle.progress_laws.specs.bus_laws.proofs.Limits.{obeys_latencies}
-use Rattle.progress_laws.specs.bus_laws.proofs.Prompt.{least_is}
-use Rattle.progress_laws.specs.link_laws.specs.Books.{KeepsBooksIn}
-use Rattle.progress_laws.specs.link_laws.specs.LinkStages.{AnyStage, apart, linked}
-use Rattle.progress_laws.specs.link_laws.proofs.FromLink.{from_link}
-use Rattle.progress_laws.specs.link_laws.proofs.PhaseEnds.{AfterLink, goes_on, frees}
-use Rattle.progress_laws.specs.link_laws.proofs.RunLengths.{runs_are_short}
-use Rattle.progress_laws.specs.link_laws.proofs.Traces.{link_calm}
-use Rattle.progress_laws.specs.trace_laws.proofs.Impossible.{none_some}
-use Rattle.progress_laws.specs.trace_laws.proofs.Joint.{Stood}
-use Rattle.progress_laws.specs.trace_laws.proofs.Whole.{whole}
-use Rattle.right_laws.proofs.ResetSamples.{CalmRow, resets, reacts, calm_row}
-use Rattle.delivery_laws.specs.Delivery.{is_calm_event}
+use Rattle.delivery_laws.proofs
+use proofs.Names.{ℕ, ◌≡◌, Bool, true, false, not, ◌&&◌, ◌∙◌, List, [], ◌∷◌, ◌++◌, Option, Some, None, refl, sym, ap}
+use proofs.Names.{and_from, list_all, list_any, if◌then◌else◌, is_some, wrong, wrong', and_false, and_first, and_second}
+use proofs.Names.{Event, rises, LineSet, none, changes_phase, is_command, bus, union_below, Row, Change, Connection}
+use proofs.Names.{ScenarioValue, Obeys, AbortDef, ResetDef, array_after, RowReading, row_reading, CarriedBytes}
+use proofs.Names.{is_whole_block, is_status_phase, abort_line_at, abort_line_events, bus_free_events, carried_if}
+use proofs.Names.{end_events, is_completion, is_refuse, item_abort_events, item_loss_events, link_events, phase_events}
+use proofs.Names.{queue_events, row_events_by, status_event, status_events, Item, process, abort, Link, LastMessage}
+use proofs.Names.{plain, complete, disconnect, abortive, latency_of, Story, rst_assertion, reset_from, IsLeast, due}
+use proofs.Names.{IsPrompt, own_of, RunState, run_state, obeys_fits, change_plain, from_withdrawn, from_answered}
+use proofs.Names.{from_resumed, from_arbitration, from_calls, from_asking, from_free, from_won, obeys_latencies}
+use proofs.Names.{least_is, reset_due, reset_due_if, unreset_due, HasShortLatencies, CalmStanding, BusStage}
+use proofs.Names.{on_free_bus, in_arbitration, after_arbitration, with_both_ids, awaiting_answer, after_withdrawal}
+use proofs.Names.{after_answer, after_takeover, in_reset, in_connection, is_connected, from_link, AfterLink, frees}
+use proofs.Names.{runs_are_short, link_calm, KeepsBooksIn, AnyStage, linked, none_some, Stood, whole, CalmRow, resets}
+use proofs.Names.{reacts, calm_row, is_calm_event}
+use Rattle.progress_laws.specs.link_laws.specs.LinkStages.{apart}
+use Rattle.progress_laws.specs.link_laws.proofs.PhaseEnds.{goes_on}
 
 -- ---- no row drives RST
 
@@ -127,9 +89,9 @@ calm_both (x ∷ xs) ys h g =
 
 queue_calm : (s : ScenarioValue) (b : Story) (c : Option CarriedBytes) (before : LineSet) → AreCalm (queue_events s b c before)
 queue_calm s b None before = refl
-queue_calm s b (Some k) before = go (is_command before && is_whole_block k) (is_some (array_after s (events.Accept k.id ∷ b.history)))
+queue_calm s b (Some k) before = go (is_command before && is_whole_block k) (is_some (array_after s (Event.Accept k.id ∷ b.history)))
   where
-    go : (q r : Bool) → AreCalm (if q then (if r then events.Accept k.id else events.Refuse k.id) ∷ [] else [])
+    go : (q r : Bool) → AreCalm (if q then (if r then Event.Accept k.id else Event.Refuse k.id) ∷ [] else [])
     go true true = refl
     go true false = refl
     go false r = refl
@@ -175,7 +137,7 @@ link_calm_events s b (Some l) d e = go (is_some d.next) (changes_phase d.change)
 
 row_calm : (s : ScenarioValue) (b : Story) (d : RowReading) (row : Row) → s.aborts ≡ [] → d.change.after.rst ≡ false → AreCalm (row_events_by s b d row)
 row_calm s b d row e off =
-    ap (λ (q : Bool). list_all (λ (y : Event). is_calm_event y) (if q then (if rises d.change.own.rst d.change.next.rst then events.Reset row.dev ∷ [] else []) else link_events s b b.link d)) off
+    ap (λ (q : Bool). list_all (λ (y : Event). is_calm_event y) (if q then (if rises d.change.own.rst d.change.next.rst then Event.Reset row.dev ∷ [] else []) else link_events s b b.link d)) off
     ∙ link_calm_events s b b.link d e
 
 -- ---- all rows

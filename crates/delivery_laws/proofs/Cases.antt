@@ -1,20 +1,12 @@
 -- In some runs, computed: the faults that struck a command, and how many it bears; the resets; and the sense with which a command ends.
-use Rattle.std.proofs.Common.{ℕ, ◌≡◌, true, false, List, [], ◌∷◌, Some, refl}
+use Rattle.delivery_laws.proofs
+use proofs.Names.{ℕ, ◌≡◌, true, false, List, [], ◌∷◌, Some, refl, line_of, union_below, ABORTED_COMMAND}
+use proofs.Names.{INITIATOR_DETECTED_ERROR, form_out, form_in, need_of, sent_of, ScenarioValue, CmdDef, sense_of}
+use proofs.Names.{ended_check, outcome_of, story, data_in_given_up_due, data_in_given_up_due_rows}
+use proofs.Names.{data_out_given_up_due, data_out_given_up_due_rows, lost_due, lost_due_rows, reselected_id_struck_due}
+use proofs.Names.{reselected_id_struck_due_rows, selected_id_struck_due, selected_id_struck_due_rows, onto}
+use proofs.Names.{command_faults, fault_limit, are_lines, are_releases, has_line}
 use lib.Count.{ones}
-use Rattle.bus_due.specs.bus_trace.specs.LineSet.{line_of}
-use Rattle.bus_due.specs.bus_trace.specs.View.{union_below}
-use Rattle.bus_due.specs.msg_grammar.specs.Messages.{form_out, form_in}
-use Rattle.bus_due.specs.scenario.specs.declared.value.CmdDef.{CmdDef}
-use Rattle.bus_due.specs.scenario.specs.Needs.{need_of, sent_of}
-use Rattle.bus_due.specs.scenario.specs.Value.{ScenarioValue}
-use Rattle.bus_due.proofs.Cases.{data_in_given_up_due, data_in_given_up_due_rows, data_out_given_up_due, data_out_given_up_due_rows, lost_due, lost_due_rows, reselected_id_struck_due, reselected_id_struck_due_rows, selected_id_struck_due, selected_id_struck_due_rows}
-use Rattle.bus_due.proofs.Seams.{onto}
-use Rattle.bus_due.specs.bus_story.specs.Outcomes.{ended_check, outcome_of}
-use Rattle.bus_due.specs.bus_story.specs.TraceHistory.{story}
-use Rattle.bus_due.specs.cdb_codec.specs.declared.sense.TheConstants.{ABORTED_COMMAND, INITIATOR_DETECTED_ERROR}
-use Rattle.bus_due.specs.disk_array.specs.Execution.{sense_of}
-use Rattle.delivery_laws.specs.Delivery.{command_faults, fault_limit}
-use Rattle.delivery_laws.specs.Resets.{are_lines, are_releases, has_line}
 
 abbrev limits_from : ScenarioValue → List CmdDef → List ℕ
 limits_from s [] = []

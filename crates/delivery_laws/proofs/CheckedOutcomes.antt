@@ -1,52 +1,24 @@
 -- In a scenario without resets and aborts a command whose target is absent ends unanswered; and one that is not valid ends with CHECK CONDITION and
 -- the sense of what is wrong with it first (7.2, 7.3, 8.2).
-use Rattle.std.proofs.Common.{◌⊎◌, inl, inr, ℕ, ◌≡◌, Bool, true, false, ◌||◌, ◌∙◌, List, [], Option, Some, None, refl, sym, ap, subst}
-use Rattle.std.specs.Prelude.{◌==◌, is_some, nat_le, nat_lt}
-use Rattle.std.specs.List.{list_all}
-use Rattle.bus_due.specs.bus_base.specs.declared.Event.{Event}
-use Rattle.bus_due.specs.bus_base.specs.declared.Event.TheVariants as events
-use Rattle.bus_due.specs.bus_base.specs.declared.ProcId.{ProcId}
-use Rattle.std.proofs.lemmas.Option.{same_Some}
-use Rattle.bus_due.specs.bus_base.proofs.Tests.{and_first, wrong, wrong'}
-use Rattle.bus_due.specs.bus_trace.specs.declared.Row.{Row}
-use Rattle.bus_due.specs.cdb_codec.specs.declared.Sense.{Sense}
-use Rattle.bus_due.specs.cdb_codec.specs.declared.status.TheConstants.{CHECK_CONDITION}
-use Rattle.bus_due.specs.scenario.specs.declared.value.CmdDef.{CmdDef}
-use Rattle.bus_due.specs.scenario.specs.Lookups.{has_target}
-use Rattle.bus_due.specs.scenario.specs.Value.{ScenarioValue}
-use Rattle.bus_due.specs.scenario.specs.Writing.{Obeys}
-use Rattle.bus_due.specs.disk_array.specs.ArrayHistory.{array_after, reply_in, reply_of}
-use Rattle.bus_due.specs.disk_array.specs.Execution.{Reply, check_condition}
-use Rattle.bus_due.specs.disk_array.specs.Processes.{command_at, process_by, process_if, same_id}
-use Rattle.bus_due.specs.disk_array.specs.Units.{Array}
-use Rattle.bus_due.specs.bus_story.specs.Items.{command_id, command_item, sense_id}
-use Rattle.bus_due.specs.bus_story.specs.Outcomes.{ended_check, ended_unanswered, ending_of, is_valid, outcome_by_status, outcome_if, outcome_of, sense_of_end}
-use Rattle.bus_due.specs.bus_story.specs.Story.{Ending, Story, by_abort, by_loss, by_reset, by_status, unanswered}
-use Rattle.bus_due.specs.bus_story.specs.TraceHistory.{retries_of, story}
-use Rattle.bus_due.specs.bus_dialogue.specs.NextPhase.{recovery_limit}
-use Rattle.bus_due.specs.Defs.{target_def_of}
-use Rattle.bus_due.specs.Next.{IsEnded, IsPrompt}
-use Rattle.bus_due.specs.RunState.{RunState, array_of}
-use Rattle.bus_due.specs.RunSteps.{run_state}
-use Rattle.bus_due.specs.Telling.{same_event}
-use Rattle.bus_due.proofs.Plains.{prompt_plain}
-use Rattle.progress_laws.specs.bus_books.specs.FullQueues.{has_event}
-use Rattle.progress_laws.specs.bus_books.specs.WrongParity.{fault_rows}
-use Rattle.initiator.specs.Causes.{has_bus_reset, has_loss, has_sense_abort, has_sense_stop, has_status, is_bus_reset, is_command_abort, is_loss_of, is_sense_abort, is_status_of}
-use Rattle.progress_laws.proofs.Entries.{WantsAreItems}
-use Rattle.right_laws.proofs.Right.{all_joined}
-use Rattle.progress_laws.specs.trace_laws.proofs.Whole.{Whole, whole}
-use Rattle.delivery_laws.specs.Delivery.{HasRun, IsGiven, IsOwnSense, calling_faults, checked_sense, command_faults, failed, fault_limit, is_calm_event, ran, refused}
-use Rattle.delivery_laws.proofs.CalmTraces.{calm_history}
-use Rattle.delivery_laws.proofs.Callings.{unanswered_struck}
-use Rattle.delivery_laws.proofs.Delivered.{AreOutcomes, Borne, HaveCauses, IsLimited, IsLostAbove, abort_uncalm, any_to, borne, loss_is_event, none_calm, not_above, not_unheard, reset_uncalm, some_outcome}
-use Rattle.delivery_laws.proofs.EndStatuses.{HasReply, all_ended, end_found, end_reply}
-use Rattle.delivery_laws.proofs.GivenReplies.{all_given}
-use Rattle.delivery_laws.proofs.InvalidReplies.{invalid_ran}
-use Rattle.delivery_laws.proofs.LastingReplies.{ran_lasts}
-use Rattle.delivery_laws.proofs.OwnOutcomes.{own_plays, own_sense}
-use Rattle.delivery_laws.proofs.Stopped.{AreStopped, sense_stopped}
-use Rattle.delivery_laws.proofs.Unheard.{about_there, has_about, is_about, no_sense_lost}
+use Rattle.delivery_laws.proofs
+use proofs.Names.{◌⊎◌, inl, inr, ℕ, ◌≡◌, Bool, true, false, ◌||◌, ◌∙◌, List, [], Option, Some, None, refl, sym, ap}
+use proofs.Names.{subst, same_Some, list_all, ◌==◌, is_some, nat_le, nat_lt, and_first, wrong, wrong', Event, ProcId}
+use proofs.Names.{Row, Sense, CHECK_CONDITION, has_target, ScenarioValue, Obeys, CmdDef, array_after, reply_in}
+use proofs.Names.{reply_of, Reply, check_condition, command_at, process_by, process_if, same_id, Array, command_id}
+use proofs.Names.{command_item, sense_id, ended_check, ended_unanswered, ending_of, is_valid, outcome_by_status}
+use proofs.Names.{outcome_if, outcome_of, sense_of_end, Ending, Story, by_abort, by_loss, by_reset, by_status}
+use proofs.Names.{unanswered, retries_of, story, recovery_limit, prompt_plain, target_def_of, IsEnded, IsPrompt}
+use proofs.Names.{RunState, array_of, run_state, same_event, has_event, fault_rows, Whole, whole, WantsAreItems}
+use proofs.Names.{all_joined, has_bus_reset, has_loss, has_sense_abort, has_sense_stop, has_status, is_bus_reset}
+use proofs.Names.{is_command_abort, is_loss_of, is_sense_abort, is_status_of, HasRun, IsGiven, IsOwnSense}
+use proofs.Names.{calling_faults, checked_sense, command_faults, failed, fault_limit, is_calm_event, ran}
+use proofs.{Callings.{unanswered_struck}, CalmTraces.{calm_history}, Delivered.{AreOutcomes, Borne, HaveCauses}}
+use proofs.Delivered.{IsLimited, IsLostAbove, abort_uncalm, any_to, borne, loss_is_event, none_calm, not_above}
+use proofs.{Delivered.{not_unheard, reset_uncalm, some_outcome}, EndStatuses.{HasReply, all_ended, end_found}}
+use proofs.{EndStatuses.{end_reply}, GivenReplies.{all_given}, InvalidReplies.{invalid_ran}, LastingReplies.{ran_lasts}}
+use proofs.{OwnOutcomes.{own_plays, own_sense}, Stopped.{AreStopped, sense_stopped}, Unheard.{about_there, has_about}}
+use proofs.Unheard.{is_about, no_sense_lost}
+use Rattle.delivery_laws.specs.Delivery.{refused}
 
 -- What the laws of others give.
 pub record Laws : Type 0 where
@@ -75,24 +47,24 @@ has_outcome s p n c laws t at =
 -- ---- its target is absent
 
 status_about : (id : ProcId) (status : ℕ) (e : Event) → is_status_of id status e ≡ true → is_about id e ≡ true
-status_about id status (events.End p code) z = and_first (same_id p id) (code == status) z
-status_about id status (events.Accept p) z = wrong' z
-status_about id status (events.Refuse p) z = wrong' z
-status_about id status (events.Run p) z = wrong' z
-status_about id status (events.Fail p code) z = wrong' z
-status_about id status (events.Lost p) z = wrong' z
-status_about id status (events.Aborted i t n what) z = wrong' z
-status_about id status (events.Reset dev) z = wrong' z
+status_about id status (Event.End p code) z = and_first (same_id p id) (code == status) z
+status_about id status (Event.Accept p) z = wrong' z
+status_about id status (Event.Refuse p) z = wrong' z
+status_about id status (Event.Run p) z = wrong' z
+status_about id status (Event.Fail p code) z = wrong' z
+status_about id status (Event.Lost p) z = wrong' z
+status_about id status (Event.Aborted i t n what) z = wrong' z
+status_about id status (Event.Reset dev) z = wrong' z
 
 loss_about : (id : ProcId) (e : Event) → is_loss_of id e ≡ true → is_about id e ≡ true
-loss_about id (events.Lost p) z = z
-loss_about id (events.Accept p) z = wrong' z
-loss_about id (events.Refuse p) z = wrong' z
-loss_about id (events.Run p) z = wrong' z
-loss_about id (events.Fail p code) z = wrong' z
-loss_about id (events.End p status) z = wrong' z
-loss_about id (events.Aborted i t n what) z = wrong' z
-loss_about id (events.Reset dev) z = wrong' z
+loss_about id (Event.Lost p) z = z
+loss_about id (Event.Accept p) z = wrong' z
+loss_about id (Event.Refuse p) z = wrong' z
+loss_about id (Event.Run p) z = wrong' z
+loss_about id (Event.Fail p code) z = wrong' z
+loss_about id (Event.End p status) z = wrong' z
+loss_about id (Event.Aborted i t n what) z = wrong' z
+loss_about id (Event.Reset dev) z = wrong' z
 
 pub unheard : (s : ScenarioValue) (p : List Row) (n : ℕ) (c : CmdDef) → Laws → IsCalmTrace s p → command_at s.commands n ≡ Some c → has_target s c.target ≡ false → outcome_of s (story s p) n ≡ Some ended_unanswered
 unheard s p n c laws t at away =
@@ -120,7 +92,7 @@ pub record IsWrong (s : ScenarioValue) (p : List Row) (n : ℕ) (c : CmdDef) : T
   pub there : has_target s c.target ≡ true
   pub invalid : is_valid s c ≡ false
   pub bears : nat_le (command_faults s p n) (fault_limit s c) ≡ true
-  pub unrefused : has_event (run_state s p).story.history (events.Refuse (command_id n)) ≡ false
+  pub unrefused : has_event (run_state s p).story.history (Event.Refuse (command_id n)) ≡ false
 
 -- Its faults are borne.
 no_more : {A : Type 0} (s : ScenarioValue) (p : List Row) (n : ℕ) (c : CmdDef) → IsWrong s p n c → nat_lt (recovery_limit (target_def_of s c.target)) (fault_rows s p (command_id n)) ≡ true → A
@@ -143,14 +115,14 @@ wrong_reply s p n c reply laws t h e =
     by (refused f g) = wrong (sym f ∙ h.unrefused)
 
 sense_uncalm : (c : CmdDef) (e : Event) → is_sense_abort c e ≡ true → is_calm_event e ≡ false
-sense_uncalm c (events.Aborted i t n what) z = refl
-sense_uncalm c (events.Reset dev) z = wrong' z
-sense_uncalm c (events.Accept p) z = wrong' z
-sense_uncalm c (events.Refuse p) z = wrong' z
-sense_uncalm c (events.Run p) z = wrong' z
-sense_uncalm c (events.Fail p code) z = wrong' z
-sense_uncalm c (events.End p status) z = wrong' z
-sense_uncalm c (events.Lost p) z = wrong' z
+sense_uncalm c (Event.Aborted i t n what) z = refl
+sense_uncalm c (Event.Reset dev) z = wrong' z
+sense_uncalm c (Event.Accept p) z = wrong' z
+sense_uncalm c (Event.Refuse p) z = wrong' z
+sense_uncalm c (Event.Run p) z = wrong' z
+sense_uncalm c (Event.Fail p code) z = wrong' z
+sense_uncalm c (Event.End p status) z = wrong' z
+sense_uncalm c (Event.Lost p) z = wrong' z
 
 -- Its automatic REQUEST SENSE is not stopped.
 unstopped : {A : Type 0} (s : ScenarioValue) (p : List Row) (n : ℕ) (c : CmdDef) → IsCalmTrace s p → has_sense_stop (run_state s p).story.history n c ≡ true → A
@@ -201,7 +173,7 @@ wrong_outcome s p n c laws t h = told ∙ go (ending_of k.story.ended n) refl (h
         is ∙ (λ i. Some (ended_check (sense_of_end s k.story.history (sense_id n)))) ∙ brought (ap (outcome_if s k.story.history n) e ∙ is) (sense_of_end s k.story.history (sense_id n)) refl
     go (Some by_loss) e some =
         no_more s p n c h (laws.lost s p (process_by s (command_id n) c) t.obeys t.prompt (ap (process_if s (command_id n)) h.at)
-        (any_to (is_loss_of (command_id n)) (λ x. same_event x (events.Lost (command_id n))) (loss_is_event (command_id n)) k.story.history (laws.causes.loss s p n e)))
+        (any_to (is_loss_of (command_id n)) (λ x. same_event x (Event.Lost (command_id n))) (loss_is_event (command_id n)) k.story.history (laws.causes.loss s p n e)))
     go (Some by_reset) e some = none_calm is_bus_reset reset_uncalm k.story.history (calm_of s p t) (laws.causes.reset s p n e)
     go (Some by_abort) e some = none_calm (is_command_abort c) (abort_uncalm c) k.story.history (calm_of s p t) (laws.causes.abort s p n c h.at e)
     go (Some unanswered) e some =

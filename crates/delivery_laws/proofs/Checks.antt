@@ -1,25 +1,10 @@
 -- A command of which the history has the end with CHECK CONDITION stands among those that ended so (7.3, 7.8).
-use Rattle.std.proofs.Common.{ℕ, inl, inr, ◌≡◌, ◌⊎◌, Bool, true, false, ◌||◌, ◌∙◌, List, [], ◌∷◌, ◌++◌, refl, ap}
-use Rattle.std.specs.Prelude.{if◌then◌else◌, ◌==◌}
-use Rattle.std.specs.List.{list_any}
-use Rattle.bus_due.specs.bus_base.specs.declared.Event.{Event}
-use Rattle.bus_due.specs.bus_base.specs.declared.Event.TheVariants as events
-use Rattle.bus_due.specs.bus_base.specs.declared.ProcId.{ProcId}
-use Rattle.bus_due.specs.bus_base.proofs.Tests.{and_first, and_second, eq_self, wrong'}
-use Rattle.bus_due.specs.bus_trace.specs.declared.Row.{Row}
-use Rattle.bus_due.specs.cdb_codec.specs.declared.status.TheConstants.{CHECK_CONDITION}
-use Rattle.bus_due.specs.scenario.specs.Value.{ScenarioValue}
-use Rattle.bus_due.specs.disk_array.specs.Processes.{same_id}
-use Rattle.bus_due.specs.bus_story.specs.BusState.{RowReading, row_reading}
-use Rattle.bus_due.specs.bus_story.specs.HistoryEvents.{row_events_by}
-use Rattle.bus_due.specs.bus_story.specs.Items.{Sent, command_id}
-use Rattle.bus_due.specs.bus_story.specs.Story.{Story, by_status, story_after_event, story_after_events, story_with_end, with_check}
-use Rattle.bus_due.specs.bus_story.specs.TraceHistory.{story_by_change}
-use Rattle.bus_due.specs.RunSteps.{run_state}
-use Rattle.progress_laws.specs.bus_books.proofs.Lookups.{id_is}
-use Rattle.progress_laws.specs.trace_laws.proofs.OverItems.{events_grow}
-use Rattle.progress_laws.proofs.OwedRows.{changed}
-use Rattle.initiator.specs.Causes.{has_status, is_status_of}
+use Rattle.delivery_laws.proofs
+use proofs.Names.{ℕ, inl, inr, ◌≡◌, ◌⊎◌, Bool, true, false, ◌||◌, ◌∙◌, List, [], ◌∷◌, ◌++◌, refl, ap, list_any}
+use proofs.Names.{if◌then◌else◌, ◌==◌, and_first, and_second, eq_self, wrong', Event, ProcId, Row, CHECK_CONDITION}
+use proofs.Names.{ScenarioValue, same_id, RowReading, row_reading, row_events_by, Sent, command_id, Story, by_status}
+use proofs.Names.{story_after_event, story_after_events, story_with_end, with_check, story_by_change, run_state, id_is}
+use proofs.Names.{events_grow, changed, has_status, is_status_of}
 
 abbrev pub IsChecked : ℕ → Sent → Type 0
 IsChecked n b = list_any (λ k. k == n) b.checks ≡ true
@@ -39,17 +24,17 @@ check_stands b n status e =
     (λ i. list_any (λ k. k == n) (if e i then record b { sent = record b.sent { checks = b.sent.checks ++ n ∷ [] } } else b).sent.checks) ∙ last_there b.sent.checks n
 
 event_stands : (s : ScenarioValue) (b : Story) (n : ℕ) (e : Event) → is_status_of (command_id n) CHECK_CONDITION e ≡ true → IsChecked n (story_after_event s b e).sent
-event_stands s b n (events.End id status) e =
+event_stands s b n (Event.End id status) e =
     let same : id ≡ command_id n = id_is id (command_id n) (and_first (same_id id (command_id n)) (status == CHECK_CONDITION) e) in
     ap (λ (x : ProcId). list_any (λ k. k == n) (with_check (story_with_end b x (by_status status)) x status).sent.checks) same
     ∙ check_stands (story_with_end b (command_id n) (by_status status)) n status (and_second (same_id id (command_id n)) (status == CHECK_CONDITION) e)
-event_stands s b n (events.Accept id) e = wrong' e
-event_stands s b n (events.Refuse id) e = wrong' e
-event_stands s b n (events.Run id) e = wrong' e
-event_stands s b n (events.Fail id code) e = wrong' e
-event_stands s b n (events.Lost id) e = wrong' e
-event_stands s b n (events.Aborted i t m what) e = wrong' e
-event_stands s b n (events.Reset dev) e = wrong' e
+event_stands s b n (Event.Accept id) e = wrong' e
+event_stands s b n (Event.Refuse id) e = wrong' e
+event_stands s b n (Event.Run id) e = wrong' e
+event_stands s b n (Event.Fail id code) e = wrong' e
+event_stands s b n (Event.Lost id) e = wrong' e
+event_stands s b n (Event.Aborted i t m what) e = wrong' e
+event_stands s b n (Event.Reset dev) e = wrong' e
 
 -- ---- the events of a row
 

@@ -1,21 +1,11 @@
 -- How many commands pass a test; no more processes are there than commands that are theirs, and no more commands are open than all
 -- initiators together may have open.
-use Rattle.std.proofs.Common.{ℕ, zero, suc, ◌≡◌, ◌<◌, ◌≤◌, ◌+◌, Bool, true, false, not, ◌&&◌, ◌||◌, ◌∙◌, List, [], ◌∷◌, Some, refl, sym, ap, subst, length, arith}
-use Rattle.std.specs.Prelude.{if◌then◌else◌, ◌==◌, ⊤}
-use Rattle.std.proofs.lemmas.Bool.{and_from, eqb-true}
-use Rattle.std.proofs.lemmas.Bool.Decides.{nat_tests}
-use Rattle.std.proofs.lemmas.Option.{same_Some}
-use Rattle.bus_due.specs.bus_base.proofs.Tests.{and_first, and_second, eq_self, plus_none, wrong'}
-use Rattle.bus_due.specs.scenario.specs.declared.value.CmdDef.{CmdDef}
-use Rattle.bus_due.specs.scenario.specs.declared.value.HostDef.{HostDef}
-use Rattle.bus_due.specs.disk_array.specs.Processes.{Process, command_at, same_bool, same_id}
-use Rattle.bus_due.specs.disk_array.specs.Seats.{is_initiator}
-use Rattle.bus_due.specs.bus_story.specs.Items.{Sent, is_open, open_from, open_limit_of}
-use Rattle.bus_due.specs.bus_story.specs.Outcomes.{most_open}
-use Rattle.bus_due.specs.bus_dialogue.specs.PhaseBytes.{one_if}
-use Rattle.progress_laws.specs.trace_laws.specs.ItemFacts.{AllP}
-use Rattle.progress_laws.specs.trace_laws.proofs.Impossible.{none_some}
-use Rattle.progress_laws.specs.trace_laws.proofs.Tests.{plus_one}
+use Rattle.delivery_laws.proofs
+use proofs.Names.{ℕ, zero, suc, ◌≡◌, ◌<◌, ◌≤◌, ◌+◌, Bool, true, false, not, ◌&&◌, ◌||◌, ◌∙◌, List, [], ◌∷◌, Some, refl}
+use proofs.Names.{sym, ap, subst, length, arith, and_from, eqb-true, nat_tests, same_Some, if◌then◌else◌, ◌==◌, ⊤}
+use proofs.Names.{and_first, and_second, eq_self, plus_none, wrong', CmdDef, HostDef, Process, command_at, same_bool}
+use proofs.Names.{same_id, is_initiator, Sent, is_open, open_from, open_limit_of, most_open, one_if, none_some}
+use proofs.Names.{plus_one, AllP}
 
 -- ---- numbers
 

@@ -1,50 +1,18 @@
 -- In a scenario without resets and aborts a valid command that was not refused, and that no more faults struck than it bears, ends GOOD.
-use Rattle.std.proofs.Common.{ℕ, zero, suc, ◌≡◌, ◌⊎◌, inl, inr, ◌≤◌, ◌+◌, Bool, true, false, ◌&&◌, ◌||◌, ◌∙◌, List, [], ◌∷◌, Option, Some, None, refl, sym, ap, subst, arith}
-use Rattle.std.specs.Prelude.{◌==◌, is_some, nat_lt, nat_le}
-use Rattle.std.specs.List.{list_all, list_any}
-use Rattle.std.proofs.lemmas.Bool.{and_parts, or_left, or_right, and_from}
-use Rattle.std.proofs.lemmas.Bool.Decides.{nat_tests}
-use Rattle.std.proofs.Math.Nat.{min-le_left, min-le_right}
-use Rattle.bus_due.specs.bus_base.specs.declared.Event.{Event}
-use Rattle.bus_due.specs.bus_base.specs.declared.Event.TheVariants as events
-use Rattle.bus_due.specs.bus_base.specs.declared.ProcId.{ProcId}
-use Rattle.bus_due.specs.bus_base.proofs.Tests.{and_first, eq_self, plus_none, wrong, wrong'}
-use Rattle.bus_due.specs.bus_trace.specs.declared.Row.{Row}
-use Rattle.bus_due.specs.cdb_codec.specs.declared.status.TheConstants.{GOOD}
-use Rattle.bus_due.specs.scenario.specs.declared.value.CmdDef.{CmdDef}
-use Rattle.bus_due.specs.scenario.specs.declared.value.TargetDef.{TargetDef}
-use Rattle.bus_due.specs.scenario.specs.Lookups.{has_target}
-use Rattle.bus_due.specs.scenario.specs.Value.{ScenarioValue}
-use Rattle.bus_due.specs.scenario.specs.Writing.{Obeys}
-use Rattle.bus_due.specs.disk_array.specs.ArrayHistory.{array_after, reply_in}
-use Rattle.bus_due.specs.disk_array.specs.Execution.{Reply}
-use Rattle.bus_due.specs.disk_array.specs.Processes.{Process, command_at, process_by, process_if, process_of, same_id}
-use Rattle.bus_due.specs.disk_array.specs.Units.{Array}
-use Rattle.bus_due.specs.bus_story.specs.Items.{command_id, command_item}
-use Rattle.bus_due.specs.bus_story.specs.Outcomes.{Outcome, ending_of, is_valid, is_sound_command, outcome_by_status, outcome_if, outcome_of, outcomes, outcomes_from}
-use Rattle.bus_due.specs.bus_story.specs.Story.{Ending, Story, by_abort, by_loss, by_reset, by_status, unanswered}
-use Rattle.bus_due.specs.bus_story.specs.TraceHistory.{retries_of, story}
-use Rattle.bus_due.specs.bus_dialogue.specs.NextPhase.{recovery_limit}
-use Rattle.bus_due.specs.Defs.{target_def_of}
-use Rattle.bus_due.specs.Goals.{is_good}
-use Rattle.bus_due.specs.Next.{IsPrompt, IsEnded}
-use Rattle.bus_due.specs.Plain.{IsPlain}
-use Rattle.bus_due.specs.RunState.{RunState, array_of, or_start}
-use Rattle.bus_due.specs.RunSteps.{run_state}
-use Rattle.bus_due.specs.Telling.{same_event}
-use Rattle.bus_due.proofs.Plains.{prompt_plain}
-use Rattle.bus_due.specs.cdb_codec.specs.Cdb.{command_of}
-use Rattle.progress_laws.specs.bus_books.specs.FullQueues.{has_event}
-use Rattle.progress_laws.specs.bus_books.specs.WrongParity.{fault_rows, has_more_faults}
-use Rattle.progress_laws.specs.trace_laws.proofs.Impossible.{none_some}
-use Rattle.progress_laws.specs.trace_laws.proofs.Tests.{plus_one}
-use Rattle.progress_laws.specs.trace_laws.proofs.Whole.{Whole, whole}
-use Rattle.right_laws.proofs.Right.{all_joined}
-use Rattle.initiator.specs.Causes.{has_status, has_loss, has_bus_reset, has_command_abort, is_bus_reset, is_command_abort, is_loss_of}
-use Rattle.delivery_laws.specs.Delivery.{calling_faults, command_faults, fault_limit, is_calm_event, is_given_up_by, limit_with}
-use Rattle.delivery_laws.proofs.Callings.{AreTried}
-use Rattle.delivery_laws.proofs.EndStatuses.{HasReply, all_ended, end_found, end_reply}
-use Rattle.delivery_laws.proofs.ResetDevices.{any_found}
+use Rattle.delivery_laws.proofs
+use proofs.Names.{ℕ, zero, suc, ◌≡◌, ◌⊎◌, inl, inr, ◌≤◌, ◌+◌, Bool, true, false, ◌&&◌, ◌||◌, ◌∙◌, List, [], ◌∷◌, Option}
+use proofs.Names.{Some, None, refl, sym, ap, subst, arith, min-le_left, min-le_right, and_parts, or_left, or_right}
+use proofs.Names.{and_from, nat_tests, list_all, list_any, ◌==◌, is_some, nat_lt, nat_le, and_first, eq_self, plus_none}
+use proofs.Names.{wrong, wrong', Event, ProcId, Row, command_of, GOOD, has_target, ScenarioValue, Obeys, CmdDef}
+use proofs.Names.{TargetDef, array_after, reply_in, Reply, Process, command_at, process_by, process_if, process_of}
+use proofs.Names.{same_id, Array, command_id, command_item, Outcome, ending_of, is_valid, is_sound_command}
+use proofs.Names.{outcome_by_status, outcome_if, outcome_of, outcomes, outcomes_from, Ending, Story, by_abort, by_loss}
+use proofs.Names.{by_reset, by_status, unanswered, retries_of, story, recovery_limit, prompt_plain, target_def_of}
+use proofs.Names.{is_good, IsPrompt, IsEnded, IsPlain, RunState, array_of, or_start, run_state, same_event, has_event}
+use proofs.Names.{fault_rows, has_more_faults, none_some, plus_one, Whole, whole, all_joined, has_status, has_loss}
+use proofs.Names.{has_bus_reset, has_command_abort, is_bus_reset, is_command_abort, is_loss_of, calling_faults}
+use proofs.{Names.{command_faults, fault_limit, is_calm_event, is_given_up_by, limit_with}, Callings.{AreTried}}
+use proofs.{EndStatuses.{HasReply, all_ended, end_found, end_reply}, ResetDevices.{any_found}}
 
 -- ---- events
 
@@ -69,53 +37,53 @@ none_calm f to (x ∷ h) c e = go (f x) refl e (none_calm f to h)
     go false z w rest = rest two.1 w
 
 pub reset_uncalm : (e : Event) → is_bus_reset e ≡ true → is_calm_event e ≡ false
-reset_uncalm (events.Reset dev) z = refl
-reset_uncalm (events.Accept p) z = wrong' z
-reset_uncalm (events.Refuse p) z = wrong' z
-reset_uncalm (events.Run p) z = wrong' z
-reset_uncalm (events.Fail p code) z = wrong' z
-reset_uncalm (events.End p status) z = wrong' z
-reset_uncalm (events.Lost p) z = wrong' z
-reset_uncalm (events.Aborted i t n what) z = wrong' z
+reset_uncalm (Event.Reset dev) z = refl
+reset_uncalm (Event.Accept p) z = wrong' z
+reset_uncalm (Event.Refuse p) z = wrong' z
+reset_uncalm (Event.Run p) z = wrong' z
+reset_uncalm (Event.Fail p code) z = wrong' z
+reset_uncalm (Event.End p status) z = wrong' z
+reset_uncalm (Event.Lost p) z = wrong' z
+reset_uncalm (Event.Aborted i t n what) z = wrong' z
 
 pub abort_uncalm : (c : CmdDef) (e : Event) → is_command_abort c e ≡ true → is_calm_event e ≡ false
-abort_uncalm c (events.Aborted i t n what) z = refl
-abort_uncalm c (events.Reset dev) z = wrong' z
-abort_uncalm c (events.Accept p) z = wrong' z
-abort_uncalm c (events.Refuse p) z = wrong' z
-abort_uncalm c (events.Run p) z = wrong' z
-abort_uncalm c (events.Fail p code) z = wrong' z
-abort_uncalm c (events.End p status) z = wrong' z
-abort_uncalm c (events.Lost p) z = wrong' z
+abort_uncalm c (Event.Aborted i t n what) z = refl
+abort_uncalm c (Event.Reset dev) z = wrong' z
+abort_uncalm c (Event.Accept p) z = wrong' z
+abort_uncalm c (Event.Refuse p) z = wrong' z
+abort_uncalm c (Event.Run p) z = wrong' z
+abort_uncalm c (Event.Fail p code) z = wrong' z
+abort_uncalm c (Event.End p status) z = wrong' z
+abort_uncalm c (Event.Lost p) z = wrong' z
 
-pub loss_is_event : (id : ProcId) (e : Event) → is_loss_of id e ≡ true → same_event e (events.Lost id) ≡ true
-loss_is_event id (events.Lost p) z = z
-loss_is_event id (events.Accept p) z = wrong' z
-loss_is_event id (events.Refuse p) z = wrong' z
-loss_is_event id (events.Run p) z = wrong' z
-loss_is_event id (events.Fail p code) z = wrong' z
-loss_is_event id (events.End p status) z = wrong' z
-loss_is_event id (events.Aborted i t n what) z = wrong' z
-loss_is_event id (events.Reset dev) z = wrong' z
+pub loss_is_event : (id : ProcId) (e : Event) → is_loss_of id e ≡ true → same_event e (Event.Lost id) ≡ true
+loss_is_event id (Event.Lost p) z = z
+loss_is_event id (Event.Accept p) z = wrong' z
+loss_is_event id (Event.Refuse p) z = wrong' z
+loss_is_event id (Event.Run p) z = wrong' z
+loss_is_event id (Event.Fail p code) z = wrong' z
+loss_is_event id (Event.End p status) z = wrong' z
+loss_is_event id (Event.Aborted i t n what) z = wrong' z
+loss_is_event id (Event.Reset dev) z = wrong' z
 
 -- It was refused, or it failed with some code.
 data HowGivenUp (h : List Event) (id : ProcId) : Type 0 where
-  refused : has_event h (events.Refuse id) ≡ true → HowGivenUp h id
-  failed : (code : ℕ) → has_event h (events.Fail id code) ≡ true → HowGivenUp h id
+  refused : has_event h (Event.Refuse id) ≡ true → HowGivenUp h id
+  failed : (code : ℕ) → has_event h (Event.Fail id code) ≡ true → HowGivenUp h id
 
 up_now : (h : List Event) (id : ProcId) (x : Event) → is_given_up_by id x ≡ true → HowGivenUp (x ∷ h) id
-up_now h id (events.Refuse p) z = refused (or_left (same_id p id) (has_event h (events.Refuse id)) z)
-up_now h id (events.Fail p code) z = failed code (or_left (same_id p id && code == code) (has_event h (events.Fail id code)) (and_from (same_id p id) (code == code) z (eq_self code)))
-up_now h id (events.Accept p) z = wrong' z
-up_now h id (events.Run p) z = wrong' z
-up_now h id (events.Lost p) z = wrong' z
-up_now h id (events.End p status) z = wrong' z
-up_now h id (events.Aborted i t n what) z = wrong' z
-up_now h id (events.Reset dev) z = wrong' z
+up_now h id (Event.Refuse p) z = refused (or_left (same_id p id) (has_event h (Event.Refuse id)) z)
+up_now h id (Event.Fail p code) z = failed code (or_left (same_id p id && code == code) (has_event h (Event.Fail id code)) (and_from (same_id p id) (code == code) z (eq_self code)))
+up_now h id (Event.Accept p) z = wrong' z
+up_now h id (Event.Run p) z = wrong' z
+up_now h id (Event.Lost p) z = wrong' z
+up_now h id (Event.End p status) z = wrong' z
+up_now h id (Event.Aborted i t n what) z = wrong' z
+up_now h id (Event.Reset dev) z = wrong' z
 
 up_before : (h : List Event) (id : ProcId) (x : Event) → HowGivenUp h id → HowGivenUp (x ∷ h) id
-up_before h id x (refused z) = refused (or_right (same_event x (events.Refuse id)) (has_event h (events.Refuse id)) z)
-up_before h id x (failed code z) = failed code (or_right (same_event x (events.Fail id code)) (has_event h (events.Fail id code)) z)
+up_before h id x (refused z) = refused (or_right (same_event x (Event.Refuse id)) (has_event h (Event.Refuse id)) z)
+up_before h id x (failed code z) = failed code (or_right (same_event x (Event.Fail id code)) (has_event h (Event.Fail id code)) z)
 
 how_given_up : (h : List Event) (id : ProcId) → list_any (λ (e : Event). is_given_up_by id e) h ≡ true → HowGivenUp h id
 how_given_up [] id e = wrong' e
@@ -129,11 +97,11 @@ how_given_up (x ∷ h) id e = go (is_given_up_by id x) refl e (how_given_up h id
 
 abbrev pub IsLimited : Type 0
 IsLimited =
-    (s : ScenarioValue) (rows : List Row) (p : Process) (code : ℕ) → Obeys s → IsPrompt s rows → process_of s p.id ≡ Some p → has_event (run_state s rows).story.history (events.Fail p.id code) ≡ true → has_more_faults s rows p ≡ true
+    (s : ScenarioValue) (rows : List Row) (p : Process) (code : ℕ) → Obeys s → IsPrompt s rows → process_of s p.id ≡ Some p → has_event (run_state s rows).story.history (Event.Fail p.id code) ≡ true → has_more_faults s rows p ≡ true
 
 abbrev pub IsLostAbove : Type 0
 IsLostAbove =
-    (s : ScenarioValue) (rows : List Row) (p : Process) → Obeys s → IsPrompt s rows → process_of s p.id ≡ Some p → has_event (run_state s rows).story.history (events.Lost p.id) ≡ true → has_more_faults s rows p ≡ true
+    (s : ScenarioValue) (rows : List Row) (p : Process) → Obeys s → IsPrompt s rows → process_of s p.id ≡ Some p → has_event (run_state s rows).story.history (Event.Lost p.id) ≡ true → has_more_faults s rows p ≡ true
 
 abbrev pub AreOutcomes : Type 0
 AreOutcomes = (s : ScenarioValue) (rows : List Row) → Obeys s → IsPrompt s rows → IsEnded s rows → list_all (λ (o : Option Outcome). is_some o) (outcomes s (story s rows)) ≡ true
@@ -202,7 +170,7 @@ record Bears (s : ScenarioValue) (p : List Row) (n : ℕ) (c : CmdDef) : Type 0 
   valid : is_valid s c ≡ true
   there : has_target s c.target ≡ true
   bears : nat_le (command_faults s p n) (fault_limit s c) ≡ true
-  unrefused : has_event (run_state s p).story.history (events.Refuse (command_id n)) ≡ false
+  unrefused : has_event (run_state s p).story.history (Event.Refuse (command_id n)) ≡ false
 
 -- No more are borne than its initiator tries again, nor than its target recovers from.
 pub record Borne (s : ScenarioValue) (c : CmdDef) : Type 0 where
@@ -258,7 +226,7 @@ good_ending s p n c laws causes limited lost h None e some = wrong' some
 good_ending s p n c laws causes limited lost h (Some (by_status status)) e some =
     subst (λ (x : ℕ). is_good (Some (outcome_by_status s (run_state s p).story.history n x)) ≡ true) (sym (good_status s p n c status laws limited h (causes.status s p n status e))) refl
 good_ending s p n c laws causes limited lost h (Some by_loss) e some =
-    not_more s p n c h (lost s p (process_by s (command_id n) c) h.obeys h.prompt (ap (process_if s (command_id n)) h.at) (any_to (is_loss_of (command_id n)) (λ x. same_event x (events.Lost (command_id n))) (loss_is_event (command_id n)) (run_state s p).story.history (causes.loss s p n e)))
+    not_more s p n c h (lost s p (process_by s (command_id n) c) h.obeys h.prompt (ap (process_if s (command_id n)) h.at) (any_to (is_loss_of (command_id n)) (λ x. same_event x (Event.Lost (command_id n))) (loss_is_event (command_id n)) (run_state s p).story.history (causes.loss s p n e)))
 good_ending s p n c laws causes limited lost h (Some by_reset) e some =
     none_calm is_bus_reset reset_uncalm (run_state s p).story.history (laws.calm s p h.obeys h.resets h.aborts h.prompt) (causes.reset s p n e)
 good_ending s p n c laws causes limited lost h (Some by_abort) e some =
@@ -269,7 +237,7 @@ good_ending s p n c laws causes limited lost h (Some unanswered) e some =
     (laws.struck s p n c h.obeys h.prompt h.at h.there e)
 
 pub delivered : (s : ScenarioValue) (p : List Row) (n : ℕ) (c : CmdDef) → CalmLaws → HaveCauses → IsLimited → IsLostAbove → AreOutcomes → Obeys s → s.resets ≡ [] → s.aborts ≡ [] → IsPrompt s p → IsEnded s p → command_at s.commands n ≡ Some c → is_valid s c ≡ true
-    → nat_le (command_faults s p n) (fault_limit s c) ≡ true → has_event (run_state s p).story.history (events.Refuse (command_id n)) ≡ false → is_good (outcome_of s (story s p) n) ≡ true
+    → nat_le (command_faults s p n) (fault_limit s c) ≡ true → has_event (run_state s p).story.history (Event.Refuse (command_id n)) ≡ false → is_good (outcome_of s (story s p) n) ≡ true
 delivered s p n c laws causes limited lost all o resets aborts prompt end at valid bears unrefused =
     subst (λ (b : Story). is_good (outcome_of s b n) ≡ true) pl.story (good_ending s p n c laws causes limited lost h (ending_of (run_state s p).story.ended n) refl some)
   where

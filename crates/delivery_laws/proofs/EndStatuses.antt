@@ -1,32 +1,11 @@
 -- A process that ended in a prompt trace has a reply with the status of its end (6.6.5, 7.3).
-use Rattle.std.proofs.Common.{ℕ, ◌≡◌, Bool, true, false, ◌||◌, List, [], ◌∷◌, Option, Some, None, refl, subst}
-use Rattle.std.specs.Prelude.{◌==◌}
-use Rattle.std.proofs.lemmas.Bool.{eqb-true}
-use Rattle.bus_due.specs.bus_base.specs.declared.Event.{Event}
-use Rattle.bus_due.specs.bus_base.specs.declared.Event.TheVariants as events
-use Rattle.bus_due.specs.bus_base.specs.declared.ProcId.{ProcId}
-use Rattle.bus_due.specs.bus_base.proofs.Tests.{and_first, and_second, wrong'}
-use Rattle.bus_due.specs.bus_trace.specs.declared.Row.{Row}
-use Rattle.bus_due.specs.scenario.specs.Value.{ScenarioValue}
-use Rattle.bus_due.specs.scenario.specs.Writing.{Obeys}
-use Rattle.bus_due.specs.disk_array.specs.ArrayHistory.{reply_in}
-use Rattle.bus_due.specs.disk_array.specs.Execution.{Reply}
-use Rattle.bus_due.specs.disk_array.specs.Processes.{same_id}
-use Rattle.bus_due.specs.Next.{IsPrompt}
-use Rattle.bus_due.specs.RunState.{RunState, array_of, carried_here}
-use Rattle.bus_due.specs.RunSteps.{run_state}
-use Rattle.progress_laws.specs.bus_books.proofs.Lookups.{id_is}
-use Rattle.progress_laws.specs.trace_laws.specs.Statuses.{IsStatusIn, IsStatusOf}
-use Rattle.right_laws.specs.Open.{OnEvents}
-use Rattle.right_laws.specs.Runs.{HasEnded, IsEnded}
-use Rattle.right_laws.specs.StatusBytes.{StatusFacts}
-use Rattle.right_laws.proofs.RanFacts.{Known, ended_next}
-use Rattle.right_laws.proofs.Right.{AreJoined, joined_last}
-use Rattle.right_laws.proofs.StatusFacts.{status_at_end, status_next, status_start}
-use Rattle.right_laws.proofs.UndoneLoads.{load_next, load_start}
-use Rattle.right_laws.specs.Loads.{UndoLoadFacts}
-use Rattle.progress_laws.specs.trace_laws.proofs.Whole.{Whole, standing_next, whole}
-use Rattle.initiator.specs.Causes.{has_status, is_status_of}
+use Rattle.delivery_laws.proofs
+use proofs.Names.{ℕ, ◌≡◌, Bool, true, false, ◌||◌, List, [], ◌∷◌, Option, Some, None, refl, subst, eqb-true, ◌==◌}
+use proofs.Names.{and_first, and_second, wrong', Event, ProcId, Row, ScenarioValue, Obeys, reply_in, Reply, same_id}
+use proofs.Names.{IsPrompt, RunState, array_of, carried_here, run_state, id_is, Whole, standing_next, whole, IsStatusIn}
+use proofs.Names.{IsStatusOf, Known, ended_next, AreJoined, joined_last, load_next, load_start, status_at_end}
+use proofs.Names.{status_next, status_start, UndoLoadFacts, OnEvents, HasEnded, StatusFacts, has_status, is_status_of}
+use Rattle.right_laws.specs.Runs.{IsEnded}
 
 -- ---- row by row
 
@@ -59,16 +38,16 @@ all_ended s p o prompt h = (end_books s p o prompt h).ended
 -- ---- an end in the history
 
 end_is : (s : ScenarioValue) (k : RunState) (e : Event) (id : ProcId) (status : ℕ) → is_status_of id status e ≡ true → IsEnded s k e → HasEnded s k id status
-end_is s k (events.End p code) id status e h =
+end_is s k (Event.End p code) id status e h =
     subst (λ (x : ℕ). HasEnded s k id x) (eqb-true code status (and_second (same_id p id) (code == status) e))
     (subst (λ (x : ProcId). HasEnded s k x code) (id_is p id (and_first (same_id p id) (code == status) e)) h)
-end_is s k (events.Accept p) id status e h = wrong' e
-end_is s k (events.Refuse p) id status e h = wrong' e
-end_is s k (events.Run p) id status e h = wrong' e
-end_is s k (events.Fail p code) id status e h = wrong' e
-end_is s k (events.Lost p) id status e h = wrong' e
-end_is s k (events.Aborted i t n what) id status e h = wrong' e
-end_is s k (events.Reset dev) id status e h = wrong' e
+end_is s k (Event.Accept p) id status e h = wrong' e
+end_is s k (Event.Refuse p) id status e h = wrong' e
+end_is s k (Event.Run p) id status e h = wrong' e
+end_is s k (Event.Fail p code) id status e h = wrong' e
+end_is s k (Event.Lost p) id status e h = wrong' e
+end_is s k (Event.Aborted i t n what) id status e h = wrong' e
+end_is s k (Event.Reset dev) id status e h = wrong' e
 
 pub end_found : (s : ScenarioValue) (k : RunState) (history : List Event) (id : ProcId) (status : ℕ) → OnEvents (IsEnded s k) history → has_status history id status ≡ true → HasEnded s k id status
 end_found s k [] id status h e = wrong' e

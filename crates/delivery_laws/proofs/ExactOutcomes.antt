@@ -1,37 +1,17 @@
 -- How each command of a prompt trace ended, exactly (6.1.3.1, 7.3, 7.6, 7.8, 8.2.14).
-use Rattle.std.proofs.Common.{ℕ, ◌≡◌, Bool, true, false, ◌&&◌, ◌||◌, ◌∙◌, List, Option, Some, None, refl, sym, ap}
-use Rattle.std.specs.Prelude.{if◌then◌else◌, ◌==◌, is_some, nat_lt}
-use Rattle.std.proofs.lemmas.Bool.{eqb-true}
-use Rattle.bus_due.specs.bus_base.specs.declared.Event.{Event}
-use Rattle.bus_due.specs.bus_base.proofs.Tests.{wrong, wrong'}
-use Rattle.bus_due.specs.bus_trace.specs.declared.Row.{Row}
-use Rattle.bus_due.specs.cdb_codec.specs.declared.Sense.{Sense}
-use Rattle.bus_due.specs.cdb_codec.specs.declared.status.TheConstants.{GOOD, QUEUE_FULL}
-use Rattle.bus_due.specs.scenario.specs.declared.value.CmdDef.{CmdDef}
-use Rattle.bus_due.specs.scenario.specs.Value.{ScenarioValue}
-use Rattle.bus_due.specs.scenario.specs.Writing.{Obeys}
-use Rattle.bus_due.specs.disk_array.specs.ArrayHistory.{array_after, reply_of}
-use Rattle.bus_due.specs.disk_array.specs.Processes.{command_at}
-use Rattle.bus_due.specs.disk_array.specs.Units.{Array}
-use Rattle.bus_due.specs.bus_story.specs.Items.{command_id, command_item, count_item, sense_id}
-use Rattle.bus_due.specs.bus_story.specs.Outcomes.{Outcome, ended_aborted, ended_check, ended_full, ended_good, ended_lost, ended_reset, ended_unanswered, ending_of, has_end, outcome_by_status, outcome_if, outcome_of, reply_bytes, sense_in, sense_of_end}
-use Rattle.bus_due.specs.bus_story.specs.Story.{Ending, Story, by_abort, by_loss, by_reset, by_status, unanswered}
-use Rattle.bus_due.specs.bus_story.specs.TraceHistory.{retries_of, story, trace_history}
-use Rattle.bus_due.specs.Next.{IsEnded, IsPrompt}
-use Rattle.bus_due.specs.RunState.{RunState}
-use Rattle.bus_due.specs.RunSteps.{run_state}
-use Rattle.bus_due.proofs.Plains.{prompt_plain}
-use Rattle.progress_laws.specs.bus_books.specs.FullQueues.{was_refused}
-use Rattle.progress_laws.specs.trace_laws.proofs.Whole.{whole}
-use Rattle.progress_laws.proofs.Entries.{WantsAreItems}
-use Rattle.delivery_laws.specs.Delivery.{IsOwnSense}
-use Rattle.delivery_laws.specs.Endings.{HasReplyOf, ending_outcome_if, first_ending, first_outcome, is_by_status, is_full, is_tried_out, is_unanswered, own_sense_of, sense_if, status_outcome, was_sense_stopped}
-use Rattle.delivery_laws.proofs.Delivered.{HaveCauses}
-use Rattle.delivery_laws.proofs.EndStatuses.{HasReply}
-use Rattle.delivery_laws.proofs.FirstEndings.{all_told}
-use Rattle.delivery_laws.proofs.OwnOutcomes.{own_plays, own_sense}
-use Rattle.delivery_laws.proofs.SenseStops.{IsStopTold, all_stops_told}
-use Rattle.delivery_laws.proofs.Stopped.{IsFetched, fetched, is_replied}
+use Rattle.delivery_laws.proofs
+use proofs.Names.{ℕ, ◌≡◌, Bool, true, false, ◌&&◌, ◌||◌, ◌∙◌, List, Option, Some, None, refl, sym, ap, eqb-true}
+use proofs.Names.{if◌then◌else◌, ◌==◌, is_some, nat_lt, wrong, wrong', Event, Row, Sense, GOOD, QUEUE_FULL}
+use proofs.Names.{ScenarioValue, Obeys, CmdDef, array_after, reply_of, command_at, Array, command_id, command_item}
+use proofs.Names.{count_item, sense_id, Outcome, ended_aborted, ended_check, ended_full, ended_good, ended_lost}
+use proofs.Names.{ended_reset, ended_unanswered, ending_of, has_end, outcome_by_status, outcome_if, outcome_of}
+use proofs.Names.{reply_bytes, sense_in, sense_of_end, Ending, Story, by_abort, by_loss, by_reset, by_status}
+use proofs.Names.{unanswered, retries_of, story, trace_history, prompt_plain, IsEnded, IsPrompt, RunState, run_state}
+use proofs.Names.{was_refused, whole, WantsAreItems, IsOwnSense, HasReplyOf, ending_outcome_if, first_ending}
+use proofs.Names.{first_outcome, is_by_status, is_full, is_tried_out, is_unanswered, own_sense_of, sense_if}
+use proofs.{Names.{status_outcome, was_sense_stopped}, Delivered.{HaveCauses}, EndStatuses.{HasReply}}
+use proofs.{FirstEndings.{all_told}, OwnOutcomes.{own_plays, own_sense}, SenseStops.{IsStopTold, all_stops_told}}
+use proofs.Stopped.{IsFetched, fetched, is_replied}
 
 -- ---- the sense
 

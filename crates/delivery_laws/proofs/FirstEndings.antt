@@ -1,44 +1,21 @@
 -- Of a prompt trace: how a command ended is told by the first row that ends it; and it ended unanswered exactly where its initiator called for it in vain
 -- more often than it tries again (6.1.3.1).
-use Rattle.std.proofs.Common.{ℕ, ◌≡◌, ◌+◌, Bool, true, false, not, ◌&&◌, ◌||◌, ◌∙◌, List, [], ◌∷◌, Option, Some, None, refl, sym, ap, subst, arith}
-use Rattle.std.specs.Prelude.{if◌then◌else◌, ◌==◌, is_none, is_some, nat_lt}
-use Rattle.std.proofs.lemmas.Bool.Decides.{nat_tests}
-use Rattle.std.proofs.lemmas.Option.{same_Some}
-use Rattle.bus_due.specs.bus_base.specs.declared.Event.{Event}
-use Rattle.bus_due.specs.bus_base.specs.declared.Event.TheVariants as events
-use Rattle.bus_due.specs.bus_base.proofs.Tests.{eq_self, wrong, wrong'}
-use Rattle.bus_due.specs.bus_trace.specs.declared.Row.{Row}
-use Rattle.bus_due.specs.bus_trace.specs.declared.changes.Change.{Change}
-use Rattle.bus_due.specs.bus_trace.specs.declared.connection.Connection.{Connection}
-use Rattle.bus_due.specs.bus_trace.specs.declared.selection.Call.{Call}
-use Rattle.bus_due.specs.bus_trace.specs.declared.selection.Calling.{Calling}
-use Rattle.bus_due.specs.bus_trace.specs.Changes.{change_of, falls, rises}
-use Rattle.bus_due.specs.scenario.specs.declared.value.CmdDef.{CmdDef}
-use Rattle.bus_due.specs.scenario.specs.Value.{ScenarioValue}
-use Rattle.bus_due.specs.scenario.specs.Writing.{Obeys}
-use Rattle.bus_due.specs.disk_array.specs.Processes.{command_at, same_bool}
-use Rattle.bus_due.specs.bus_dialogue.specs.PhaseBytes.{one_if}
-use Rattle.bus_due.specs.bus_story.specs.BusState.{RowReading, row_reading}
-use Rattle.bus_due.specs.bus_story.specs.Items.{Item, abort, command_id, command_item, count_item, has_item, process, same_item}
-use Rattle.bus_due.specs.bus_story.specs.Outcomes.{ending_of}
-use Rattle.bus_due.specs.bus_story.specs.Story.{Ending, Story, by_abort, by_loss, by_reset, by_status, is_aborted, story_after_events, unanswered}
-use Rattle.bus_due.specs.bus_story.specs.TraceHistory.{aim_of, is_arbitration_entry, retries_of, row_events, story, story_after_calling, story_after_calling_by, story_by_change, story_on_bus, story_on_free_bus, story_with_aim, story_with_try, story_without_answer}
-use Rattle.bus_due.specs.Next.{IsPrompt}
-use Rattle.bus_due.specs.RunState.{RunState}
-use Rattle.bus_due.specs.RunSteps.{run_state}
-use Rattle.bus_due.proofs.Plains.{prompt_plain}
-use Rattle.progress_laws.specs.bus_laws.proofs.Apart.{change_plain}
-use Rattle.progress_laws.specs.bus_laws.proofs.Prompt.{least_is}
-use Rattle.progress_laws.specs.trace_laws.proofs.OpenCommands.{item_is}
-use Rattle.progress_laws.specs.trace_laws.proofs.OverItems.{events_grow}
-use Rattle.progress_laws.specs.trace_laws.proofs.PointerWaits.{connection_sent}
-use Rattle.progress_laws.specs.trace_laws.proofs.Whole.{whole}
-use Rattle.progress_laws.specs.trace_laws.specs.ItemFacts.{IsNext, is_abort, is_command, is_sense}
-use Rattle.initiator.proofs.StoryEnds.{AreEnded, are_ended, change_keeps, ended_if, ending_after, event_ends, events_keep, unended_connection, unended_linked, with_ending_at}
+use Rattle.delivery_laws.proofs
+use proofs.Names.{ℕ, ◌≡◌, ◌+◌, Bool, true, false, not, ◌&&◌, ◌||◌, ◌∙◌, List, [], ◌∷◌, Option, Some, None, refl, sym}
+use proofs.Names.{ap, subst, arith, nat_tests, same_Some, if◌then◌else◌, ◌==◌, is_none, is_some, nat_lt, eq_self, wrong}
+use proofs.Names.{wrong', Event, change_of, falls, rises, Row, Change, Connection, Call, Calling, ScenarioValue, Obeys}
+use proofs.Names.{CmdDef, command_at, same_bool, RowReading, row_reading, Item, abort, command_id, command_item}
+use proofs.Names.{count_item, has_item, process, same_item, ending_of, Ending, Story, by_abort, by_loss, by_reset}
+use proofs.Names.{by_status, is_aborted, story_after_events, unanswered, aim_of, is_arbitration_entry, retries_of}
+use proofs.Names.{row_events, story, story_after_calling, story_after_calling_by, story_by_change, story_on_bus}
+use proofs.Names.{story_on_free_bus, story_with_aim, story_with_try, story_without_answer, one_if, prompt_plain}
+use proofs.Names.{IsPrompt, RunState, run_state, change_plain, least_is, item_is, events_grow, connection_sent, whole}
+use proofs.Names.{IsNext, is_abort, is_sense, AreEnded, are_ended, change_keeps, ended_if, ending_after, event_ends}
+use proofs.Names.{events_keep, unended_connection, unended_linked, with_ending_at, is_for_item, calls_in_vain}
+use proofs.Names.{event_ending, events_ending, first_ending, first_of, is_end_in_vain, is_tried_out, is_unheard}
+use proofs.{Names.{is_unheard_call, was_sent}, Callings.{connection_tries, events_tries, next_of_vain}}
+use Rattle.progress_laws.specs.trace_laws.specs.ItemFacts.{is_command}
 use Rattle.initiator.proofs.StoryEnds as ends
-use Rattle.delivery_laws.specs.Delivery.{is_for_item}
-use Rattle.delivery_laws.specs.Endings.{calls_in_vain, event_ending, events_ending, first_ending, first_of, is_end_in_vain, is_tried_out, is_unheard, is_unheard_call, was_sent}
-use Rattle.delivery_laws.proofs.Callings.{connection_tries, events_tries, next_of_vain}
 
 -- ---- an event
 
@@ -69,14 +46,14 @@ always true = refl
 always false = refl
 
 ending_then : (e : Event) (c : CmdDef) (sent : Bool) (n : ℕ) (old : Option Ending) → ending_after e (Some c) sent n old ≡ first_of old (event_ending sent n c e)
-ending_then (events.Accept id) c sent n old = first_none old
-ending_then (events.Refuse id) c sent n old = first_none old
-ending_then (events.Run id) c sent n old = first_none old
-ending_then (events.Fail id code) c sent n old = first_none old
-ending_then (events.End id status) c sent n old = ended_then (not id.sense && id.command == n) old (by_status status) ∙ (λ i. first_of old (if of_command id.sense (id.command == n) i then Some (by_status status) else None))
-ending_then (events.Lost id) c sent n old = ended_then (not id.sense && id.command == n) old by_loss ∙ (λ i. first_of old (if of_command id.sense (id.command == n) i then Some by_loss else None))
-ending_then (events.Aborted host target unit what) c sent n old = ended_then (sent && is_aborted host target unit what c) old by_abort
-ending_then (events.Reset dev) c sent n old = ended_then (sent && true) old by_reset ∙ (λ i. first_of old (if always sent i then Some by_reset else None))
+ending_then (Event.Accept id) c sent n old = first_none old
+ending_then (Event.Refuse id) c sent n old = first_none old
+ending_then (Event.Run id) c sent n old = first_none old
+ending_then (Event.Fail id code) c sent n old = first_none old
+ending_then (Event.End id status) c sent n old = ended_then (not id.sense && id.command == n) old (by_status status) ∙ (λ i. first_of old (if of_command id.sense (id.command == n) i then Some (by_status status) else None))
+ending_then (Event.Lost id) c sent n old = ended_then (not id.sense && id.command == n) old by_loss ∙ (λ i. first_of old (if of_command id.sense (id.command == n) i then Some by_loss else None))
+ending_then (Event.Aborted host target unit what) c sent n old = ended_then (sent && is_aborted host target unit what c) old by_abort
+ending_then (Event.Reset dev) c sent n old = ended_then (sent && true) old by_reset ∙ (λ i. first_of old (if always sent i then Some by_reset else None))
 
 shown_ending : (s : ScenarioValue) (b : Story) (n : ℕ) (c : CmdDef) (shown : List Event) → AreEnded b → command_at s.commands n ≡ Some c
     → ending_of (story_after_events s b shown).ended n ≡ first_of (ending_of b.ended n) (events_ending (has_item b.sent.sent (command_item n)) n c shown)

@@ -1,50 +1,24 @@
 -- Row by row: a process fails, or is lost, as its target gives it up (6.6.10, 6.6.13, 6.6.19).
-use Rattle.std.proofs.Common.{ℕ, ◌≡◌, true, false, ◌&&◌, ◌||◌, ◌∙◌, List, ◌∷◌, Option, Some, None, refl, sym, ap}
-use Rattle.std.specs.Prelude.{is_none, is_some}
-use Rattle.bus_due.specs.bus_base.specs.declared.Event.TheVariants as events
-use Rattle.bus_due.specs.bus_base.specs.declared.ProcId.{ProcId}
-use Rattle.bus_due.specs.bus_base.proofs.Tests.{and_second, wrong'}
-use Rattle.bus_due.specs.bus_trace.specs.LineSet.{LineSet}
-use Rattle.bus_due.specs.bus_trace.specs.declared.Row.{Row}
-use Rattle.bus_due.specs.bus_trace.specs.declared.changes.Change.{Change}
-use Rattle.bus_due.specs.bus_trace.specs.declared.connection.Connection.{Connection}
-use Rattle.bus_due.specs.bus_trace.specs.Changes.{change_of}
-use Rattle.bus_due.specs.bus_trace.specs.Terms.{connection, connection_after}
-use Rattle.bus_due.specs.bus_trace.specs.Trace.{bus}
-use Rattle.bus_due.specs.scenario.specs.Value.{ScenarioValue}
-use Rattle.bus_due.specs.scenario.specs.Writing.{Obeys}
-use Rattle.bus_due.specs.disk_array.specs.Processes.{Process, process_of}
-use Rattle.bus_due.specs.bus_dialogue.specs.declared.exchange.Phase.{Phase}
-use Rattle.bus_due.specs.bus_dialogue.specs.NextPhase.{phase_of}
-use Rattle.bus_due.specs.bus_story.specs.BusState.{RowReading, row_reading}
-use Rattle.bus_due.specs.bus_story.specs.HistoryEvents.{row_events_by}
-use Rattle.bus_due.specs.bus_story.specs.Story.{Story}
-use Rattle.bus_due.specs.bus_story.specs.TraceHistory.{row_events, story}
-use Rattle.bus_due.specs.Next.{IsPrompt}
-use Rattle.bus_due.specs.Plain.{IsPlain}
-use Rattle.bus_due.specs.RunState.{RunState, bus_of}
-use Rattle.bus_due.specs.RunSteps.{run_state}
-use Rattle.bus_due.specs.Sights.{leaving}
-use Rattle.bus_due.specs.Telling.{is_true_telling, telling}
-use Rattle.bus_due.proofs.Plains.{run_state_plain}
-use Rattle.progress_laws.specs.bus_books.specs.FullQueues.{has_event}
-use Rattle.progress_laws.specs.bus_books.specs.WrongParity.{gives_up, is_failure, is_left_as_due, is_left_by, is_loss, left_as_due}
-use Rattle.progress_laws.specs.bus_laws.proofs.Apart.{change_plain}
-use Rattle.progress_laws.specs.bus_laws.proofs.Prompt.{least_is}
-use Rattle.progress_laws.specs.trace_laws.proofs.Whole.{whole}
+use Rattle.delivery_laws.proofs
+use proofs.Names.{ℕ, ◌≡◌, true, false, ◌&&◌, ◌||◌, ◌∙◌, List, ◌∷◌, Option, Some, None, refl, sym, ap, is_none, is_some}
+use proofs.Names.{and_second, wrong', Event, ProcId, change_of, LineSet, connection, connection_after, bus, Row, Change}
+use proofs.Names.{Connection, ScenarioValue, Obeys, Process, process_of, RowReading, row_reading, row_events_by, Story}
+use proofs.Names.{row_events, story, phase_of, Phase, run_state_plain, IsPrompt, IsPlain, RunState, bus_of, run_state}
+use proofs.Names.{leaving, is_true_telling, telling, has_event, gives_up, is_failure, is_left_as_due, is_left_by}
+use proofs.Names.{is_loss, left_as_due, change_plain, least_is, whole}
 
 -- What the laws of the books say of such a row (give_ups_have_causes).
 abbrev pub AreFailures : Type 0
 AreFailures =
     (s : ScenarioValue) (rows : List Row) (row : Row) (n : Connection) (id : ProcId) (code : ℕ) → (run_state s rows).story.bus_state.connection ≡ Some n → is_true_telling s (run_state s rows) row (row_reading (run_state s rows).story.bus_state row) ≡ true
-    → has_event (row_events_by s (run_state s rows).story (row_reading (run_state s rows).story.bus_state row) row) (events.Fail id code) ≡ true
+    → has_event (row_events_by s (run_state s rows).story (row_reading (run_state s rows).story.bus_state row) row) (Event.Fail id code) ≡ true
     → (is_failure (run_state s rows).exchange.plan.cause code (phase_of (bus_of (run_state s rows))) && gives_up s rows row n id) ≡ true
 
 abbrev pub AreLosses : Type 0
 AreLosses =
     (s : ScenarioValue) (rows : List Row) (row : Row) (n : Connection) (p : Process) → (run_state s rows).story.bus_state.connection ≡ Some n → is_true_telling s (run_state s rows) row (row_reading (run_state s rows).story.bus_state row) ≡ true
     → process_of s p.id ≡ Some p → (leaving s (run_state s rows) n.target).to ≡ None
-    → has_event (row_events_by s (run_state s rows).story (row_reading (run_state s rows).story.bus_state row) row) (events.Lost p.id) ≡ true
+    → has_event (row_events_by s (run_state s rows).story (row_reading (run_state s rows).story.bus_state row) row) (Event.Lost p.id) ≡ true
     → (is_loss (run_state s rows).exchange.plan.cause (phase_of (bus_of (run_state s rows))) && gives_up s rows row n p.id) ≡ true
 
 plain : (s : ScenarioValue) (p : List Row) (row : Row) → Obeys s → IsPrompt s (row ∷ p) → IsPlain s p (run_state s p)
@@ -54,12 +28,12 @@ told_row : (s : ScenarioValue) (p : List Row) (row : Row) → telling s (row ∷
 told_row s p row tell = and_second (telling s p) (is_true_telling s (run_state s p) row (row_reading (run_state s p).story.bus_state row)) tell
 
 pub failed_by : (s : ScenarioValue) (p : List Row) (row : Row) (n : Connection) (id : ProcId) (code : ℕ) → AreFailures → telling s (row ∷ p) ≡ true → Obeys s → IsPrompt s (row ∷ p) → connection p ≡ Some n
-    → has_event (row_events s (story s p) row) (events.Fail id code) ≡ true → (is_failure (run_state s p).exchange.plan.cause code (phase_of (bus p)) && gives_up s p row n id) ≡ true
+    → has_event (row_events s (story s p) row) (Event.Fail id code) ≡ true → (is_failure (run_state s p).exchange.plan.cause code (phase_of (bus p)) && gives_up s p row n id) ≡ true
 failed_by s p row n id code law tell o prompt con e =
     let k : RunState = run_state s p in
     let pl : IsPlain s p k = plain s p row o prompt in
     ap (λ (l : LineSet). is_failure k.exchange.plan.cause code (phase_of l) && gives_up s p row n id) (sym pl.bus)
-    ∙ law s p row n id code (pl.connection ∙ con) (told_row s p row tell) (ap (λ (b : Story). has_event (row_events s b row) (events.Fail id code)) pl.story ∙ e)
+    ∙ law s p row n id code (pl.connection ∙ con) (told_row s p row tell) (ap (λ (b : Story). has_event (row_events s b row) (Event.Fail id code)) pl.story ∙ e)
 
 -- It goes to BUS FREE as it is due to.
 freed : (s : ScenarioValue) (p : List Row) (row : Row) (n : Connection) → Obeys s → IsPrompt s (row ∷ p) → left_as_due s (row ∷ p) ≡ true → connection p ≡ Some n → connection (row ∷ p) ≡ None → (bus (row ∷ p)).rst ≡ false → (leaving s (run_state s p) n.target).to ≡ None
@@ -91,9 +65,9 @@ freed s p row n o prompt left con over calm = none_is (leaving s k n.target).to 
     none_is (Some y) e = wrong' e
 
 pub lost_by : (s : ScenarioValue) (p : List Row) (row : Row) (n : Connection) (q : Process) → AreLosses → telling s (row ∷ p) ≡ true → left_as_due s (row ∷ p) ≡ true → Obeys s → IsPrompt s (row ∷ p) → connection p ≡ Some n → connection (row ∷ p) ≡ None → (bus (row ∷ p)).rst ≡ false
-    → process_of s q.id ≡ Some q → has_event (row_events s (story s p) row) (events.Lost q.id) ≡ true → (is_loss (run_state s p).exchange.plan.cause (phase_of (bus p)) && gives_up s p row n q.id) ≡ true
+    → process_of s q.id ≡ Some q → has_event (row_events s (story s p) row) (Event.Lost q.id) ≡ true → (is_loss (run_state s p).exchange.plan.cause (phase_of (bus p)) && gives_up s p row n q.id) ≡ true
 lost_by s p row n q law tell left o prompt con over calm own e =
     let k : RunState = run_state s p in
     let pl : IsPlain s p k = plain s p row o prompt in
     ap (λ (l : LineSet). is_loss k.exchange.plan.cause (phase_of l) && gives_up s p row n q.id) (sym pl.bus)
-    ∙ law s p row n q (pl.connection ∙ con) (told_row s p row tell) own (freed s p row n o prompt left con over calm) (ap (λ (b : Story). has_event (row_events s b row) (events.Lost q.id)) pl.story ∙ e)
+    ∙ law s p row n q (pl.connection ∙ con) (told_row s p row tell) own (freed s p row n o prompt left con over calm) (ap (λ (b : Story). has_event (row_events s b row) (Event.Lost q.id)) pl.story ∙ e)

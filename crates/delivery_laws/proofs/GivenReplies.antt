@@ -1,31 +1,14 @@
 -- Why each process has its reply: the plain disk array carried it out, or it failed, or it was refused (7.2, 7.3, 7.8).
-use Rattle.std.proofs.Common.{◌≡◌, Bool, true, false, not, ◌&&◌, ◌||◌, List, [], ◌∷◌, Option, Some, None, refl, sym, subst}
-use Rattle.std.specs.Prelude.{if◌then◌else◌, ◌==◌, is_none, is_some}
-use Rattle.std.proofs.lemmas.Bool.{and_from, or_left, or_right}
-use Rattle.std.proofs.lemmas.Option.{same_Some}
-use Rattle.bus_due.specs.bus_base.specs.declared.Event.{Event}
-use Rattle.bus_due.specs.bus_base.specs.declared.Event.TheVariants as events
-use Rattle.bus_due.specs.bus_base.specs.declared.ProcId.{ProcId}
-use Rattle.bus_due.specs.bus_base.proofs.Tests.{eq_self}
-use Rattle.bus_due.specs.scenario.specs.Value.{ScenarioValue}
-use Rattle.bus_due.specs.scenario.specs.Writing.{Obeys}
-use Rattle.bus_due.specs.disk_array.specs.ArrayHistory.{array_after, array_step, reply_in}
-use Rattle.bus_due.specs.disk_array.specs.Execution.{Reply, aborted_reply, queue_full}
-use Rattle.bus_due.specs.disk_array.specs.Processes.{process_of, same_id}
-use Rattle.bus_due.specs.disk_array.specs.SoundArray.{IsSound}
-use Rattle.bus_due.specs.disk_array.specs.Steps as Steps
-use Rattle.bus_due.specs.disk_array.specs.Units.{Array, RunningProcess, guest_at, is_held, unit_state_at}
-use Rattle.bus_due.specs.disk_array.proofs.ArrayReplies.{abort_lists, end_lists, fail_lists, loss_lists, reset_lists, took}
-use Rattle.bus_due.specs.disk_array.proofs.SoundArrays.{history_sound}
-use Rattle.progress_laws.specs.bus_books.proofs.Lookups.{id_is, self_id}
-use Rattle.bus_due.specs.Telling.{same_event}
-use Rattle.progress_laws.specs.bus_books.specs.FullQueues.{has_event}
-use Rattle.progress_laws.specs.scsi_device.proofs.FitLines.{obeys_fits, seats_are}
-use Rattle.progress_laws.specs.trace_laws.proofs.Impossible.{none_some}
-use Rattle.progress_laws.specs.trace_laws.proofs.ListedReplies.{accepted, refused as lists_refused, running_id, settles}
-use Rattle.progress_laws.specs.trace_laws.proofs.OtherProcesses.{executed, reply_at}
-use Rattle.progress_laws.proofs.OwedEvents.{running_own}
-use Rattle.delivery_laws.specs.Delivery.{HasRun, IsGiven, failed, ran, refused}
+use Rattle.delivery_laws.proofs
+use proofs.Names.{◌≡◌, Bool, true, false, not, ◌&&◌, ◌||◌, List, [], ◌∷◌, Option, Some, None, refl, sym, subst}
+use proofs.Names.{and_from, or_left, or_right, same_Some, if◌then◌else◌, ◌==◌, is_none, is_some, eq_self, Event, ProcId}
+use proofs.Names.{ScenarioValue, Obeys, abort_lists, end_lists, fail_lists, loss_lists, reset_lists, took}
+use proofs.Names.{history_sound, array_after, array_step, reply_in, Reply, aborted_reply, queue_full, process_of}
+use proofs.Names.{same_id, IsSound, Array, RunningProcess, guest_at, is_held, unit_state_at, same_event, obeys_fits}
+use proofs.Names.{seats_are, id_is, self_id, has_event, none_some, executed, reply_at, accepted}
+use proofs.Names.{refused as lists_refused, running_id, settles, running_own, HasRun, IsGiven, failed, ran}
+use Rattle.delivery_laws.specs.Delivery.{refused}
+use Rattle.bus_due.specs.disk_array.specs.Steps
 
 abbrev AreGiven : ScenarioValue → List Event → List (ProcId × Reply) → Type 0
 AreGiven s h replies = (id : ProcId) (reply : Reply) → reply_in replies id ≡ Some reply → IsGiven s h id reply
@@ -41,8 +24,8 @@ given_later s h e id reply (ran w) = ran (record {
   process_is = w.process_is;
   reply_is = w.reply_is;
 })
-given_later s h e id reply (failed code f g) = failed code (or_right (same_event e (events.Fail id code)) (has_event h (events.Fail id code)) f) g
-given_later s h e id reply (refused f g) = refused (or_right (same_event e (events.Refuse id)) (has_event h (events.Refuse id)) f) g
+given_later s h e id reply (failed code f g) = failed code (or_right (same_event e (Event.Fail id code)) (has_event h (Event.Fail id code)) f) g
+given_later s h e id reply (refused f g) = refused (or_right (same_event e (Event.Refuse id)) (has_event h (Event.Refuse id)) f) g
 
 no_more : (s : ScenarioValue) (h : List Event) (e : Event) (replies after : List (ProcId × Reply)) → after ≡ replies → AreGiven s h replies → AreGiven s (e ∷ h) after
 no_more s h e replies after is g = subst (λ (x : List (ProcId × Reply)). AreGiven s (e ∷ h) x) (sym is) (λ id reply z. given_later s h e id reply (g id reply z))
@@ -55,7 +38,7 @@ one_more s h e replies after id reply is own g = subst (λ (x : List (ProcId × 
     go x r false f z = given_later s h e x r (g x r z)
 
 run_given : (s : ScenarioValue) (h : List Event) (a c : Array) (id : ProcId) (guest : Bool) (o : Option RunningProcess) → array_after s h ≡ Some a → IsSound s a → Steps.running_process a id ≡ o → Steps.run_step a guest o ≡ Some c
-    → AreGiven s h a.replies → AreGiven s (events.Run id ∷ h) c.replies
+    → AreGiven s h a.replies → AreGiven s (Event.Run id ∷ h) c.replies
 run_given s h a c id guest None was sound f e g = none_some c e
 run_given s h a c id guest (Some r) was sound f e g = go (is_none r.reply && (guest || not (is_held a.holds r.process.target r.process.unit))) e
   where
@@ -65,40 +48,40 @@ run_given s h a c id guest (Some r) was sound f e g = go (is_none r.reply && (gu
     reply : Reply
     reply = reply_at a r.process (unit_state_at a.units r.process.target r.process.unit)
 
-    now : HasRun s (events.Run id ∷ h) id reply
+    now : HasRun s (Event.Run id ∷ h) id reply
     now = record { later = []; earlier = h; split = refl; array = a; array_is = was; process = r.process; process_is = running_own s a id r sound f; reply_is = refl }
 
-    go : (x : Bool) → (if x then Some (Steps.after_execution_at a r.process (unit_state_at a.units r.process.target r.process.unit)) else None) ≡ Some c → AreGiven s (events.Run id ∷ h) c.replies
+    go : (x : Bool) → (if x then Some (Steps.after_execution_at a r.process (unit_state_at a.units r.process.target r.process.unit)) else None) ≡ Some c → AreGiven s (Event.Run id ∷ h) c.replies
     go true z =
-        one_more s h (events.Run id) a.replies c.replies r.process.id reply
+        one_more s h (Event.Run id) a.replies c.replies r.process.id reply
         (took (Steps.after_execution_at a r.process (unit_state_at a.units r.process.target r.process.unit)) c ((r.process.id, reply) ∷ a.replies) z (executed a r.process (unit_state_at a.units r.process.target r.process.unit)).replies)
-        (subst (λ (x : ProcId). IsGiven s (events.Run id ∷ h) x reply) (sym own) (ran now)) g
+        (subst (λ (x : ProcId). IsGiven s (Event.Run id ∷ h) x reply) (sym own) (ran now)) g
     go false z = none_some c z
 
 step_given : (s : ScenarioValue) (h : List Event) (a d : Array) (e : Event) → array_after s h ≡ Some a → IsSound s a → Steps.step s e a ≡ Some d → AreGiven s h a.replies → AreGiven s (e ∷ h) d.replies
-step_given s h a d (events.Accept id) was is e g =
-    settles (Steps.accept_step a (process_of s id)) d (λ (x : Array). AreGiven s (events.Accept id ∷ h) x.replies) (λ c k. no_more s h (events.Accept id) a.replies c.replies (accepted a c (process_of s id) k) g) e
-step_given s h a d (events.Refuse id) was is e g =
-    settles (Steps.refuse_step a (process_of s id)) d (λ (x : Array). AreGiven s (events.Refuse id ∷ h) x.replies)
-    (λ c k. one_more s h (events.Refuse id) a.replies c.replies id queue_full (lists_refused s a c id (process_of s id) refl k) (refused (or_left (same_id id id) (has_event h (events.Refuse id)) (self_id id)) refl) g) e
-step_given s h a d (events.Run id) was is e g =
-    settles (Steps.run_step a (is_some (guest_at a.guests id)) (Steps.running_process a id)) d (λ (x : Array). AreGiven s (events.Run id ∷ h) x.replies)
+step_given s h a d (Event.Accept id) was is e g =
+    settles (Steps.accept_step a (process_of s id)) d (λ (x : Array). AreGiven s (Event.Accept id ∷ h) x.replies) (λ c k. no_more s h (Event.Accept id) a.replies c.replies (accepted a c (process_of s id) k) g) e
+step_given s h a d (Event.Refuse id) was is e g =
+    settles (Steps.refuse_step a (process_of s id)) d (λ (x : Array). AreGiven s (Event.Refuse id ∷ h) x.replies)
+    (λ c k. one_more s h (Event.Refuse id) a.replies c.replies id queue_full (lists_refused s a c id (process_of s id) refl k) (refused (or_left (same_id id id) (has_event h (Event.Refuse id)) (self_id id)) refl) g) e
+step_given s h a d (Event.Run id) was is e g =
+    settles (Steps.run_step a (is_some (guest_at a.guests id)) (Steps.running_process a id)) d (λ (x : Array). AreGiven s (Event.Run id ∷ h) x.replies)
     (λ c k. run_given s h a c id (is_some (guest_at a.guests id)) (Steps.running_process a id) was is refl k g) e
-step_given s h a d (events.Fail id code) was is e g =
-    settles (Steps.fail_step s a id (aborted_reply code) (Steps.running_process a id)) d (λ (x : Array). AreGiven s (events.Fail id code ∷ h) x.replies)
-    (λ c k. one_more s h (events.Fail id code) a.replies c.replies id (aborted_reply code) (fail_lists s a c id (aborted_reply code) (Steps.running_process a id) k)
-    (failed code (or_left (same_id id id && code == code) (has_event h (events.Fail id code)) (and_from (same_id id id) (code == code) (self_id id) (eq_self code))) refl) g) e
-step_given s h a d (events.End id status) was is e g =
-    settles (Steps.end_step a status (Steps.running_process a id)) d (λ (x : Array). AreGiven s (events.End id status ∷ h) x.replies)
-    (λ c k. no_more s h (events.End id status) a.replies c.replies (end_lists a c status (Steps.running_process a id) k) g) e
-step_given s h a d (events.Lost id) was is e g =
-    settles (Steps.loss_step a id) d (λ (x : Array). AreGiven s (events.Lost id ∷ h) x.replies) (λ c k. no_more s h (events.Lost id) a.replies c.replies (loss_lists a c id k) g) e
-step_given s h a d (events.Aborted i t n what) was is e g =
-    settles (Some (Steps.abort_step s a i t n what)) d (λ (x : Array). AreGiven s (events.Aborted i t n what ∷ h) x.replies)
-    (λ c k. no_more s h (events.Aborted i t n what) a.replies c.replies (took (Steps.abort_step s a i t n what) c a.replies k (abort_lists s a i t n what)) g) e
-step_given s h a d (events.Reset dev) was is e g =
-    settles (Some (Steps.reset_step s a)) d (λ (x : Array). AreGiven s (events.Reset dev ∷ h) x.replies)
-    (λ c k. no_more s h (events.Reset dev) a.replies c.replies (took (Steps.reset_step s a) c a.replies k (reset_lists s a)) g) e
+step_given s h a d (Event.Fail id code) was is e g =
+    settles (Steps.fail_step s a id (aborted_reply code) (Steps.running_process a id)) d (λ (x : Array). AreGiven s (Event.Fail id code ∷ h) x.replies)
+    (λ c k. one_more s h (Event.Fail id code) a.replies c.replies id (aborted_reply code) (fail_lists s a c id (aborted_reply code) (Steps.running_process a id) k)
+    (failed code (or_left (same_id id id && code == code) (has_event h (Event.Fail id code)) (and_from (same_id id id) (code == code) (self_id id) (eq_self code))) refl) g) e
+step_given s h a d (Event.End id status) was is e g =
+    settles (Steps.end_step a status (Steps.running_process a id)) d (λ (x : Array). AreGiven s (Event.End id status ∷ h) x.replies)
+    (λ c k. no_more s h (Event.End id status) a.replies c.replies (end_lists a c status (Steps.running_process a id) k) g) e
+step_given s h a d (Event.Lost id) was is e g =
+    settles (Steps.loss_step a id) d (λ (x : Array). AreGiven s (Event.Lost id ∷ h) x.replies) (λ c k. no_more s h (Event.Lost id) a.replies c.replies (loss_lists a c id k) g) e
+step_given s h a d (Event.Aborted i t n what) was is e g =
+    settles (Some (Steps.abort_step s a i t n what)) d (λ (x : Array). AreGiven s (Event.Aborted i t n what ∷ h) x.replies)
+    (λ c k. no_more s h (Event.Aborted i t n what) a.replies c.replies (took (Steps.abort_step s a i t n what) c a.replies k (abort_lists s a i t n what)) g) e
+step_given s h a d (Event.Reset dev) was is e g =
+    settles (Some (Steps.reset_step s a)) d (λ (x : Array). AreGiven s (Event.Reset dev ∷ h) x.replies)
+    (λ c k. no_more s h (Event.Reset dev) a.replies c.replies (took (Steps.reset_step s a) c a.replies k (reset_lists s a)) g) e
 
 pub all_given : (s : ScenarioValue) (h : List Event) (a : Array) → Obeys s → array_after s h ≡ Some a → AreGiven s h a.replies
 all_given s [] a o e = subst (λ (x : Array). AreGiven s [] x.replies) (same_Some _ a e) (λ id reply z. none_some reply z)

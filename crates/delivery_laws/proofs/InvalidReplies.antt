@@ -1,56 +1,37 @@
 -- A command that is not valid is answered with CHECK CONDITION where no attention stands, and the sense of what is wrong with it first (7.2, 8.2).
-use Rattle.std.proofs.Common.{ℕ, ◌≡◌, Bool, true, false, not, ◌&&◌, ◌||◌, ◌∙◌, List, [], ◌∷◌, ◌++◌, Option, Some, None, Result, Ok, Err, length, refl, sym, ap}
-use Rattle.std.specs.Prelude.{if◌then◌else◌, ◌==◌, is_some, slice_index}
-use Rattle.std.specs.List.{list_all}
-use Rattle.std.proofs.lemmas.Option.{same_Some}
-use Rattle.bus_due.specs.bus_base.specs.declared.Event.{Event}
-use Rattle.bus_due.specs.bus_base.specs.declared.Event.TheVariants as events
-use Rattle.bus_due.specs.bus_base.proofs.Tests.{and_second, wrong, wrong'}
-use Rattle.bus_due.specs.cdb_codec.specs.Cdb.{command_of, sized_of, fields_of, has_group_len}
-use Rattle.bus_due.specs.cdb_codec.specs.Operations.{operation_of}
-use Rattle.bus_due.specs.cdb_codec.specs.declared.command.CdbFault.{CdbFault}
-use Rattle.bus_due.specs.cdb_codec.specs.declared.command.CdbFault.TheVariants as faults
-use Rattle.bus_due.specs.cdb_codec.specs.declared.command.Command.{Command}
-use Rattle.bus_due.specs.cdb_codec.specs.declared.command.Command.TheVariants as commands
-use Rattle.bus_due.specs.cdb_codec.specs.declared.operation.Operation.{Operation}
-use Rattle.bus_due.specs.cdb_codec.specs.declared.operation.Operation.TheVariants as operations
-use Rattle.bus_due.specs.cdb_codec.specs.declared.operation.TheConstants.{INQUIRY, READ_10, READ_6, READ_CAPACITY, REQUEST_SENSE, TEST_UNIT_READY, WRITE_10, WRITE_6}
-use Rattle.bus_due.specs.scenario.specs.declared.value.CmdDef.{CmdDef}
-use Rattle.bus_due.specs.scenario.specs.declared.value.UnitDef.{UnitDef}
-use Rattle.bus_due.specs.scenario.specs.Lookups.{has_target, unit_of}
-use Rattle.bus_due.specs.scenario.specs.Value.{ScenarioValue}
-use Rattle.bus_due.specs.scenario.specs.Writing.{Obeys}
-use Rattle.bus_due.specs.disk_array.specs.Execution.{CommandContext, Reply, attention_execution, cdb_execution, check_condition, command_execution, execution, block_out_of_range, is_good_range, is_opcode, is_request_sense, needs_unit, range_of, range_execution, reply_execution, unit_not_supported}
-use Rattle.bus_due.specs.disk_array.specs.Processes.{command_at, process_by, process_if}
-use Rattle.bus_due.specs.disk_array.specs.Steps as Steps
-use Rattle.bus_due.specs.disk_array.specs.Units.{Array, Nexus, UnitState, nexus_of, unit_state_at}
-use Rattle.bus_due.specs.bus_story.specs.Items.{command_id}
-use Rattle.bus_due.specs.bus_story.specs.Outcomes.{fits_unit, is_sound_command, is_valid}
-use Rattle.progress_laws.specs.target_units.specs.Rooms.{AreOfLines, IsOfLine}
-use Rattle.progress_laws.specs.target_units.proofs.Rooms.{lines_always}
-use Rattle.delivery_laws.specs.Delivery.{HasRun, checked_sense, fault_sense, is_calm_event}
-use Rattle.delivery_laws.proofs.ValidReplies.{calm_context, fair_after}
+use Rattle.delivery_laws.proofs
+use proofs.Names.{ℕ, ◌≡◌, Bool, true, false, not, ◌&&◌, ◌||◌, ◌∙◌, List, [], ◌∷◌, ◌++◌, Option, Some, None, Result, Ok}
+use proofs.Names.{Err, length, refl, sym, ap, same_Some, list_all, if◌then◌else◌, ◌==◌, is_some, slice_index}
+use proofs.Names.{and_second, wrong, wrong', Event, command_of, sized_of, fields_of, has_group_len, operation_of}
+use proofs.Names.{CdbFault, Command, Operation, INQUIRY, READ_10, READ_6, READ_CAPACITY, REQUEST_SENSE, TEST_UNIT_READY}
+use proofs.Names.{WRITE_10, WRITE_6, has_target, unit_of, ScenarioValue, Obeys, CmdDef, UnitDef, CommandContext, Reply}
+use proofs.Names.{attention_execution, cdb_execution, check_condition, command_execution, execution, block_out_of_range}
+use proofs.Names.{is_good_range, is_opcode, is_request_sense, needs_unit, range_of, range_execution, reply_execution}
+use proofs.Names.{unit_not_supported, command_at, process_by, process_if, Array, Nexus, UnitState, nexus_of}
+use proofs.Names.{unit_state_at, command_id, fits_unit, is_sound_command, is_valid, lines_always, AreOfLines, IsOfLine}
+use proofs.{Names.{HasRun, checked_sense, fault_sense, is_calm_event}, ValidReplies.{calm_context, fair_after}}
+use Rattle.bus_due.specs.disk_array.specs.Steps
 
 -- ---- REQUEST SENSE without fault has its operation code
 
-other_fields : (o : Operation) (cdb : List ℕ) → (Some o ≡ Some operations.RequestSense → ⊥) → is_request_sense (sized_of (Some o) cdb) ≡ false
+other_fields : (o : Operation) (cdb : List ℕ) → (Some o ≡ Some Operation.RequestSense → ⊥) → is_request_sense (sized_of (Some o) cdb) ≡ false
 other_fields o cdb apart = go (has_group_len cdb)
   where
-    zeros : (k : Command) → is_request_sense (Ok k) ≡ false → (q : Bool) → is_request_sense (if q then Ok k else Err faults.Field) ≡ false
+    zeros : (k : Command) → is_request_sense (Ok k) ≡ false → (q : Bool) → is_request_sense (if q then Ok k else Err CdbFault.Field) ≡ false
     zeros k e true = e
     zeros k e false = refl
 
-    fields : (o : Operation) → (Some o ≡ Some operations.RequestSense → ⊥) → is_request_sense (fields_of o cdb) ≡ false
-    fields operations.TestUnitReady h = zeros commands.TestUnitReady refl _
-    fields operations.RequestSense h = absurd (h refl)
-    fields operations.Read6 h = zeros _ refl _
-    fields operations.Write6 h = zeros _ refl _
-    fields operations.Inquiry h = zeros _ refl _
-    fields operations.ReadCapacity h = zeros commands.ReadCapacity refl _
-    fields operations.Read10 h = zeros _ refl _
-    fields operations.Write10 h = zeros _ refl _
+    fields : (o : Operation) → (Some o ≡ Some Operation.RequestSense → ⊥) → is_request_sense (fields_of o cdb) ≡ false
+    fields Operation.TestUnitReady h = zeros Command.TestUnitReady refl _
+    fields Operation.RequestSense h = absurd (h refl)
+    fields Operation.Read6 h = zeros _ refl _
+    fields Operation.Write6 h = zeros _ refl _
+    fields Operation.Inquiry h = zeros _ refl _
+    fields Operation.ReadCapacity h = zeros Command.ReadCapacity refl _
+    fields Operation.Read10 h = zeros _ refl _
+    fields Operation.Write10 h = zeros _ refl _
 
-    go : (q : Bool) → is_request_sense (if q then fields_of o cdb else Err faults.Length) ≡ false
+    go : (q : Bool) → is_request_sense (if q then fields_of o cdb else Err CdbFault.Length) ≡ false
     go true = fields o apart
     go false = refl
 
@@ -60,22 +41,22 @@ sense_opcode cdb e = sized (length cdb == 0) e
     code : ℕ
     code = slice_index cdb 0
 
-    other : {A : Type 0} (o : Operation) → (Some o ≡ Some operations.RequestSense → ⊥) → is_request_sense (sized_of (Some o) cdb) ≡ true → A
+    other : {A : Type 0} (o : Operation) → (Some o ≡ Some Operation.RequestSense → ⊥) → is_request_sense (sized_of (Some o) cdb) ≡ true → A
     other o apart z = wrong (sym z ∙ other_fields o cdb apart)
 
-    by : (a b c d f g h i : Bool) → is_request_sense (sized_of (if a then Some operations.TestUnitReady else if b then Some operations.RequestSense else if c then Some operations.Read6 else if d then Some operations.Write6
-        else if f then Some operations.Inquiry else if g then Some operations.ReadCapacity else if h then Some operations.Read10 else if i then Some operations.Write10 else None) cdb) ≡ true → b ≡ true
-    by true b c d f g h i z = other operations.TestUnitReady (λ x. cc) z
+    by : (a b c d f g h i : Bool) → is_request_sense (sized_of (if a then Some Operation.TestUnitReady else if b then Some Operation.RequestSense else if c then Some Operation.Read6 else if d then Some Operation.Write6
+        else if f then Some Operation.Inquiry else if g then Some Operation.ReadCapacity else if h then Some Operation.Read10 else if i then Some Operation.Write10 else None) cdb) ≡ true → b ≡ true
+    by true b c d f g h i z = other Operation.TestUnitReady (λ x. cc) z
     by false true c d f g h i z = refl
-    by false false true d f g h i z = other operations.Read6 (λ x. cc) z
-    by false false false true f g h i z = other operations.Write6 (λ x. cc) z
-    by false false false false true g h i z = other operations.Inquiry (λ x. cc) z
-    by false false false false false true h i z = other operations.ReadCapacity (λ x. cc) z
-    by false false false false false false true i z = other operations.Read10 (λ x. cc) z
-    by false false false false false false false true z = other operations.Write10 (λ x. cc) z
+    by false false true d f g h i z = other Operation.Read6 (λ x. cc) z
+    by false false false true f g h i z = other Operation.Write6 (λ x. cc) z
+    by false false false false true g h i z = other Operation.Inquiry (λ x. cc) z
+    by false false false false false true h i z = other Operation.ReadCapacity (λ x. cc) z
+    by false false false false false false true i z = other Operation.Read10 (λ x. cc) z
+    by false false false false false false false true z = other Operation.Write10 (λ x. cc) z
     by false false false false false false false false z = wrong' z
 
-    sized : (q : Bool) → is_request_sense (if q then Err faults.Length else sized_of (operation_of code) cdb) ≡ true → (not q && code == REQUEST_SENSE) ≡ true
+    sized : (q : Bool) → is_request_sense (if q then Err CdbFault.Length else sized_of (operation_of code) cdb) ≡ true → (not q && code == REQUEST_SENSE) ≡ true
     sized true z = wrong' z
     sized false z =
         by (code == TEST_UNIT_READY) (code == REQUEST_SENSE) (code == READ_6) (code == WRITE_6) (code == INQUIRY) (code == READ_CAPACITY) (code == READ_10) (code == WRITE_10) z
@@ -101,9 +82,9 @@ out_of_range : (m : CommandContext) (k : Command) (sent : List ℕ) → is_good_
 out_of_range m k sent e = λ i. (if e i then command_execution m k sent else reply_execution m (check_condition block_out_of_range)).reply
 
 faulty : (m : CommandContext) (sent : List ℕ) (f : CdbFault) → (cdb_execution m (Err f) sent).reply ≡ check_condition (fault_sense (Err f))
-faulty m sent faults.Opcode = refl
-faulty m sent faults.Length = refl
-faulty m sent faults.Field = refl
+faulty m sent CdbFault.Opcode = refl
+faulty m sent CdbFault.Length = refl
+faulty m sent CdbFault.Field = refl
 
 -- What is wrong with it, where its unit is there or not needed.
 wrong_block : (s : ScenarioValue) (c : CmdDef) (m : CommandContext) (sent : List ℕ) → m.attention ≡ None → ((k : Command) → command_of c.cdb ≡ Ok k → is_good_range m.contents.count (range_of k) ≡ false)
@@ -168,8 +149,8 @@ invalid_ran s h n c reply o calm at there invalid w =
 
     before : list_all (λ (e : Event). is_calm_event e) w.earlier ≡ true
     before =
-        and_second (is_calm_event (events.Run (command_id n))) (list_all (λ (e : Event). is_calm_event e) w.earlier)
-        (calm_before w.later (events.Run (command_id n) ∷ w.earlier) (ap (λ (x : List Event). list_all (λ (e : Event). is_calm_event e) x) (sym w.split) ∙ calm))
+        and_second (is_calm_event (Event.Run (command_id n))) (list_all (λ (e : Event). is_calm_event e) w.earlier)
+        (calm_before w.later (Event.Run (command_id n) ∷ w.earlier) (ap (λ (x : List Event). list_all (λ (e : Event). is_calm_event e) x) (sym w.split) ∙ calm))
 
     quiet : w.array.attentions ≡ []
     quiet = (fair_after s w.earlier w.array o before w.array_is).calm

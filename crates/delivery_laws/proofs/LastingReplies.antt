@@ -1,68 +1,36 @@
 -- In a prompt trace a process is answered once: one that ran has the reply that it got then.
-use Rattle.std.proofs.Common.{ℕ, ◌≡◌, Bool, true, false, ◌||◌, ◌∙◌, List, [], ◌∷◌, ◌++◌, Option, Some, None, refl, sym, ap, subst}
-use Rattle.std.specs.Prelude.{if◌then◌else◌, is_some, ⊤, ◌==◌}
-use Rattle.std.specs.List.{list_any}
-use Rattle.std.proofs.lemmas.Bool.{eqb-true}
-use Rattle.std.proofs.lemmas.Option.{same_Some}
-use Rattle.bus_due.specs.bus_base.specs.declared.Event.{Event}
-use Rattle.bus_due.specs.bus_base.specs.declared.Event.TheVariants as events
-use Rattle.bus_due.specs.bus_base.specs.declared.ProcId.{ProcId}
-use Rattle.bus_due.specs.bus_base.proofs.Tests.{and_first, and_second, wrong'}
-use Rattle.progress_laws.specs.bus_laws.proofs.Prompt.{least_is}
-use Rattle.bus_due.specs.bus_trace.specs.declared.Row.{Row}
-use Rattle.bus_due.specs.scenario.specs.Value.{ScenarioValue}
-use Rattle.bus_due.specs.scenario.specs.Writing.{Obeys}
-use Rattle.bus_due.specs.disk_array.specs.ArrayHistory.{array_after, array_step, reply_in}
-use Rattle.bus_due.specs.disk_array.specs.Execution.{Reply, aborted_reply, execution, is_request_sense, queue_full}
-use Rattle.bus_due.specs.cdb_codec.specs.Cdb.{command_of}
-use Rattle.bus_due.specs.disk_array.specs.Processes.{Process, process_of, same_id}
-use Rattle.bus_due.specs.disk_array.specs.SoundArray.{IsSound}
-use Rattle.bus_due.specs.disk_array.specs.Steps as Steps
-use Rattle.bus_due.specs.disk_array.specs.Units.{Array, Nexus, RunningProcess, guest_at, nexus_of, unit_state_at}
-use Rattle.bus_due.specs.disk_array.proofs.ArrayReplies.{abort_lists, reset_lists}
-use Rattle.bus_due.specs.disk_array.proofs.SoundArrays.{history_sound, id_is}
-use Rattle.bus_due.specs.cdb_codec.specs.declared.Sense.{Sense}
-use Rattle.bus_due.specs.bus_story.specs.BusState.{row_reading}
-use Rattle.bus_due.specs.bus_story.specs.HistoryEvents.{row_events_by}
-use Rattle.bus_due.specs.bus_story.specs.Items.{Sent}
-use Rattle.bus_due.specs.bus_story.specs.Story.{Story, story_after_events}
-use Rattle.bus_due.specs.bus_story.specs.TraceHistory.{story_by_change}
-use Rattle.bus_due.specs.Next.{IsPrompt}
-use Rattle.bus_due.specs.Telling.{same_event}
-use Rattle.progress_laws.specs.bus_books.specs.FullQueues.{has_event}
-use Rattle.bus_due.specs.Plain.{IsPlain}
-use Rattle.bus_due.specs.RunState.{RunState}
-use Rattle.bus_due.specs.RunSteps.{array_after_events, run_state}
-use Rattle.bus_due.proofs.Plains.{prompt_plain}
-use Rattle.progress_laws.specs.bus_books.proofs.Lookups.{self_id}
-use Rattle.progress_laws.specs.scsi_device.proofs.FitLines.{obeys_fits, seats_are}
-use Rattle.progress_laws.specs.trace_laws.proofs.Impossible.{none_some}
-use Rattle.progress_laws.specs.trace_laws.proofs.ListedReplies.{running_id}
-use Rattle.progress_laws.specs.trace_laws.proofs.OtherProcesses.{reply_at}
-use Rattle.progress_laws.specs.trace_laws.proofs.Whole.{Whole, standing_next, whole}
-use Rattle.progress_laws.proofs.OwedEvents.{running_own}
-use Rattle.delivery_laws.specs.Delivery.{HasRun}
-use Rattle.delivery_laws.proofs.OwnRows.{AllTell, Coming, row_tells}
+use Rattle.delivery_laws.proofs
+use proofs.Names.{ℕ, ◌≡◌, Bool, true, false, ◌||◌, ◌∙◌, List, [], ◌∷◌, ◌++◌, Option, Some, None, refl, sym, ap, subst}
+use proofs.Names.{eqb-true, same_Some, list_any, if◌then◌else◌, is_some, ⊤, ◌==◌, and_first, and_second, wrong', Event}
+use proofs.Names.{ProcId, Row, command_of, Sense, ScenarioValue, Obeys, abort_lists, reset_lists, history_sound}
+use proofs.Names.{array_after, array_step, reply_in, Reply, aborted_reply, execution, is_request_sense, queue_full}
+use proofs.Names.{Process, process_of, same_id, IsSound, Array, Nexus, RunningProcess, guest_at, nexus_of}
+use proofs.Names.{unit_state_at, row_reading, row_events_by, Sent, Story, story_after_events, story_by_change}
+use proofs.Names.{prompt_plain, IsPrompt, IsPlain, RunState, array_after_events, run_state, same_event, obeys_fits}
+use proofs.Names.{seats_are, self_id, has_event, least_is, none_some, reply_at, running_id, Whole, standing_next, whole}
+use proofs.{Names.{running_own, HasRun}, OwnRows.{AllTell, Coming, row_tells}, OwnSenses.{Book, IfBooks, Tells}}
+use proofs.OwnSenses.{kept_reply}
+use Rattle.bus_due.specs.disk_array.proofs.SoundArrays.{id_is}
+use Rattle.bus_due.specs.disk_array.specs.Steps
 use Rattle.delivery_laws.proofs.OwnSenses as books
-use Rattle.delivery_laws.proofs.OwnSenses.{Book, IfBooks, Tells, kept_reply}
 
 -- ---- an event answers no process anew
 
 abbrev Fresh : Array → Event → Type 0
-Fresh a (events.Run id) = reply_in a.replies id ≡ None
-Fresh a (events.Refuse id) = reply_in a.replies id ≡ None
-Fresh a (events.Fail id code) = reply_in a.replies id ≡ None
+Fresh a (Event.Run id) = reply_in a.replies id ≡ None
+Fresh a (Event.Refuse id) = reply_in a.replies id ≡ None
+Fresh a (Event.Fail id code) = reply_in a.replies id ≡ None
 Fresh a _ = ⊤
 
 told_fresh : (b : Sent) (a : Array) (e : Event) → Tells b a e → Fresh a e
-told_fresh b a (events.Run id) h = h.0
-told_fresh b a (events.Refuse id) h = h
-told_fresh b a (events.Fail id code) h = h
-told_fresh b a (events.Accept id) h = tt
-told_fresh b a (events.End id status) h = tt
-told_fresh b a (events.Lost id) h = tt
-told_fresh b a (events.Aborted i t n what) h = tt
-told_fresh b a (events.Reset dev) h = tt
+told_fresh b a (Event.Run id) h = h.0
+told_fresh b a (Event.Refuse id) h = h
+told_fresh b a (Event.Fail id code) h = h
+told_fresh b a (Event.Accept id) h = tt
+told_fresh b a (Event.End id status) h = tt
+told_fresh b a (Event.Lost id) h = tt
+told_fresh b a (Event.Aborted i t n what) h = tt
+told_fresh b a (Event.Reset dev) h = tt
 
 abbrev AreFresh : ScenarioValue → List Event → Type 0
 AreFresh s [] = ⊤
@@ -89,18 +57,18 @@ all_fresh s (row ∷ p) o prompt =
 -- ---- so what is listed stays
 
 event_keeps : (s : ScenarioValue) (a : Array) (e : Event) (id : ProcId) (y : Reply) → IsSound s a → Fresh a e → reply_in a.replies id ≡ Some y → IfBooks (λ (x : List (Nexus × Sense)) (z : List (ProcId × Reply)). reply_in z id ≡ Some y) (Steps.event_step s a e)
-event_keeps s a (events.Accept p) id y sound fresh h = books.accepted (λ x z. reply_in z id ≡ Some y) a (process_of s p) h
-event_keeps s a (events.Refuse p) id y sound fresh h =
+event_keeps s a (Event.Accept p) id y sound fresh h = books.accepted (λ x z. reply_in z id ≡ Some y) a (process_of s p) h
+event_keeps s a (Event.Refuse p) id y sound fresh h =
     books.refused (λ x z. reply_in z id ≡ Some y) a (process_of s p) (λ q e f. kept_reply a.replies q.id queue_full id y (ap (reply_in a.replies) (id_is s p q e) ∙ fresh) h)
-event_keeps s a (events.Run p) id y sound fresh h =
+event_keeps s a (Event.Run p) id y sound fresh h =
     books.run (λ x z. reply_in z id ≡ Some y) a (is_some (guest_at a.guests p)) (Steps.running_process a p)
     (λ r e. kept_reply a.replies r.process.id (reply_at a r.process (unit_state_at a.units r.process.target r.process.unit)) id y (ap (reply_in a.replies) (running_id a p r e) ∙ fresh) h)
-event_keeps s a (events.Fail p code) id y sound fresh h =
+event_keeps s a (Event.Fail p code) id y sound fresh h =
     books.failed (λ x z. reply_in z id ≡ Some y) s a p (aborted_reply code) (Steps.running_process a p) (kept_reply a.replies p (aborted_reply code) id y fresh h)
-event_keeps s a (events.End p status) id y sound fresh h = books.ended (λ x z. reply_in z id ≡ Some y) a p status (λ r reply e f g. h)
-event_keeps s a (events.Lost p) id y sound fresh h = books.lost (λ x z. reply_in z id ≡ Some y) a p h
-event_keeps s a (events.Aborted i t n what) id y sound fresh h = ap (λ (z : List (ProcId × Reply)). reply_in z id) (abort_lists s a i t n what) ∙ h
-event_keeps s a (events.Reset dev) id y sound fresh h = ap (λ (z : List (ProcId × Reply)). reply_in z id) (reset_lists s a) ∙ h
+event_keeps s a (Event.End p status) id y sound fresh h = books.ended (λ x z. reply_in z id ≡ Some y) a p status (λ r reply e f g. h)
+event_keeps s a (Event.Lost p) id y sound fresh h = books.lost (λ x z. reply_in z id ≡ Some y) a p h
+event_keeps s a (Event.Aborted i t n what) id y sound fresh h = ap (λ (z : List (ProcId × Reply)). reply_in z id) (abort_lists s a i t n what) ∙ h
+event_keeps s a (Event.Reset dev) id y sound fresh h = ap (λ (z : List (ProcId × Reply)). reply_in z id) (reset_lists s a) ∙ h
 
 step_keeps : (s : ScenarioValue) (a d : Array) (e : Event) (id : ProcId) (y : Reply) → IsSound s a → Fresh a e → Steps.step s e a ≡ Some d → reply_in a.replies id ≡ Some y → reply_in d.replies id ≡ Some y
 step_keeps s a d e id y sound fresh st h =
@@ -108,10 +76,10 @@ step_keeps s a d e id y sound fresh st h =
 
 -- ---- one that ran
 
-run_lists : (s : ScenarioValue) (a d : Array) (id : ProcId) (p : Process) → IsSound s a → process_of s id ≡ Some p → Steps.step s (events.Run id) a ≡ Some d
+run_lists : (s : ScenarioValue) (a d : Array) (id : ProcId) (p : Process) → IsSound s a → process_of s id ≡ Some p → Steps.step s (Event.Run id) a ≡ Some d
     → reply_in d.replies id ≡ Some (execution (Steps.context_at a (nexus_of p) (unit_state_at a.units p.target p.unit)) p.cdb p.sent).reply
 run_lists s a d id p sound is st =
-    subst (IfBooks f) st (books.settled f (Steps.event_step s a (events.Run id)) (books.run f a (is_some (guest_at a.guests id)) (Steps.running_process a id) now))
+    subst (IfBooks f) st (books.settled f (Steps.event_step s a (Event.Run id)) (books.run f a (is_some (guest_at a.guests id)) (Steps.running_process a id) now))
   where
     answer : Process → Reply
     answer q = (execution (Steps.context_at a (nexus_of q) (unit_state_at a.units q.target q.unit)) q.cdb q.sent).reply
@@ -136,16 +104,16 @@ head_is x y h g e = cc
 tail_is : (x y : Event) (h g : List Event) → x ∷ h ≡ y ∷ g → h ≡ g
 tail_is x y h g e = cc
 
-run_lasts : (s : ScenarioValue) (h : List Event) (a : Array) (id : ProcId) (reply : Reply) (later earlier : List Event) (was : Array) (p : Process) → Obeys s → AreFresh s h → array_after s h ≡ Some a → h ≡ later ++ events.Run id ∷ earlier
+run_lasts : (s : ScenarioValue) (h : List Event) (a : Array) (id : ProcId) (reply : Reply) (later earlier : List Event) (was : Array) (p : Process) → Obeys s → AreFresh s h → array_after s h ≡ Some a → h ≡ later ++ Event.Run id ∷ earlier
     → array_after s earlier ≡ Some was → process_of s id ≡ Some p → reply ≡ (execution (Steps.context_at was (nexus_of p) (unit_state_at was.units p.target p.unit)) p.cdb p.sent).reply → reply_in a.replies id ≡ Some reply
-run_lasts s [] a id reply [] earlier was p o fresh plays split before is own = no_cons (events.Run id) earlier split
-run_lasts s [] a id reply (x ∷ later) earlier was p o fresh plays split before is own = no_cons x (later ++ events.Run id ∷ earlier) split
+run_lasts s [] a id reply [] earlier was p o fresh plays split before is own = no_cons (Event.Run id) earlier split
+run_lasts s [] a id reply (x ∷ later) earlier was p o fresh plays split before is own = no_cons x (later ++ Event.Run id ∷ earlier) split
 run_lasts s (e ∷ h) a id reply [] earlier was p o fresh plays split before is own =
     run_lists s was a id p (history_sound s earlier was (seats_are s (obeys_fits s o)) before) is
-    ((λ i. array_step s (sym (head_is e (events.Run id) h earlier split) i) (sym (ap (array_after s) (tail_is e (events.Run id) h earlier split) ∙ before) i)) ∙ plays)
+    ((λ i. array_step s (sym (head_is e (Event.Run id) h earlier split) i) (sym (ap (array_after s) (tail_is e (Event.Run id) h earlier split) ∙ before) i)) ∙ plays)
     ∙ ap (λ (x : Reply). Some x) (sym own)
 run_lasts s (e ∷ h) a id reply (x ∷ later) earlier was p o fresh plays split before is own =
-    go (array_after s h) refl plays (λ b z. run_lasts s h b id reply later earlier was p o fresh.1 z (tail_is e x h (later ++ events.Run id ∷ earlier) split) before is own)
+    go (array_after s h) refl plays (λ b z. run_lasts s h b id reply later earlier was p o fresh.1 z (tail_is e x h (later ++ Event.Run id ∷ earlier) split) before is own)
   where
     go : (b : Option Array) → array_after s h ≡ b → array_step s e b ≡ Some a → ((c : Array) → array_after s h ≡ Some c → reply_in c.replies id ≡ Some reply) → reply_in a.replies id ≡ Some reply
     go None z st rest = none_some a st
@@ -160,9 +128,9 @@ ran_lasts s p a id reply o prompt plays w = run_lasts s (run_state s p).story.hi
 abbrev Lists : ScenarioValue → (Event → Bool) → ProcId → Reply → Type 0
 Lists s f id reply = (a d : Array) (e : Event) → IsSound s a → f e ≡ true → Steps.step s e a ≡ Some d → reply_in d.replies id ≡ Some reply
 
-fail_lists : (s : ScenarioValue) (id : ProcId) (code : ℕ) → Lists s (λ e. same_event e (events.Fail id code)) id (aborted_reply code)
-fail_lists s id code a d (events.Fail p x) sound e st =
-    subst (IfBooks f) st (books.settled f (Steps.event_step s a (events.Fail p x)) (books.failed f s a p (aborted_reply x) (Steps.running_process a p) now))
+fail_lists : (s : ScenarioValue) (id : ProcId) (code : ℕ) → Lists s (λ e. same_event e (Event.Fail id code)) id (aborted_reply code)
+fail_lists s id code a d (Event.Fail p x) sound e st =
+    subst (IfBooks f) st (books.settled f (Steps.event_step s a (Event.Fail p x)) (books.failed f s a p (aborted_reply x) (Steps.running_process a p) now))
   where
     f : List (Nexus × Sense) → List (ProcId × Reply) → Type 0
     f y z = reply_in z id ≡ Some (aborted_reply code)
@@ -171,30 +139,30 @@ fail_lists s id code a d (events.Fail p x) sound e st =
     now =
         ap (λ (q : Bool). if q then Some (aborted_reply x) else reply_in a.replies id) (and_first (same_id p id) (x == code) e)
         ∙ ap (λ (y : ℕ). Some (aborted_reply y)) (eqb-true x code (and_second (same_id p id) (x == code) e))
-fail_lists s id code a d (events.Accept p) sound e st = wrong' e
-fail_lists s id code a d (events.Refuse p) sound e st = wrong' e
-fail_lists s id code a d (events.Run p) sound e st = wrong' e
-fail_lists s id code a d (events.End p status) sound e st = wrong' e
-fail_lists s id code a d (events.Lost p) sound e st = wrong' e
-fail_lists s id code a d (events.Aborted i t n what) sound e st = wrong' e
-fail_lists s id code a d (events.Reset dev) sound e st = wrong' e
+fail_lists s id code a d (Event.Accept p) sound e st = wrong' e
+fail_lists s id code a d (Event.Refuse p) sound e st = wrong' e
+fail_lists s id code a d (Event.Run p) sound e st = wrong' e
+fail_lists s id code a d (Event.End p status) sound e st = wrong' e
+fail_lists s id code a d (Event.Lost p) sound e st = wrong' e
+fail_lists s id code a d (Event.Aborted i t n what) sound e st = wrong' e
+fail_lists s id code a d (Event.Reset dev) sound e st = wrong' e
 
-refuse_lists : (s : ScenarioValue) (id : ProcId) → Lists s (λ e. same_event e (events.Refuse id)) id queue_full
-refuse_lists s id a d (events.Refuse p) sound e st =
-    subst (IfBooks f) st (books.settled f (Steps.event_step s a (events.Refuse p)) (books.refused f a (process_of s p) now))
+refuse_lists : (s : ScenarioValue) (id : ProcId) → Lists s (λ e. same_event e (Event.Refuse id)) id queue_full
+refuse_lists s id a d (Event.Refuse p) sound e st =
+    subst (IfBooks f) st (books.settled f (Steps.event_step s a (Event.Refuse p)) (books.refused f a (process_of s p) now))
   where
     f : List (Nexus × Sense) → List (ProcId × Reply) → Type 0
     f y z = reply_in z id ≡ Some queue_full
 
     now : (q : Process) → process_of s p ≡ Some q → is_request_sense (command_of q.cdb) ≡ false → reply_in ((q.id, queue_full) ∷ a.replies) id ≡ Some queue_full
     now q is other = ap (λ (x : Bool). if x then Some queue_full else reply_in a.replies id) (ap (λ (x : ProcId). same_id x id) (id_is s p q is) ∙ e)
-refuse_lists s id a d (events.Accept p) sound e st = wrong' e
-refuse_lists s id a d (events.Fail p x) sound e st = wrong' e
-refuse_lists s id a d (events.Run p) sound e st = wrong' e
-refuse_lists s id a d (events.End p status) sound e st = wrong' e
-refuse_lists s id a d (events.Lost p) sound e st = wrong' e
-refuse_lists s id a d (events.Aborted i t n what) sound e st = wrong' e
-refuse_lists s id a d (events.Reset dev) sound e st = wrong' e
+refuse_lists s id a d (Event.Accept p) sound e st = wrong' e
+refuse_lists s id a d (Event.Fail p x) sound e st = wrong' e
+refuse_lists s id a d (Event.Run p) sound e st = wrong' e
+refuse_lists s id a d (Event.End p status) sound e st = wrong' e
+refuse_lists s id a d (Event.Lost p) sound e st = wrong' e
+refuse_lists s id a d (Event.Aborted i t n what) sound e st = wrong' e
+refuse_lists s id a d (Event.Reset dev) sound e st = wrong' e
 
 listed_lasts : (s : ScenarioValue) (h : List Event) (a : Array) (id : ProcId) (reply : Reply) (f : Event → Bool) → Obeys s → AreFresh s h → Lists s f id reply → array_after s h ≡ Some a → list_any (λ e. f e) h ≡ true → reply_in a.replies id ≡ Some reply
 listed_lasts s [] a id reply f o fresh lists plays has = wrong' has
@@ -211,8 +179,8 @@ listed_lasts s (e ∷ h) a id reply f o fresh lists plays has = go (array_after 
         by true y w = lists b a e sound y st
         by false y w = step_keeps s b a e id reply sound (fresh.0 b z) st (rest b z w)
 
-pub failed_lasts : (s : ScenarioValue) (p : List Row) (a : Array) (id : ProcId) (code : ℕ) → Obeys s → IsPrompt s p → array_after s (run_state s p).story.history ≡ Some a → has_event (run_state s p).story.history (events.Fail id code) ≡ true → reply_in a.replies id ≡ Some (aborted_reply code)
-failed_lasts s p a id code o prompt plays has = listed_lasts s (run_state s p).story.history a id (aborted_reply code) (λ e. same_event e (events.Fail id code)) o (all_fresh s p o prompt) (fail_lists s id code) plays has
+pub failed_lasts : (s : ScenarioValue) (p : List Row) (a : Array) (id : ProcId) (code : ℕ) → Obeys s → IsPrompt s p → array_after s (run_state s p).story.history ≡ Some a → has_event (run_state s p).story.history (Event.Fail id code) ≡ true → reply_in a.replies id ≡ Some (aborted_reply code)
+failed_lasts s p a id code o prompt plays has = listed_lasts s (run_state s p).story.history a id (aborted_reply code) (λ e. same_event e (Event.Fail id code)) o (all_fresh s p o prompt) (fail_lists s id code) plays has
 
-pub refused_lasts : (s : ScenarioValue) (p : List Row) (a : Array) (id : ProcId) → Obeys s → IsPrompt s p → array_after s (run_state s p).story.history ≡ Some a → has_event (run_state s p).story.history (events.Refuse id) ≡ true → reply_in a.replies id ≡ Some queue_full
-refused_lasts s p a id o prompt plays has = listed_lasts s (run_state s p).story.history a id queue_full (λ e. same_event e (events.Refuse id)) o (all_fresh s p o prompt) (refuse_lists s id) plays has
+pub refused_lasts : (s : ScenarioValue) (p : List Row) (a : Array) (id : ProcId) → Obeys s → IsPrompt s p → array_after s (run_state s p).story.history ≡ Some a → has_event (run_state s p).story.history (Event.Refuse id) ≡ true → reply_in a.replies id ≡ Some queue_full
+refused_lasts s p a id o prompt plays has = listed_lasts s (run_state s p).story.history a id queue_full (λ e. same_event e (Event.Refuse id)) o (all_fresh s p o prompt) (refuse_lists s id) plays has

@@ -1,3 +1,4 @@
+pub mod Names
 pub mod ValidReplies
 pub mod CalmTraces
 pub mod Callings

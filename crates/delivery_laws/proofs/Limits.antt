@@ -1,25 +1,12 @@
 -- The test of what valid commands are owed (IsDelivered): where it holds of a run, that does; and what a case shows of one command.
-use Rattle.std.proofs.Common.{ℕ, suc, zero, ◌≡◌, ◌+◌, Bool, true, false, not, ◌&&◌, ◌||◌, ◌∙◌, List, [], ◌∷◌, Option, Some, None, sym, ap, subst, arith}
-use Rattle.std.specs.Prelude.{◌==◌, nat_le}
-use Rattle.std.proofs.lemmas.Option.{same_Some}
-use Rattle.std.proofs.lemmas.Bool.{and_from}
-use Rattle.bus_due.specs.bus_base.proofs.Tests.{and_first, and_second}
-use Rattle.bus_due.specs.bus_trace.specs.declared.Row.{Row}
-use Rattle.bus_due.specs.cdb_codec.specs.declared.Sense.{Sense}
-use Rattle.bus_due.specs.cdb_codec.specs.declared.status.TheConstants.{QUEUE_FULL}
-use Rattle.bus_due.specs.scenario.specs.declared.value.AbortDef.{AbortDef}
-use Rattle.bus_due.specs.scenario.specs.declared.value.CmdDef.{CmdDef}
-use Rattle.bus_due.specs.scenario.specs.declared.value.ResetDef.{ResetDef}
-use Rattle.bus_due.specs.scenario.specs.Value.{ScenarioValue}
-use Rattle.bus_due.specs.disk_array.specs.Processes.{command_at, same_bool}
-use Rattle.bus_due.specs.bus_story.specs.Items.{command_id}
-use Rattle.bus_due.specs.bus_story.specs.Outcomes.{Outcome, ended_aborted, ended_check, ended_full, ended_good, ended_lost, ended_reset, ended_unanswered, is_roomy, is_valid, outcome_of}
-use Rattle.bus_due.specs.bus_story.specs.TraceHistory.{story, trace_history}
-use Rattle.bus_due.specs.Goals.{is_good}
-use Rattle.progress_laws.specs.trace_laws.proofs.Impossible.{none_some}
-use Rattle.progress_laws.specs.bus_books.specs.FullQueues.{was_refused}
-use Rattle.delivery_laws.specs.Delivery.{IsDelivered, command_faults, fault_limit}
-use Rattle.delivery_laws.specs.Endings.{first_ending, first_outcome, is_by_status, is_full, is_tried_out, is_unanswered}
+use Rattle.delivery_laws.proofs
+use proofs.Names.{ℕ, suc, zero, ◌≡◌, ◌+◌, Bool, true, false, not, ◌&&◌, ◌||◌, ◌∙◌, List, [], ◌∷◌, Option, Some, None}
+use proofs.Names.{sym, ap, subst, arith, and_from, same_Some, ◌==◌, nat_le, and_first, and_second, Row, Sense}
+use proofs.Names.{QUEUE_FULL, ScenarioValue, AbortDef, CmdDef, ResetDef, command_at, same_bool, command_id, Outcome}
+use proofs.Names.{ended_aborted, ended_check, ended_full, ended_good, ended_lost, ended_reset, ended_unanswered}
+use proofs.Names.{is_roomy, is_valid, outcome_of, story, trace_history, is_good, was_refused, none_some, IsDelivered}
+use proofs.Names.{command_faults, fault_limit, first_ending, first_outcome, is_by_status, is_full, is_tried_out}
+use proofs.Names.{is_unanswered}
 
 abbrev pub has_no_reset : List ResetDef → Bool
 has_no_reset [] = true

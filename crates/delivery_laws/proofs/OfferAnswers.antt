@@ -1,45 +1,14 @@
 -- As an opening with an offer is left, the target goes to MESSAGE IN to answer it (6.6.21).
-use Rattle.std.proofs.Common.{◌≡◌, Bool, true, false, not, ◌&&◌, ◌∙◌, List, ◌∷◌, ◌⊎◌, Option, Some, None, inl, inr, refl, sym, ap}
-use Rattle.std.specs.Prelude.{if◌then◌else◌, is_some}
-use Rattle.bus_due.specs.bus_base.proofs.Tests.{wrong, wrong'}
-use Rattle.bus_due.specs.bus_trace.specs.LineSet.{LineSet}
-use Rattle.bus_due.specs.bus_trace.specs.declared.Row.{Row}
-use Rattle.bus_due.specs.bus_trace.specs.declared.agreements.Agreement.{Agreement}
-use Rattle.bus_due.specs.bus_trace.specs.declared.changes.Change.{Change}
-use Rattle.bus_due.specs.bus_trace.specs.declared.connection.Connection.{Connection}
-use Rattle.bus_due.specs.bus_trace.specs.Changes.{change_of}
-use Rattle.bus_due.specs.bus_trace.specs.Phases.{changes_phase, is_message_out}
-use Rattle.bus_due.specs.bus_trace.specs.Terms.{connection, connection_after}
-use Rattle.bus_due.specs.bus_trace.specs.Trace.{bus}
-use Rattle.bus_due.specs.scenario.specs.declared.value.TargetDef.{TargetDef}
-use Rattle.bus_due.specs.scenario.specs.Value.{ScenarioValue}
-use Rattle.bus_due.specs.scenario.specs.Writing.{Obeys}
-use Rattle.bus_due.specs.bus_dialogue.specs.declared.exchange.Cause.TheVariants as causes
-use Rattle.bus_due.specs.bus_dialogue.specs.declared.exchange.Hearing.{Hearing}
-use Rattle.bus_due.specs.bus_dialogue.specs.declared.exchange.Leaving.{Leaving}
-use Rattle.bus_due.specs.bus_dialogue.specs.declared.exchange.Next.TheVariants as nexts
-use Rattle.bus_due.specs.bus_dialogue.specs.declared.exchange.Phase.{Phase}
-use Rattle.bus_due.specs.bus_dialogue.specs.declared.exchange.Phase.TheVariants as phases
-use Rattle.bus_due.specs.bus_dialogue.specs.declared.exchange.Plan.{Plan}
-use Rattle.bus_due.specs.bus_dialogue.specs.Exchange.{one_message, plan_anew, struck_plan}
-use Rattle.bus_due.specs.bus_dialogue.specs.NextPhase.{message_out_leaving, after_offer, bus_free, leaving_by, message_in_entry, phase_leaving, phase_of}
-use Rattle.bus_due.specs.bus_dialogue.specs.Planning.{plan_after, plan_in_message_out, plan_in_phase, plan_with_byte}
-use Rattle.bus_due.specs.bus_dialogue.specs.Words.{reply_to}
-use Rattle.bus_due.specs.bus_story.specs.BusState.{RowReading, row_reading}
-use Rattle.bus_due.specs.Defs.{target_def_of}
-use Rattle.bus_due.specs.Next.{IsPrompt}
-use Rattle.bus_due.specs.Plain.{IsPlain}
-use Rattle.bus_due.specs.RunState.{RunState}
-use Rattle.bus_due.specs.RunSteps.{exchange_after, leaving_of, run_state}
-use Rattle.bus_due.specs.Sights.{hearing_of, leaving, serving_at}
-use Rattle.bus_due.proofs.Plains.{run_state_plain}
-use Rattle.progress_laws.specs.bus_laws.proofs.Apart.{change_plain}
-use Rattle.progress_laws.specs.bus_laws.proofs.Prompt.{least_is}
-use Rattle.progress_laws.specs.trace_laws.proofs.Impossible.{none_some}
-use Rattle.progress_laws.specs.trace_laws.proofs.Whole.{whole}
-use Rattle.delivery_laws.specs.Openings.{plan_at}
-use Rattle.delivery_laws.specs.Recoveries.{IsLeaving, phase_after}
-use Rattle.delivery_laws.proofs.RecoveryRows.{leaves_as_due}
+use Rattle.delivery_laws.proofs
+use proofs.Names.{◌≡◌, Bool, true, false, not, ◌&&◌, ◌∙◌, List, ◌∷◌, ◌⊎◌, Option, Some, None, inl, inr, refl, sym, ap}
+use proofs.Names.{if◌then◌else◌, is_some, wrong, wrong', change_of, LineSet, changes_phase, is_message_out, connection}
+use proofs.Names.{connection_after, bus, Row, Agreement, Change, Connection, ScenarioValue, Obeys, TargetDef}
+use proofs.Names.{RowReading, row_reading, one_message, plan_anew, struck_plan, message_out_leaving, after_offer}
+use proofs.Names.{bus_free, leaving_by, message_in_entry, phase_leaving, phase_of, plan_after, plan_in_message_out}
+use proofs.Names.{plan_in_phase, plan_with_byte, reply_to, Cause, Hearing, Leaving, Next, Phase, Plan, run_state_plain}
+use proofs.Names.{target_def_of, IsPrompt, IsPlain, RunState, exchange_after, leaving_of, run_state, hearing_of}
+use proofs.Names.{leaving, serving_at, change_plain, least_is, none_some, whole, plan_at, IsLeaving, phase_after}
+use proofs.RecoveryRows.{leaves_as_due}
 
 -- ---- where it goes, by the phase
 
@@ -60,14 +29,14 @@ some_after p row x e = go (connection (row ∷ p)) e
     go None z = none_some x z
     go (Some c) z = refl
 
-in_lines : (l : LineSet) → phase_of l ≡ phases.MessageIn → is_message_out l ≡ false
+in_lines : (l : LineSet) → phase_of l ≡ Phase.MessageIn → is_message_out l ≡ false
 in_lines l e = go l.msg l.cd l.io e
   where
     is_in : Phase → Bool
-    is_in phases.MessageIn = true
+    is_in Phase.MessageIn = true
     is_in _ = false
 
-    go : (m c i : Bool) → (if m then (if i then phases.MessageIn else phases.MessageOut) else if c then (if i then phases.Status else phases.Command) else if i then phases.DataIn else phases.DataOut) ≡ phases.MessageIn → (m && c && not i) ≡ false
+    go : (m c i : Bool) → (if m then (if i then Phase.MessageIn else Phase.MessageOut) else if c then (if i then Phase.Status else Phase.Command) else if i then Phase.DataIn else Phase.DataOut) ≡ Phase.MessageIn → (m && c && not i) ≡ false
     go true true true z = refl
     go true false true z = refl
     go true c false z = wrong' (ap is_in z)
@@ -81,7 +50,7 @@ planned_in w l p turns other =
     (λ i. (if turns i then plan_in_phase w l p else if w.crosses then plan_with_byte w p else if w.fault && not w.change.before.io then struck_plan p else p).messages)
     ∙ (λ i. (if not (other i) then record (plan_anew p) { messages = l.messages; next = l.next } else if w.begun then plan_in_message_out w p else plan_anew p).messages)
 
-pub planned_for : (s : ScenarioValue) (p : List Row) (row : Row) (n : Connection) → Obeys s → IsPrompt s (row ∷ p) → IsLeaving p row n → phase_after p row ≡ Some phases.MessageIn → (plan_at s (row ∷ p)).messages ≡ (leaving s (run_state s p) n.target).messages
+pub planned_for : (s : ScenarioValue) (p : List Row) (row : Row) (n : Connection) → Obeys s → IsPrompt s (row ∷ p) → IsLeaving p row n → phase_after p row ≡ Some Phase.MessageIn → (plan_at s (row ∷ p)).messages ≡ (leaving s (run_state s p) n.target).messages
 planned_for s p row n o prompt w e = by (connection (row ∷ p)) refl
   where
     k : RunState
@@ -99,15 +68,15 @@ planned_for s p row n o prompt w e = by (connection (row ∷ p)) refl
     here : k.story.bus_state.connection ≡ Some n
     here = pl.connection ∙ w.stands
 
-    phase_is : phase_of (bus (row ∷ p)) ≡ phases.MessageIn
+    phase_is : phase_of (bus (row ∷ p)) ≡ Phase.MessageIn
     phase_is = go (connection (row ∷ p)) e
       where
         some_is : (x y : Phase) → Some x ≡ Some y → x ≡ y
         some_is x y z = cc
 
-        go : (c : Option Connection) → (if is_some c then Some (phase_of (bus (row ∷ p))) else None) ≡ Some phases.MessageIn → phase_of (bus (row ∷ p)) ≡ phases.MessageIn
-        go None z = none_some phases.MessageIn z
-        go (Some c) z = some_is (phase_of (bus (row ∷ p))) phases.MessageIn z
+        go : (c : Option Connection) → (if is_some c then Some (phase_of (bus (row ∷ p))) else None) ≡ Some Phase.MessageIn → phase_of (bus (row ∷ p)) ≡ Phase.MessageIn
+        go None z = none_some Phase.MessageIn z
+        go (Some c) z = some_is (phase_of (bus (row ∷ p))) Phase.MessageIn z
 
     turns : (c : Connection) → connection (row ∷ p) ≡ Some c → changes_phase d.change ≡ true
     turns c f = of w.leaves
@@ -117,21 +86,21 @@ planned_for s p row n o prompt w e = by (connection (row ∷ p)) refl
         of (inr z) = none_some c (sym z ∙ f)
 
     by : (x : Option Connection) → connection (row ∷ p) ≡ x → (plan_at s (row ∷ p)).messages ≡ (leaving s k n.target).messages
-    by None f = wrong (sym (some_after p row phases.MessageIn e) ∙ ap (λ (c : Option Connection). is_some c) f)
+    by None f = wrong (sym (some_after p row Phase.MessageIn e) ∙ ap (λ (c : Option Connection). is_some c) f)
     by (Some c) f =
         (λ i. (exchange_after s k row d (here i) (((λ j. connection_after (pl.connection j) (pl.call j) (change j) row) ∙ f) i) (leaving_of s k (here i))).plan.messages)
         ∙ planned_in (hearing_of k row d) (leaving s k n.target) k.exchange.plan (turns c f) (ap (λ (y : Change). is_message_out y.after) change ∙ in_lines (bus (row ∷ p)) phase_is)
 
 -- ---- the answer to an offer
 
-pub offer_answered : (s : ScenarioValue) (p : List Row) (row : Row) (n : Connection) (offer : Agreement) → Obeys s → IsPrompt s (row ∷ p) → IsLeaving p row n → phase_of (bus p) ≡ phases.MessageOut → (plan_at s p).cause ≡ causes.Selected → (plan_at s p).said.aborts ≡ None → (plan_at s p).said.offer ≡ Some offer
-    → (phase_after p row ≡ Some phases.MessageIn) × ((plan_at s (row ∷ p)).messages ≡ one_message (reply_to (target_def_of s n.target) offer))
+pub offer_answered : (s : ScenarioValue) (p : List Row) (row : Row) (n : Connection) (offer : Agreement) → Obeys s → IsPrompt s (row ∷ p) → IsLeaving p row n → phase_of (bus p) ≡ Phase.MessageOut → (plan_at s p).cause ≡ Cause.Selected → (plan_at s p).said.aborts ≡ None → (plan_at s p).said.offer ≡ Some offer
+    → (phase_after p row ≡ Some Phase.MessageIn) × ((plan_at s (row ∷ p)).messages ≡ one_message (reply_to (target_def_of s n.target) offer))
 offer_answered s p row n offer o prompt w e selected none offers =
     let def : Option TargetDef = target_def_of s n.target in
     let plan : Plan = plan_at s p in
-    let goes : leaving s (run_state s p) n.target ≡ message_in_entry (one_message (reply_to def offer)) nexts.Command =
-    goes_by s p row n phases.MessageOut o prompt w e
-    ∙ (λ i. message_out_leaving (serving_at s (run_state s p) n.target phases.MessageOut) (selected i))
+    let goes : leaving s (run_state s p) n.target ≡ message_in_entry (one_message (reply_to def offer)) Next.Command =
+    goes_by s p row n Phase.MessageOut o prompt w e
+    ∙ (λ i. message_out_leaving (serving_at s (run_state s p) n.target Phase.MessageOut) (selected i))
     ∙ (λ i. if is_some (none i) then bus_free else after_offer def plan.negotiates (offers i)) in
-    let next : phase_after p row ≡ Some phases.MessageIn = sym (leaves_as_due s p row n o prompt w) ∙ ap (λ (l : Leaving). l.to) goes in
+    let next : phase_after p row ≡ Some Phase.MessageIn = sym (leaves_as_due s p row n o prompt w) ∙ ap (λ (l : Leaving). l.to) goes in
     (next, planned_for s p row n o prompt w next ∙ ap (λ (l : Leaving). l.messages) goes)

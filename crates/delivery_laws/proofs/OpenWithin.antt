@@ -1,43 +1,17 @@
 -- An initiator never has more commands open than its limit.
-use Rattle.std.proofs.Common.{ℕ, suc, ◌≡◌, ◌≤◌, ◌+◌, Bool, true, false, not, ◌&&◌, ◌∙◌, List, [], ◌∷◌, Option, Some, None, refl, sym, ap, subst, length, arith}
-use Rattle.std.specs.Prelude.{◌==◌, nat_lt, nat_le}
-use Rattle.std.specs.List.{list_any}
-use Rattle.std.proofs.lemmas.Bool.{and_from, eqb-true}
-use Rattle.std.proofs.lemmas.Bool.Decides.{nat_tests}
-use Rattle.std.proofs.lemmas.Option.{same_Some}
-use Rattle.bus_due.specs.bus_base.specs.declared.Event.{Event}
-use Rattle.bus_due.specs.bus_base.specs.declared.ProcId.{ProcId}
-use Rattle.bus_due.specs.bus_base.proofs.Tests.{and_first, and_second, eq_self, wrong, wrong'}
-use Rattle.bus_due.specs.bus_trace.specs.declared.Row.{Row}
-use Rattle.bus_due.specs.bus_trace.specs.declared.connection.Connection.{Connection}
-use Rattle.bus_due.specs.bus_trace.specs.Terms.{connection, connection_after}
-use Rattle.bus_due.specs.bus_trace.specs.Trace.{bus}
-use Rattle.bus_due.specs.scenario.specs.declared.value.CmdDef.{CmdDef}
-use Rattle.bus_due.specs.scenario.specs.Value.{ScenarioValue}
-use Rattle.bus_due.specs.scenario.specs.Writing.{Obeys}
-use Rattle.bus_due.specs.disk_array.specs.Processes.{command_at}
-use Rattle.bus_due.specs.bus_story.specs.BusState.{RowReading, row_reading}
-use Rattle.bus_due.specs.bus_story.specs.HistoryEvents.{row_events_by}
-use Rattle.bus_due.specs.bus_story.specs.Items.{Item, Sent, process, abort, command_item, is_clash, is_open, may_send, open_from, open_limit_of}
-use Rattle.bus_due.specs.bus_story.specs.Story.{Story, story_after_events}
-use Rattle.bus_due.specs.bus_story.specs.TraceHistory.{aim_of, story_by_change}
-use Rattle.bus_due.specs.Least.{IsLeast}
-use Rattle.bus_due.specs.Next.{due, IsPrompt}
-use Rattle.bus_due.specs.Plain.{IsPlain}
-use Rattle.bus_due.specs.RunState.{RunState}
-use Rattle.bus_due.specs.RunSteps.{run_state}
-use Rattle.bus_due.proofs.Plains.{run_state_plain}
-use Rattle.progress_laws.specs.bus_laws.proofs.Apart.{change_plain}
-use Rattle.progress_laws.specs.bus_laws.proofs.Prompt.{least_is}
-use Rattle.progress_laws.specs.trace_laws.specs.ItemFacts.{IsNext, is_abort, is_sense, is_command}
-use Rattle.progress_laws.specs.trace_laws.proofs.FreshItems.{calm_before}
-use Rattle.progress_laws.specs.trace_laws.proofs.Impossible.{none_some}
-use Rattle.progress_laws.specs.trace_laws.proofs.ItemFacts.{aimed_next}
-use Rattle.progress_laws.specs.trace_laws.proofs.OpenCommands.{same_process}
-use Rattle.progress_laws.specs.trace_laws.proofs.OverItems.{events_grow}
-use Rattle.progress_laws.specs.trace_laws.proofs.Whole.{Whole, whole}
-use Rattle.progress_laws.proofs.QueueRows.{WasOpen, before, begins, fewer_open, open_before}
-use Rattle.delivery_laws.proofs.Counting.{count_from, count_less, count_less_at, count_one_more, is_number, is_open_of, less, open_length}
+use Rattle.delivery_laws.proofs
+use proofs.Names.{ℕ, suc, ◌≡◌, ◌≤◌, ◌+◌, Bool, true, false, not, ◌&&◌, ◌∙◌, List, [], ◌∷◌, Option, Some, None, refl}
+use proofs.Names.{sym, ap, subst, length, arith, and_from, eqb-true, nat_tests, same_Some, list_any, ◌==◌, nat_lt}
+use proofs.Names.{nat_le, and_first, and_second, eq_self, wrong, wrong', Event, ProcId, connection, connection_after}
+use proofs.Names.{bus, Row, Connection, ScenarioValue, Obeys, CmdDef, command_at, RowReading, row_reading}
+use proofs.Names.{row_events_by, Item, Sent, process, abort, command_item, is_clash, is_open, may_send, open_from}
+use proofs.Names.{open_limit_of, Story, story_after_events, aim_of, story_by_change, run_state_plain, IsLeast, due}
+use proofs.Names.{IsPrompt, IsPlain, RunState, run_state, change_plain, least_is, none_some, aimed_next, calm_before}
+use proofs.Names.{same_process, events_grow, Whole, whole, IsNext, is_abort, is_sense, WasOpen, before, fewer_open}
+use proofs.{Names.{open_before}, Counting.{count_from, count_less, count_less_at, count_one_more, is_number}}
+use proofs.Counting.{is_open_of, less, open_length}
+use Rattle.progress_laws.specs.trace_laws.specs.ItemFacts.{is_command}
+use Rattle.progress_laws.proofs.QueueRows.{begins}
 
 abbrev pub IsWithin : ScenarioValue → Sent → Type 0
 IsWithin s b = (dev : ℕ) → count_from (is_open_of b dev) 1 s.commands ≤ open_limit_of s.hosts dev

@@ -1,51 +1,16 @@
 -- Row by row: what an initiator has said, and its target has understood, as the first phase of its connection is left (6.6.7, 6.6.17, 6.6.21).
-use Rattle.std.proofs.Common.{ℕ, ◌≡◌, Bool, true, false, not, ◌&&◌, ◌∙◌, List, [], ◌∷◌, Option, Some, None, refl, sym, ap, subst}
-use Rattle.std.specs.Prelude.{if◌then◌else◌}
-use Rattle.std.proofs.lemmas.Option.{same_Some}
-use Rattle.bus_due.specs.bus_base.proofs.Tests.{wrong, wrong'}
-use Rattle.bus_due.specs.bus_trace.specs.LineSet.{LineSet}
-use Rattle.bus_due.specs.bus_trace.specs.declared.Row.{Row}
-use Rattle.bus_due.specs.bus_trace.specs.declared.changes.Change.{Change}
-use Rattle.bus_due.specs.bus_trace.specs.declared.connection.Connection.{Connection}
-use Rattle.bus_due.specs.bus_trace.specs.Changes.{change_of}
-use Rattle.bus_due.specs.bus_trace.specs.Phases.{changes_phase, is_message_out}
-use Rattle.bus_due.specs.bus_trace.specs.Terms.{call, connection, connection_after}
-use Rattle.bus_due.specs.bus_trace.specs.Trace.{bus}
-use Rattle.bus_due.specs.scenario.specs.Value.{ScenarioValue}
-use Rattle.bus_due.specs.scenario.specs.Writing.{Obeys}
-use Rattle.bus_due.specs.bus_dialogue.specs.declared.exchange.Cause.{Cause}
-use Rattle.bus_due.specs.bus_dialogue.specs.declared.exchange.Cause.TheVariants as causes
-use Rattle.bus_due.specs.bus_dialogue.specs.declared.exchange.Hearing.{Hearing}
-use Rattle.bus_due.specs.bus_dialogue.specs.declared.exchange.Leaving.{Leaving}
-use Rattle.bus_due.specs.bus_dialogue.specs.declared.exchange.Phase.TheVariants as phases
-use Rattle.bus_due.specs.bus_dialogue.specs.declared.exchange.Plan.{Plan}
-use Rattle.bus_due.specs.bus_dialogue.specs.Exchange.{Exchange, plan_after_message, plan_anew, plan_anew_if, struck_plan}
-use Rattle.bus_due.specs.bus_dialogue.specs.Hearing.{begun}
-use Rattle.bus_due.specs.bus_dialogue.specs.NextPhase.{phase_of}
-use Rattle.bus_due.specs.bus_phases.specs.declared.dialogue.Dialogue.{Dialogue}
-use Rattle.bus_due.specs.bus_phases.specs.Dialogue.{dialogue}
-use Rattle.bus_due.specs.bus_dialogue.specs.Planning.{first_plan, plan_after, plan_in_message_out, plan_in_phase, plan_with_byte}
-use Rattle.bus_due.specs.bus_story.specs.BusState.{RowReading, row_reading}
-use Rattle.bus_due.specs.bus_story.specs.Items.{Item}
-use Rattle.bus_due.specs.bus_story.specs.TraceHistory.{aim_of}
-use Rattle.bus_due.specs.Defs.{opening}
-use Rattle.bus_due.specs.Next.{IsPrompt}
-use Rattle.bus_due.specs.Plain.{IsPlain}
-use Rattle.bus_due.specs.RunState.{RunState, bus_of}
-use Rattle.bus_due.specs.RunSteps.{exchange_after, item_if, leaving_of, may_negotiate, naming_of, opening_of, run_state, served_after}
-use Rattle.bus_due.specs.Sights.{hearing_of}
-use Rattle.bus_due.specs.Wants.{ready_of}
-use Rattle.bus_due.proofs.Plains.{prompt_plain, run_state_plain}
-use Rattle.progress_laws.specs.bus_books.specs.Hearing.{LeavesWhole}
-use Rattle.progress_laws.specs.bus_books.specs.Listening.{nothing_understood, understanding, understood}
-use Rattle.progress_laws.specs.bus_books.specs.Speaking.{AreWordsFor, IsSpeaking, opens}
-use Rattle.progress_laws.specs.bus_books.specs.Traces.{RowOf, apart, begins, ends, goes_on, under_reset}
-use Rattle.progress_laws.specs.bus_laws.proofs.Apart.{change_plain}
-use Rattle.progress_laws.specs.bus_laws.proofs.Prompt.{least_is}
-use Rattle.progress_laws.specs.trace_laws.proofs.Impossible.{none_some}
-use Rattle.progress_laws.specs.trace_laws.proofs.Whole.{Whole, standing_next, whole}
-use Rattle.delivery_laws.specs.Openings.{opening_since, opening_with}
-use Rattle.delivery_laws.specs.Recoveries.{IsLeaving}
+use Rattle.delivery_laws.proofs
+use proofs.Names.{ℕ, ◌≡◌, Bool, true, false, not, ◌&&◌, ◌∙◌, List, [], ◌∷◌, Option, Some, None, refl, sym, ap, subst}
+use proofs.Names.{same_Some, if◌then◌else◌, wrong, wrong', change_of, LineSet, changes_phase, is_message_out, call}
+use proofs.Names.{connection, connection_after, bus, Row, Change, Connection, dialogue, Dialogue, ScenarioValue, Obeys}
+use proofs.Names.{RowReading, row_reading, Item, aim_of, Exchange, plan_after_message, plan_anew, plan_anew_if}
+use proofs.Names.{struck_plan, begun, phase_of, first_plan, plan_after, plan_in_message_out, plan_in_phase}
+use proofs.Names.{plan_with_byte, Cause, Hearing, Leaving, Phase, Plan, prompt_plain, run_state_plain, opening}
+use proofs.Names.{IsPrompt, IsPlain, RunState, bus_of, exchange_after, item_if, leaving_of, may_negotiate, naming_of}
+use proofs.Names.{opening_of, run_state, served_after, hearing_of, ready_of, LeavesWhole, nothing_understood}
+use proofs.Names.{understanding, understood, AreWordsFor, IsSpeaking, opens, RowOf, apart, begins, ends, goes_on}
+use proofs.Names.{under_reset, change_plain, least_is, none_some, Whole, standing_next, whole, opening_since}
+use proofs.Names.{opening_with, IsLeaving}
 
 -- ---- whether its ends may negotiate stays as the connection began
 
@@ -130,16 +95,16 @@ all_openings s (row ∷ p) n o prompt e selects = opening_next s p row n o promp
 
 -- ---- as MESSAGE OUT is left
 
-out_phase : (l : LineSet) → is_message_out l ≡ true → phase_of l ≡ phases.MessageOut
+out_phase : (l : LineSet) → is_message_out l ≡ true → phase_of l ≡ Phase.MessageOut
 out_phase l e = go l.msg l.cd l.io e
   where
-    go : (m c i : Bool) → (m && c && not i) ≡ true → (if m then (if i then phases.MessageIn else phases.MessageOut) else if c then (if i then phases.Status else phases.Command) else if i then phases.DataIn else phases.DataOut) ≡ phases.MessageOut
+    go : (m c i : Bool) → (m && c && not i) ≡ true → (if m then (if i then Phase.MessageIn else Phase.MessageOut) else if c then (if i then Phase.Status else Phase.Command) else if i then Phase.DataIn else Phase.DataOut) ≡ Phase.MessageOut
     go true true false z = refl
     go true true true z = wrong' z
     go true false i z = wrong' z
     go false c i z = wrong' z
 
-said_first : (s : ScenarioValue) (n : Connection) (served : Option Item) (x : Exchange) → AreWordsFor s n served x causes.Selected → x.speech.words ≡ opening s n.initiator x.plan.negotiates served
+said_first : (s : ScenarioValue) (n : Connection) (served : Option Item) (x : Exchange) → AreWordsFor s n served x Cause.Selected → x.speech.words ≡ opening s n.initiator x.plan.negotiates served
 said_first s n served x (opens e) = e
 
 -- The phase is left by its last byte.
@@ -171,7 +136,7 @@ left_whole s p row n o prompt w turns = of (standing_next s p row o prompt (whol
     of (ends m g) = subst (λ (x : Connection). LeavesWhole s k x) (this m g.connection_is) (g.leaves turned)
     of (under_reset on e) = wrong (sym on ∙ ap (λ (c : Change). c.after.rst) change ∙ w.calm_after)
 
-pub opening_told : (s : ScenarioValue) (p : List Row) (row : Row) (n : Connection) → Obeys s → IsPrompt s (row ∷ p) → IsLeaving p row n → changes_phase (change_of p row) ≡ true → n.reselected ≡ false → is_message_out (bus p) ≡ true → (run_state s p).exchange.plan.cause ≡ causes.Selected
+pub opening_told : (s : ScenarioValue) (p : List Row) (row : Row) (n : Connection) → Obeys s → IsPrompt s (row ∷ p) → IsLeaving p row n → changes_phase (change_of p row) ≡ true → n.reselected ≡ false → is_message_out (bus p) ≡ true → (run_state s p).exchange.plan.cause ≡ Cause.Selected
     → understanding (run_state s p).exchange.plan (run_state s p).story.bus_state.dialogue ≡ understood nothing_understood (opening_since s p)
 opening_told s p row n o prompt w turns selects out cause =
     let k : RunState = run_state s p in

@@ -1,38 +1,15 @@
 -- Why a command ends otherwise than GOOD: by more faults than it bears, by a target that is absent, by a full queue, by a reset or an abort.
-use Rattle.std.proofs.Common.{ℕ, ◌≡◌, ◌⊎◌, inl, inr, ◌≤◌, ◌+◌, Bool, true, false, ◌∙◌, List, Option, Some, None, refl, sym, ap, arith}
-use Rattle.std.specs.Prelude.{if◌then◌else◌, ◌==◌, nat_lt}
-use Rattle.std.proofs.lemmas.Bool.{eqb-true}
-use Rattle.std.proofs.lemmas.Bool.Decides.{nat_tests}
-use Rattle.bus_due.specs.bus_base.specs.declared.Event.{Event}
-use Rattle.bus_due.specs.bus_base.specs.declared.Event.TheVariants as events
-use Rattle.bus_due.specs.bus_base.specs.declared.ProcId.{ProcId}
-use Rattle.bus_due.specs.bus_base.proofs.Tests.{wrong, wrong'}
-use Rattle.bus_due.specs.bus_trace.specs.declared.Row.{Row}
-use Rattle.bus_due.specs.cdb_codec.specs.declared.status.TheConstants.{GOOD, QUEUE_FULL}
-use Rattle.bus_due.specs.scenario.specs.declared.value.CmdDef.{CmdDef}
-use Rattle.bus_due.specs.scenario.specs.Lookups.{has_target}
-use Rattle.bus_due.specs.scenario.specs.Value.{ScenarioValue}
-use Rattle.bus_due.specs.scenario.specs.Writing.{Obeys}
-use Rattle.bus_due.specs.disk_array.specs.Processes.{command_at, process_by, process_if}
-use Rattle.bus_due.specs.bus_story.specs.Items.{command_id, command_item}
-use Rattle.bus_due.specs.bus_story.specs.Outcomes.{Outcome, ended_good, ended_check, ended_full, ended_unanswered, ended_lost, ended_reset, ended_aborted, ending_of, outcome_by_status, outcome_if, outcome_of}
-use Rattle.bus_due.specs.bus_story.specs.Story.{Ending, Story, by_abort, by_loss, by_reset, by_status, unanswered}
-use Rattle.bus_due.specs.bus_story.specs.TraceHistory.{retries_of, story}
-use Rattle.bus_due.specs.bus_dialogue.specs.NextPhase.{recovery_limit}
-use Rattle.bus_due.specs.Allowed.{allowed}
-use Rattle.bus_due.specs.Defs.{target_def_of}
-use Rattle.bus_due.specs.Next.{IsPrompt}
-use Rattle.bus_due.specs.RunSteps.{run_state}
-use Rattle.bus_due.specs.Telling.{same_event}
-use Rattle.bus_due.proofs.Plains.{prompt_plain}
-use Rattle.progress_laws.specs.bus_books.specs.FullQueues.{has_event, was_refused}
-use Rattle.progress_laws.specs.bus_books.specs.WrongParity.{fault_rows}
-use Rattle.progress_laws.specs.trace_laws.proofs.Whole.{whole}
-use Rattle.initiator.specs.Causes.{has_bus_reset, has_command_abort, is_loss_of, is_status_of}
-use Rattle.delivery_laws.specs.Delivery.{calling_faults, command_faults, fault_limit}
-use Rattle.delivery_laws.proofs.Callings.{unanswered_struck}
-use Rattle.delivery_laws.proofs.Delivered.{HaveCauses, IsLimited, IsLostAbove, any_to, borne, loss_is_event}
-use Rattle.delivery_laws.proofs.Present.{absent_unstruck}
+use Rattle.delivery_laws.proofs
+use proofs.Names.{ℕ, ◌≡◌, ◌⊎◌, inl, inr, ◌≤◌, ◌+◌, Bool, true, false, ◌∙◌, List, Option, Some, None, refl, sym, ap}
+use proofs.Names.{arith, eqb-true, nat_tests, if◌then◌else◌, ◌==◌, nat_lt, wrong, wrong', Event, ProcId, Row, GOOD}
+use proofs.Names.{QUEUE_FULL, has_target, ScenarioValue, Obeys, CmdDef, command_at, process_by, process_if, command_id}
+use proofs.Names.{command_item, Outcome, ended_good, ended_check, ended_full, ended_unanswered, ended_lost, ended_reset}
+use proofs.Names.{ended_aborted, ending_of, outcome_by_status, outcome_if, outcome_of, Ending, Story, by_abort, by_loss}
+use proofs.Names.{by_reset, by_status, unanswered, retries_of, story, recovery_limit, prompt_plain, allowed}
+use proofs.Names.{target_def_of, IsPrompt, run_state, same_event, has_event, was_refused, fault_rows, whole}
+use proofs.Names.{has_bus_reset, has_command_abort, is_loss_of, is_status_of, calling_faults, command_faults}
+use proofs.{Names.{fault_limit}, Callings.{unanswered_struck}, Delivered.{HaveCauses, IsLimited, IsLostAbove, any_to}}
+use proofs.{Delivered.{borne, loss_is_event}, Present.{absent_unstruck}}
 
 -- ---- the ending behind an outcome
 
@@ -139,10 +116,10 @@ pub lost_above : (s : ScenarioValue) (p : List Row) (n : ℕ) (c : CmdDef) → H
 lost_above s p n c causes lost o prompt at e =
     connected_above s p n c o prompt at
     (lost s p (process_by s (command_id n) c) o prompt (ap (process_if s (command_id n)) at)
-    (any_to (is_loss_of (command_id n)) (λ x. same_event x (events.Lost (command_id n))) (loss_is_event (command_id n)) (run_state s p).story.history
+    (any_to (is_loss_of (command_id n)) (λ x. same_event x (Event.Lost (command_id n))) (loss_is_event (command_id n)) (run_state s p).story.history
     (causes.loss s p n (by_lost s (run_state s p).story.history n (ending_of (run_state s p).story.ended n) (told s p n ended_lost is_lost prompt refl e)))))
 
-pub failed_above : (s : ScenarioValue) (p : List Row) (n code : ℕ) (c : CmdDef) → IsLimited → Obeys s → IsPrompt s p → command_at s.commands n ≡ Some c → has_event (run_state s p).story.history (events.Fail (command_id n) code) ≡ true → nat_lt (fault_limit s c) (command_faults s p n) ≡ true
+pub failed_above : (s : ScenarioValue) (p : List Row) (n code : ℕ) (c : CmdDef) → IsLimited → Obeys s → IsPrompt s p → command_at s.commands n ≡ Some c → has_event (run_state s p).story.history (Event.Fail (command_id n) code) ≡ true → nat_lt (fault_limit s c) (command_faults s p n) ≡ true
 failed_above s p n code c limited o prompt at e =
     connected_above s p n c o prompt at (limited s p (process_by s (command_id n) c) code o prompt (ap (process_if s (command_id n)) at) e)
 
@@ -157,23 +134,23 @@ unanswered_above s p n c causes o prompt at e = go (has_target s c.target) refl
 
 -- ---- a full queue, a reset, an abort
 
-status_is_event : (id : ProcId) (status : ℕ) (e : Event) → is_status_of id status e ≡ true → same_event e (events.End id status) ≡ true
-status_is_event id status (events.End p code) z = z
-status_is_event id status (events.Accept p) z = wrong' z
-status_is_event id status (events.Refuse p) z = wrong' z
-status_is_event id status (events.Run p) z = wrong' z
-status_is_event id status (events.Fail p code) z = wrong' z
-status_is_event id status (events.Lost p) z = wrong' z
-status_is_event id status (events.Aborted i t n what) z = wrong' z
-status_is_event id status (events.Reset dev) z = wrong' z
+status_is_event : (id : ProcId) (status : ℕ) (e : Event) → is_status_of id status e ≡ true → same_event e (Event.End id status) ≡ true
+status_is_event id status (Event.End p code) z = z
+status_is_event id status (Event.Accept p) z = wrong' z
+status_is_event id status (Event.Refuse p) z = wrong' z
+status_is_event id status (Event.Run p) z = wrong' z
+status_is_event id status (Event.Fail p code) z = wrong' z
+status_is_event id status (Event.Lost p) z = wrong' z
+status_is_event id status (Event.Aborted i t n what) z = wrong' z
+status_is_event id status (Event.Reset dev) z = wrong' z
 
 abbrev pub IsFullTrace : Type 0
-IsFullTrace = (s : ScenarioValue) (rows : List Row) (id : ProcId) → allowed s rows ≡ true → has_event (run_state s rows).story.history (events.End id QUEUE_FULL) ≡ true → was_refused s (run_state s rows).story.history id ≡ true
+IsFullTrace = (s : ScenarioValue) (rows : List Row) (id : ProcId) → allowed s rows ≡ true → has_event (run_state s rows).story.history (Event.End id QUEUE_FULL) ≡ true → was_refused s (run_state s rows).story.history id ≡ true
 
 pub full_refused : (s : ScenarioValue) (p : List Row) (n : ℕ) → HaveCauses → IsFullTrace → Obeys s → IsPrompt s p → outcome_of s (story s p) n ≡ Some ended_full → was_refused s (run_state s p).story.history (command_id n) ≡ true
 full_refused s p n causes full o prompt e =
     full s p (command_id n) (whole s p o prompt).permitted
-    (any_to (is_status_of (command_id n) QUEUE_FULL) (λ x. same_event x (events.End (command_id n) QUEUE_FULL)) (status_is_event (command_id n) QUEUE_FULL) (run_state s p).story.history
+    (any_to (is_status_of (command_id n) QUEUE_FULL) (λ x. same_event x (Event.End (command_id n) QUEUE_FULL)) (status_is_event (command_id n) QUEUE_FULL) (run_state s p).story.history
     (causes.status s p n QUEUE_FULL (by_full s (run_state s p).story.history n (ending_of (run_state s p).story.ended n) (told s p n ended_full is_full prompt refl e))))
 
 pub reset_came : (s : ScenarioValue) (p : List Row) (n : ℕ) → HaveCauses → IsPrompt s p → outcome_of s (story s p) n ≡ Some ended_reset → has_bus_reset (run_state s p).story.history ≡ true

@@ -1,36 +1,14 @@
 -- The sense with which a command of a prompt trace ends is that of its own reply (7.8, 8.2.14).
-use Rattle.std.proofs.Common.{ℕ, ◌≡◌, Bool, true, false, not, ◌||◌, ◌∙◌, List, Option, Some, None, refl, sym, ap}
-use Rattle.std.specs.Prelude.{if◌then◌else◌, ◌==◌}
-use Rattle.std.proofs.lemmas.Option.{same_Some}
-use Rattle.bus_due.specs.bus_base.specs.declared.Event.{Event}
-use Rattle.bus_due.specs.bus_base.specs.declared.Event.TheVariants as events
-use Rattle.bus_due.specs.bus_base.proofs.Tests.{and_second, wrong}
-use Rattle.bus_due.specs.bus_trace.specs.declared.Row.{Row}
-use Rattle.bus_due.specs.cdb_codec.specs.declared.Sense.{Sense}
-use Rattle.bus_due.specs.cdb_codec.specs.declared.sense.TheConstants.{ABORTED_COMMAND}
-use Rattle.bus_due.specs.cdb_codec.specs.declared.status.TheConstants.{CHECK_CONDITION, GOOD, QUEUE_FULL}
-use Rattle.bus_due.specs.scenario.specs.Value.{ScenarioValue}
-use Rattle.bus_due.specs.scenario.specs.Writing.{Obeys}
-use Rattle.bus_due.specs.disk_array.specs.ArrayHistory.{array_after, reply_in, reply_of}
-use Rattle.bus_due.specs.disk_array.specs.Execution.{Reply}
-use Rattle.bus_due.specs.disk_array.specs.Units.{Array}
-use Rattle.bus_due.specs.bus_story.specs.Items.{command_id, sense_id}
-use Rattle.bus_due.specs.bus_story.specs.Outcomes.{Outcome, ended_check, ended_full, ended_good, ending_of, has_end, outcome_if, outcome_of, reply_bytes, reply_bytes_if, sense_in, sense_of_end}
-use Rattle.bus_due.specs.bus_story.specs.Story.{Ending, Story, by_abort, by_loss, by_reset, by_status, unanswered}
-use Rattle.bus_due.specs.bus_story.specs.TraceHistory.{story}
-use Rattle.bus_due.specs.Next.{IsPrompt}
-use Rattle.bus_due.specs.Plain.{IsPlain}
-use Rattle.bus_due.specs.RunState.{RunState, array_of, or_start}
-use Rattle.bus_due.specs.RunSteps.{run_state}
-use Rattle.bus_due.proofs.Plains.{prompt_plain}
-use Rattle.bus_due.specs.bus_base.specs.declared.ProcId.{ProcId}
-use Rattle.progress_laws.specs.bus_books.specs.FullQueues.{has_cause, has_event, was_refused}
-use Rattle.progress_laws.specs.trace_laws.proofs.Impossible.{none_some}
-use Rattle.progress_laws.specs.trace_laws.proofs.Whole.{whole}
-use Rattle.delivery_laws.specs.Delivery.{IsGiven, IsOwnSense, RanSo, failed, ran, refused}
-use Rattle.delivery_laws.proofs.GivenReplies.{all_given}
-use Rattle.delivery_laws.proofs.OwnRows.{all_own}
-use Rattle.delivery_laws.proofs.OwnSenses.{Brought}
+use Rattle.delivery_laws.proofs
+use proofs.Names.{ℕ, ◌≡◌, Bool, true, false, not, ◌||◌, ◌∙◌, List, Option, Some, None, refl, sym, ap, same_Some}
+use proofs.Names.{if◌then◌else◌, ◌==◌, and_second, wrong, Event, ProcId, Row, Sense, ABORTED_COMMAND, CHECK_CONDITION}
+use proofs.Names.{GOOD, QUEUE_FULL, ScenarioValue, Obeys, array_after, reply_in, reply_of, Reply, Array, command_id}
+use proofs.Names.{sense_id, Outcome, ended_check, ended_full, ended_good, ending_of, has_end, outcome_if, outcome_of}
+use proofs.Names.{reply_bytes, reply_bytes_if, sense_in, sense_of_end, Ending, Story, by_abort, by_loss, by_reset}
+use proofs.Names.{by_status, unanswered, story, prompt_plain, IsPrompt, IsPlain, RunState, array_of, or_start}
+use proofs.Names.{run_state, has_cause, has_event, was_refused, none_some, whole, IsGiven, IsOwnSense, RanSo, failed}
+use proofs.{Names.{ran}, GivenReplies.{all_given}, OwnRows.{all_own}, OwnSenses.{Brought}}
+use Rattle.delivery_laws.specs.Delivery.{refused}
 
 abbrev sense_told : Option Outcome → Option Sense
 sense_told (Some (ended_check o)) = o
@@ -105,11 +83,11 @@ HasCause =
     (s : ScenarioValue) (history : List Event) (a : Array) (id : ProcId) (reply : Reply) → array_after s history ≡ Some a → reply_in a.replies id ≡ Some reply → has_cause s history id reply ≡ true
 
 pub own_failed : (s : ScenarioValue) (p : List Row) (n : ℕ) (sense : Sense) → HasCause → Obeys s → IsPrompt s p → outcome_of s (story s p) n ≡ Some (ended_check (Some sense)) → (sense.key == ABORTED_COMMAND) ≡ true
-    → has_event (run_state s p).story.history (events.Fail (command_id n) sense.asc) ≡ true
+    → has_event (run_state s p).story.history (Event.Fail (command_id n) sense.asc) ≡ true
 own_failed s p n sense causes o prompt e key =
-    ap (λ (x : Sense). has_event k.story.history (events.Fail (command_id n) x.asc)) (sym w.sense_is)
-    ∙ failed_if (w.reply.sense.key == ABORTED_COMMAND) (has_event k.story.history (events.Fail (command_id n) w.reply.sense.asc)) (ap (λ (x : Sense). x.key == ABORTED_COMMAND) w.sense_is ∙ key)
-    (and_second (not (w.reply.status == QUEUE_FULL) || was_refused s k.story.history (command_id n)) (not (w.reply.sense.key == ABORTED_COMMAND) || has_event k.story.history (events.Fail (command_id n) w.reply.sense.asc))
+    ap (λ (x : Sense). has_event k.story.history (Event.Fail (command_id n) x.asc)) (sym w.sense_is)
+    ∙ failed_if (w.reply.sense.key == ABORTED_COMMAND) (has_event k.story.history (Event.Fail (command_id n) w.reply.sense.asc)) (ap (λ (x : Sense). x.key == ABORTED_COMMAND) w.sense_is ∙ key)
+    (and_second (not (w.reply.status == QUEUE_FULL) || was_refused s k.story.history (command_id n)) (not (w.reply.sense.key == ABORTED_COMMAND) || has_event k.story.history (Event.Fail (command_id n) w.reply.sense.asc))
     (causes s k.story.history (array_of s k) (command_id n) w.reply (own_plays s p o prompt) (ap (λ (x : Option Array). reply_of x (command_id n)) (sym (own_plays s p o prompt)) ∙ w.reply_is)))
   where
     k : RunState

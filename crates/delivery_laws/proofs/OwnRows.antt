@@ -1,80 +1,26 @@
 -- Row by row of a prompt trace the sense that is owed of a command is that of its own reply, and its automatic REQUEST SENSE brings it (7.6, 8.2.14).
-use Rattle.std.proofs.Common.{inl, inr, ℕ, ◌≡◌, ◌⊎◌, ◌<◌, Bool, true, false, not, ◌&&◌, ◌||◌, ◌∙◌, List, [], ◌∷◌, Option, Some, None, refl, sym, ap, subst}
-use Rattle.std.specs.Prelude.{if◌then◌else◌, ◌==◌, is_some, ⊤}
-use Rattle.std.specs.List.{list_any}
-use Rattle.std.proofs.lemmas.Bool.{and_parts}
-use Rattle.std.proofs.lemmas.Option.{same_Some}
-use Rattle.bus_due.specs.bus_base.specs.declared.Event.{Event}
-use Rattle.bus_due.specs.bus_base.specs.declared.Event.TheVariants as events
-use Rattle.bus_due.specs.bus_base.specs.declared.ProcId.{ProcId}
-use Rattle.bus_due.specs.bus_base.proofs.Tests.{wrong, wrong'}
-use Rattle.bus_due.specs.bus_lines.specs.Handshakes.{Handshakes}
-use Rattle.bus_due.specs.bus_trace.specs.declared.Row.{Row}
-use Rattle.bus_due.specs.bus_trace.specs.declared.changes.Change.{Change}
-use Rattle.bus_due.specs.bus_trace.specs.declared.connection.Connection.{Connection}
-use Rattle.bus_due.specs.bus_trace.specs.Changes.{rises}
-use Rattle.bus_due.specs.bus_trace.specs.Phases.{changes_phase, is_command}
-use Rattle.bus_due.specs.bus_trace.specs.Terms.{connection, connection_after}
-use Rattle.bus_due.specs.scenario.specs.declared.value.AbortDef.{AbortDef}
-use Rattle.bus_due.specs.scenario.specs.Value.{ScenarioValue}
-use Rattle.bus_due.specs.scenario.specs.Writing.{Obeys}
-use Rattle.bus_due.specs.disk_array.specs.ArrayHistory.{array_after, array_step, reply_in}
-use Rattle.bus_due.specs.disk_array.specs.Execution.{Reply}
-use Rattle.bus_due.specs.disk_array.specs.Processes.{Process, process_of, same_id}
+use Rattle.delivery_laws.proofs
+use proofs.Names.{inl, inr, ℕ, ◌≡◌, ◌⊎◌, ◌<◌, Bool, true, false, not, ◌&&◌, ◌||◌, ◌∙◌, List, [], ◌∷◌, Option, Some}
+use proofs.Names.{None, refl, sym, ap, subst, and_parts, same_Some, list_any, if◌then◌else◌, ◌==◌, is_some, ⊤, wrong}
+use proofs.Names.{wrong', Event, ProcId, rises, changes_phase, is_command, connection, connection_after, Row, Change}
+use proofs.Names.{Connection, Handshakes, ScenarioValue, Obeys, AbortDef, array_after, array_step, reply_in, Reply}
+use proofs.Names.{Process, process_of, same_id, HasSeats, IsSound, running_process, Array, RunningProcess, guest_at}
+use proofs.Names.{without_reply, RowReading, row_reading, CarriedBytes, is_status_phase, is_whole_block, abort_line_at}
+use proofs.Names.{abort_line_events, bus_free_events, carried_if, end_events, is_completion, is_refuse}
+use proofs.Names.{item_abort_events, item_loss_events, link_events, phase_events, row_events_by, status_event}
+use proofs.Names.{status_events, Item, Sent, abort, command_item, has_item, process, LastMessage, Link, abortive}
+use proofs.Names.{complete, disconnect, plain, Story, story_after_event, story_after_events, story_by_change, phase_of}
+use proofs.Names.{Cause, Messages, Next, Phase, Plan, run_state_plain, IsPrompt, IsPlain, RunState, array_of, bus_of}
+use proofs.Names.{carried_here, or_start, process_item, array_after_events, run_state, served_after, obeys_fits}
+use proofs.Names.{seats_are, self_id, is_in_phase, apart, ends, change_plain, least_is, none_some, not_running}
+use proofs.Names.{accepted, running_id, settles, items_open, events_grow, carried_of_item, NextStood, on_running}
+use proofs.Names.{change_over, Whole, standing_next, whole, is_marked, IsChecked, AnsweredOpen, Closes, IsAtRest}
+use proofs.Names.{IsAway, IsTaken, IsUnanswered, IsUntouched, OnGuests, PlacedAsked, PlacedBefore, PlacedIf, PlacedIn}
+use proofs.Names.{RunsOpen, completes, disconnects, AllPay, Paid, events_pay, sense_is, senses_same, same_debt}
+use proofs.Names.{same_debts, Indebted, indebted, row_pays, changed, Debts, is_owed, GoesSo, here_goes, known_served}
+use proofs.{OwnSenses.{IfBooks, OwnSenses, Tells, fewer_owned, step_own}, Room.{Arriving, arriving}}
 use Rattle.bus_due.specs.disk_array.proofs.SoundArrays.{id_is}
-use Rattle.bus_due.specs.disk_array.specs.SoundArray.{HasSeats, IsSound}
-use Rattle.bus_due.specs.disk_array.specs.Steps as Steps
-use Rattle.bus_due.specs.disk_array.specs.Steps.{running_process}
-use Rattle.bus_due.specs.disk_array.specs.Units.{Array, RunningProcess, guest_at, without_reply}
-use Rattle.bus_due.specs.bus_story.specs.BusState.{RowReading, row_reading}
-use Rattle.bus_due.specs.bus_story.specs.CarriedBytes.{CarriedBytes, is_status_phase, is_whole_block}
-use Rattle.bus_due.specs.bus_story.specs.HistoryEvents.{abort_line_at, abort_line_events, bus_free_events, carried_if, end_events, is_completion, is_refuse, item_abort_events, item_loss_events, link_events, phase_events, row_events_by, status_event, status_events}
-use Rattle.bus_due.specs.bus_story.specs.Items.{Item, Sent, abort, command_item, has_item, process}
-use Rattle.bus_due.specs.bus_story.specs.Links.{LastMessage, Link, abortive, complete, disconnect, plain}
-use Rattle.bus_due.specs.bus_story.specs.Story.{Story, story_after_event, story_after_events}
-use Rattle.bus_due.specs.bus_story.specs.TraceHistory.{story_by_change}
-use Rattle.bus_due.specs.bus_dialogue.specs.declared.exchange.Cause.{Cause}
-use Rattle.bus_due.specs.bus_dialogue.specs.declared.exchange.Cause.TheVariants as causes
-use Rattle.bus_due.specs.bus_dialogue.specs.declared.exchange.Messages.{Messages}
-use Rattle.bus_due.specs.bus_dialogue.specs.declared.exchange.Next.{Next}
-use Rattle.bus_due.specs.bus_dialogue.specs.declared.exchange.Next.TheVariants as nexts
-use Rattle.bus_due.specs.bus_dialogue.specs.declared.exchange.Phase.{Phase}
-use Rattle.bus_due.specs.bus_dialogue.specs.declared.exchange.Phase.TheVariants as phases
-use Rattle.bus_due.specs.bus_dialogue.specs.declared.exchange.Plan.{Plan}
-use Rattle.bus_due.specs.bus_dialogue.specs.NextPhase.{phase_of}
-use Rattle.bus_due.specs.Next.{IsPrompt}
-use Rattle.bus_due.specs.Plain.{IsPlain}
-use Rattle.bus_due.specs.RunState.{RunState, array_of, bus_of, carried_here, or_start, process_item}
-use Rattle.bus_due.specs.RunSteps.{array_after_events, run_state, served_after}
-use Rattle.bus_due.proofs.Plains.{run_state_plain}
-use Rattle.progress_laws.specs.scsi_device.proofs.FitLines.{obeys_fits, seats_are}
-use Rattle.progress_laws.specs.bus_books.specs.Hearing.{is_in_phase}
-use Rattle.progress_laws.specs.bus_books.specs.Traces.{apart, ends}
-use Rattle.progress_laws.specs.bus_books.proofs.Lookups.{self_id}
-use Rattle.progress_laws.specs.bus_laws.proofs.Apart.{change_plain}
-use Rattle.progress_laws.specs.bus_laws.proofs.Prompt.{least_is}
-use Rattle.progress_laws.specs.trace_laws.specs.DataPointers.{is_marked}
-use Rattle.progress_laws.specs.trace_laws.specs.ItemFacts.{IsChecked}
-use Rattle.progress_laws.specs.trace_laws.specs.Places.{AnsweredOpen, Closes, IsAtRest, IsAway, IsTaken, IsUnanswered, IsUntouched, OnGuests, PlacedAsked, PlacedBefore, PlacedIf, PlacedIn, RunsOpen, completes, disconnects}
-use Rattle.progress_laws.specs.trace_laws.proofs.ArrivingProcesses.{not_running}
-use Rattle.progress_laws.specs.trace_laws.proofs.FreshItems.{items_open}
-use Rattle.progress_laws.specs.trace_laws.proofs.Impossible.{none_some}
-use Rattle.progress_laws.specs.trace_laws.proofs.Joint.{NextStood}
-use Rattle.progress_laws.specs.trace_laws.proofs.ListedReplies.{accepted, running_id, settles}
-use Rattle.progress_laws.specs.trace_laws.proofs.OverItems.{events_grow}
-use Rattle.progress_laws.specs.trace_laws.proofs.PlaceReady.{on_running}
-use Rattle.progress_laws.specs.trace_laws.proofs.PointerWaits.{change_over}
-use Rattle.progress_laws.specs.trace_laws.proofs.RowEvents.{carried_of_item}
-use Rattle.progress_laws.specs.trace_laws.proofs.Whole.{Whole, standing_next, whole}
-use Rattle.progress_laws.proofs.DebtEvents.{AllPay, Paid, events_pay}
-use Rattle.progress_laws.proofs.DebtNext.{sense_is, senses_same}
-use Rattle.progress_laws.proofs.DebtSteps.{same_debt, same_debts}
-use Rattle.progress_laws.proofs.DebtTraces.{Indebted, indebted, row_pays}
-use Rattle.progress_laws.proofs.OwedRows.{changed}
-use Rattle.progress_laws.specs.Debts.{Debts, is_owed}
-use Rattle.right_laws.proofs.RowCrossings.{GoesSo, here_goes, known_served}
-use Rattle.delivery_laws.proofs.OwnSenses.{IfBooks, OwnSenses, Tells, fewer_owned, step_own}
-use Rattle.delivery_laws.proofs.Room.{Arriving, arriving}
+use Rattle.bus_due.specs.disk_array.specs.Steps
 
 -- ---- the events of a row, one after the other
 
@@ -130,32 +76,32 @@ rests_listed a id h = λ r reply e f. none_some reply (sym (unanswered r e).0 �
         (ap (λ (x : ProcId). same_id x id) (running_id a id r e) ∙ self_id id)
 
 before_listed : (a : Array) (p : Process) (m : Messages) (next : Next) → PlacedBefore a p m next → Listed a p.id
-before_listed a p m nexts.Command h = untouched_listed a p.id h
-before_listed a p m nexts.GoOn h = fresh_listed a p h
-before_listed a p m nexts.Status h = answered_listed a p.id h
-before_listed a p m nexts.FreeBus h = by h
+before_listed a p m Next.Command h = untouched_listed a p.id h
+before_listed a p m Next.GoOn h = fresh_listed a p h
+before_listed a p m Next.Status h = answered_listed a p.id h
+before_listed a p m Next.FreeBus h = by h
   where
     by : Closes a p m → Listed a p.id
     by (completes e o) = answered_listed a p.id o
     by (disconnects e rests x y) = rests_listed a p.id rests
 
 asked_listed : (a : Array) (p : Process) (plan : Plan) (cause : Cause) → PlacedAsked a p plan cause → Listed a p.id
-asked_listed a p plan causes.Selected h = untouched_listed a p.id h
-asked_listed a p plan causes.InMessage h = before_listed a p plan.messages plan.next h
-asked_listed a p plan causes.InData h = fresh_listed a p h
-asked_listed a p plan causes.InStatus h = answered_listed a p.id h
+asked_listed a p plan Cause.Selected h = untouched_listed a p.id h
+asked_listed a p plan Cause.InMessage h = before_listed a p plan.messages plan.next h
+asked_listed a p plan Cause.InData h = fresh_listed a p h
+asked_listed a p plan Cause.InStatus h = answered_listed a p.id h
 
 in_listed : (a : Array) (p : Process) (plan : Plan) (h : Handshakes) (atn : Bool) (phase : Phase) → PlacedIn a p plan h atn phase → Listed a p.id
-in_listed a p plan h atn phases.MessageOut w = asked_listed a p plan plan.cause w
-in_listed a p plan h atn phases.MessageIn w = by w
+in_listed a p plan h atn Phase.MessageOut w = asked_listed a p plan plan.cause w
+in_listed a p plan h atn Phase.MessageIn w = by w
   where
     by : PlacedBefore a p plan.messages plan.next ⊎ IsTaken a p plan h atn → Listed a p.id
     by (inl x) = before_listed a p plan.messages plan.next x
     by (inr x) = rests_listed a p.id x.rests
-in_listed a p plan h atn phases.Command w = untouched_listed a p.id w
-in_listed a p plan h atn phases.Status w = answered_listed a p.id w
-in_listed a p plan h atn phases.DataIn w = fresh_listed a p w
-in_listed a p plan h atn phases.DataOut w = fresh_listed a p w
+in_listed a p plan h atn Phase.Command w = untouched_listed a p.id w
+in_listed a p plan h atn Phase.Status w = answered_listed a p.id w
+in_listed a p plan h atn Phase.DataIn w = fresh_listed a p w
+in_listed a p plan h atn Phase.DataOut w = fresh_listed a p w
 
 if_listed : (x : Bool) (a : Array) (p : Process) (plan : Plan) (h : Handshakes) (atn : Bool) (phase : Phase) → PlacedIf x a p plan h atn phase → Listed a p.id
 if_listed false a p plan h atn phase w = untouched_listed a p.id w
@@ -164,7 +110,7 @@ if_listed true a p plan h atn phase w = in_listed a p plan h atn phase w
 -- ---- what a row tells
 
 status_phase : (m d o : Bool) → (not m && d && o) ≡ true
-    → is_in_phase (if m then (if o then phases.MessageIn else phases.MessageOut) else if d then (if o then phases.Status else phases.Command) else if o then phases.DataIn else phases.DataOut) ≡ false
+    → is_in_phase (if m then (if o then Phase.MessageIn else Phase.MessageOut) else if d then (if o then Phase.Status else Phase.Command) else if o then Phase.DataIn else Phase.DataOut) ≡ false
 status_phase true d o e = wrong' e
 status_phase false true true e = refl
 status_phase false true false e = wrong' e
@@ -281,7 +227,7 @@ row_tells s p row v = go d.change.after.rst refl
     phase : (l : Link) (c : Option CarriedBytes) → k.story.link ≡ Some l → d.change.after.rst ≡ false → is_some d.next ≡ true → changes_phase d.change ≡ true → carried_if k.story l.item ≡ c
         → AllTell s b k.array (phase_events s k.story c d.change)
     phase l None e calm stands turns f = tt
-    phase l (Some c) e calm stands turns f = queue (is_command d.change.before && is_whole_block c) refl (is_some (array_after s (events.Accept c.id ∷ k.story.history)))
+    phase l (Some c) e calm stands turns f = queue (is_command d.change.before && is_whole_block c) refl (is_some (array_after s (Event.Accept c.id ∷ k.story.history)))
       where
         item : l.item ≡ Some (process c.id)
         item = carried_of_item k.story l.item c f
@@ -316,21 +262,21 @@ row_tells s p row v = go d.change.after.rst refl
             by true z = (told z c.failure, h)
             by false z = h
 
-        after_refusal : (q : Bool) → AllTell s b k.array (events.Refuse c.id ∷ []) → AllTell s b k.array (if q && not true then status_event c.id c.failure ∷ (events.Refuse c.id ∷ []) else events.Refuse c.id ∷ [])
+        after_refusal : (q : Bool) → AllTell s b k.array (Event.Refuse c.id ∷ []) → AllTell s b k.array (if q && not true then status_event c.id c.failure ∷ (Event.Refuse c.id ∷ []) else Event.Refuse c.id ∷ [])
         after_refusal true h = h
         after_refusal false h = h
 
-        accepts : (a : Array) → array_step s (events.Accept c.id) k.array ≡ Some a → a.replies ≡ (array_of s k).replies
+        accepts : (a : Array) → array_step s (Event.Accept c.id) k.array ≡ Some a → a.replies ≡ (array_of s k).replies
         accepts a z = with_array k.array refl z
           where
-            with_array : (o : Option Array) → k.array ≡ o → array_step s (events.Accept c.id) o ≡ Some a → a.replies ≡ (array_of s k).replies
+            with_array : (o : Option Array) → k.array ≡ o → array_step s (Event.Accept c.id) o ≡ Some a → a.replies ≡ (array_of s k).replies
             with_array None y step = none_some a step
             with_array (Some x) y step =
                 settles (Steps.accept_step x (process_of s c.id)) a (λ (q : Array). q.replies ≡ x.replies) (λ q m. accepted x q (process_of s c.id) m) step
                 ∙ ap (λ (q : Option Array). (or_start s q).replies) (sym y)
 
-        queue : (q : Bool) → (is_command d.change.before && is_whole_block c) ≡ q → (x : Bool) → AllTell s b k.array (status_events (Some c) d.change.after (if q then (if x then events.Accept c.id else events.Refuse c.id) ∷ [] else []))
-        queue true z true = status (events.Accept c.id ∷ []) accepts refl (λ a y. tt, tt)
+        queue : (q : Bool) → (is_command d.change.before && is_whole_block c) ≡ q → (x : Bool) → AllTell s b k.array (status_events (Some c) d.change.after (if q then (if x then Event.Accept c.id else Event.Refuse c.id) ∷ [] else []))
+        queue true z true = status (Event.Accept c.id ∷ []) accepts refl (λ a y. tt, tt)
         queue true z false =
             let two = and_parts (is_command d.change.before) (is_whole_block c) z in
             let here : Arriving s k w.places.array c.id = arriving s p row w v.stood pl l c (record { link_is = e; carried_is = f; whole = two.1; calm = calm; stands = stands; turns = turns; command = two.0 }) in
@@ -369,11 +315,11 @@ row_tells s p row v = go d.change.after.rst refl
         by true f false g false = tt
         by false f y g z = free l l.last
 
-    reset : (y : Bool) → AllTell s b k.array (if y then events.Reset row.dev ∷ [] else [])
+    reset : (y : Bool) → AllTell s b k.array (if y then Event.Reset row.dev ∷ [] else [])
     reset true = (λ a z. tt, tt)
     reset false = tt
 
-    go : (x : Bool) → d.change.after.rst ≡ x → AllTell s b k.array (if x then (if rises d.change.own.rst d.change.next.rst then events.Reset row.dev ∷ [] else []) else link_events s k.story k.story.link d)
+    go : (x : Bool) → d.change.after.rst ≡ x → AllTell s b k.array (if x then (if rises d.change.own.rst d.change.next.rst then Event.Reset row.dev ∷ [] else []) else link_events s k.story k.story.link d)
     go true e = reset (rises d.change.own.rst d.change.next.rst)
     go false e = linked e k.story.link refl
 

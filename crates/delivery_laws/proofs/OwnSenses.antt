@@ -1,47 +1,21 @@
 -- Event by event the sense that is owed of a command is that of its own reply: as long as it is owed, it is the one that is stored for its
 -- initiator at its unit; so its automatic REQUEST SENSE brings it (7.6, 8.2.14).
-use Rattle.std.proofs.Common.{inl, inr, ℕ, ◌≡◌, ◌⊎◌, Bool, true, false, not, ◌&&◌, ◌||◌, ◌∙◌, List, [], ◌∷◌, ◌++◌, Option, Some, None, refl, sym, ap, subst}
-use Rattle.std.specs.Prelude.{if◌then◌else◌, ◌==◌, is_none, is_some, nat_lt, ⊤}
-use Rattle.std.specs.List.{list_any}
-use Rattle.std.proofs.lemmas.Bool.{eqb-true}
-use Rattle.std.proofs.lemmas.Option.{same_Some}
-use Rattle.bus_due.specs.bus_base.specs.declared.AbortKind.{AbortKind}
-use Rattle.bus_due.specs.bus_base.specs.declared.AbortKind.TheVariants as aborts
-use Rattle.bus_due.specs.bus_base.specs.declared.Event.{Event}
-use Rattle.bus_due.specs.bus_base.specs.declared.Event.TheVariants as events
-use Rattle.bus_due.specs.bus_base.specs.declared.ProcId.{ProcId}
-use Rattle.bus_due.specs.bus_base.proofs.Tests.{wrong, wrong'}
-use Rattle.bus_due.specs.cdb_codec.specs.Cdb.{command_of}
-use Rattle.bus_due.specs.cdb_codec.specs.declared.Sense.{Sense}
-use Rattle.bus_due.specs.cdb_codec.specs.declared.sense.TheConstants.{ABORTED_COMMAND}
-use Rattle.bus_due.specs.cdb_codec.specs.declared.status.TheConstants.{CHECK_CONDITION, GOOD}
-use Rattle.bus_due.specs.scenario.specs.declared.value.CmdDef.{CmdDef}
-use Rattle.bus_due.specs.scenario.specs.declared.value.HostDef.{HostDef}
-use Rattle.bus_due.specs.scenario.specs.Value.{ScenarioValue}
-use Rattle.bus_due.specs.disk_array.specs.ArrayHistory.{reply_in}
-use Rattle.bus_due.specs.disk_array.specs.Execution.{CommandContext, Execution, Reply, attention_execution, check_condition, commands_cleared, execution, is_request_sense, needs_unit, queue_full, reply_execution, returned_sense, sense_of, unit_not_supported}
-use Rattle.bus_due.specs.disk_array.specs.Processes.{Process, command_at, process_of, same_id, sense_block}
-use Rattle.bus_due.specs.disk_array.specs.SoundArray.{IsSound}
-use Rattle.bus_due.specs.disk_array.specs.Steps as Steps
-use Rattle.bus_due.specs.disk_array.specs.Steps.{running_process}
-use Rattle.bus_due.specs.disk_array.specs.Units.{Array, Nexus, RunningProcess, UnitState, guest_at, is_held, nexus_of, nexuses_without, same_nexus, sense_of_nexus, senses_without, unit_state_at, with_unit}
-use Rattle.bus_due.specs.disk_array.proofs.SeatLookups.{same_nexus_is, sense_put_at, senses_without_at}
-use Rattle.bus_due.specs.bus_story.specs.Items.{Sent, command_id, has_item, process, sense_id, sense_item}
-use Rattle.bus_due.specs.bus_story.specs.Outcomes.{sense_in}
-use Rattle.bus_due.specs.bus_story.specs.Story.{Ending, Story, by_abort, by_reset, by_status, is_aborted, is_sense_stopped, story_after_event, story_with_end, story_with_ends}
-use Rattle.bus_due.specs.bus_story.proofs.StorySteps.{ends_checks}
-use Rattle.progress_laws.specs.bus_books.proofs.Lookups.{id_is}
-use Rattle.progress_laws.specs.bus_books.proofs.Senses.{self_nexus}
-use Rattle.progress_laws.specs.trace_laws.specs.ItemFacts.{AreChecked}
-use Rattle.progress_laws.specs.trace_laws.proofs.Impossible.{none_some}
-use Rattle.progress_laws.specs.trace_laws.proofs.ListedReplies.{running_id}
-use Rattle.progress_laws.specs.trace_laws.proofs.OtherProcesses.{reply_at}
-use Rattle.progress_laws.specs.trace_laws.proofs.OverItems.{ends_over, ends_senses, events_grow, in_append}
-use Rattle.progress_laws.proofs.DebtSteps.{debt_before, is_checked, is_not_over, same_debt}
-use Rattle.progress_laws.proofs.FetchedSenses.{sense_cdb}
-use Rattle.progress_laws.proofs.Owed.{nexus_at}
-use Rattle.progress_laws.proofs.OwedEvents.{OfCommand, of_command, running_own}
-use Rattle.progress_laws.specs.Debts.{Debts, IsDebt, PaysWell, is_owed, nexus_of_command}
+use Rattle.delivery_laws.proofs
+use proofs.Names.{inl, inr, ℕ, ◌≡◌, ◌⊎◌, Bool, true, false, not, ◌&&◌, ◌||◌, ◌∙◌, List, [], ◌∷◌, ◌++◌, Option, Some}
+use proofs.Names.{None, refl, sym, ap, subst, eqb-true, same_Some, list_any, if◌then◌else◌, ◌==◌, is_none, is_some}
+use proofs.Names.{nat_lt, ⊤, wrong, wrong', AbortKind, Event, ProcId, command_of, Sense, ABORTED_COMMAND}
+use proofs.Names.{CHECK_CONDITION, GOOD, ScenarioValue, CmdDef, HostDef, same_nexus_is, sense_put_at, senses_without_at}
+use proofs.Names.{reply_in, CommandContext, Execution, Reply, attention_execution, check_condition, commands_cleared}
+use proofs.Names.{execution, is_request_sense, needs_unit, queue_full, reply_execution, returned_sense, sense_of}
+use proofs.Names.{unit_not_supported, Process, command_at, process_of, same_id, sense_block, IsSound, running_process}
+use proofs.Names.{Array, Nexus, RunningProcess, UnitState, guest_at, is_held, nexus_of, nexuses_without, same_nexus}
+use proofs.Names.{sense_of_nexus, senses_without, unit_state_at, with_unit, ends_checks, Sent, command_id, has_item}
+use proofs.Names.{process, sense_id, sense_item, sense_in, Ending, Story, by_abort, by_reset, by_status, is_aborted}
+use proofs.Names.{is_sense_stopped, story_after_event, story_with_end, story_with_ends, id_is, self_nexus, none_some}
+use proofs.Names.{reply_at, running_id, ends_over, ends_senses, events_grow, in_append, AreChecked, debt_before}
+use proofs.Names.{is_checked, is_not_over, same_debt, sense_cdb, nexus_at, OfCommand, of_command, running_own, Debts}
+use proofs.Names.{IsDebt, PaysWell, is_owed, nexus_of_command}
+use Rattle.bus_due.specs.disk_array.specs.Steps
 
 -- ---- what is kept
 
@@ -65,10 +39,10 @@ pub record OwnSenses (s : ScenarioValue) (b : Sent) (senses : List (Nexus × Sen
 
 -- A process is answered once; an automatic REQUEST SENSE runs as it is owed; and the one that ends has the reply that is listed.
 abbrev pub Tells : Sent → Array → Event → Type 0
-Tells b a (events.Run id) = (reply_in a.replies id ≡ None) × (id.sense ≡ true → is_owed b id.command ≡ true)
-Tells b a (events.Refuse id) = reply_in a.replies id ≡ None
-Tells b a (events.Fail id code) = reply_in a.replies id ≡ None
-Tells b a (events.End id status) = (r : RunningProcess) (reply : Reply) → running_process a id ≡ Some r → r.reply ≡ Some reply → reply_in a.replies id ≡ Some reply
+Tells b a (Event.Run id) = (reply_in a.replies id ≡ None) × (id.sense ≡ true → is_owed b id.command ≡ true)
+Tells b a (Event.Refuse id) = reply_in a.replies id ≡ None
+Tells b a (Event.Fail id code) = reply_in a.replies id ≡ None
+Tells b a (Event.End id status) = (r : RunningProcess) (reply : Reply) → running_process a id ≡ Some r → r.reply ≡ Some reply → reply_in a.replies id ≡ Some reply
 Tells b a _ = ⊤
 
 -- ---- the senses and the replies after a step
@@ -269,7 +243,7 @@ context_stored : (a : Array) (q : Nexus) (u : Option UnitState) → (Steps.conte
 context_stored a q None = refl
 context_stored a q (Some u) = refl
 
-ran : (s : ScenarioValue) (b : Sent) (a : Array) (id : ProcId) (r : RunningProcess) → IsSound s a → Tells b a (events.Run id) → running_process a id ≡ Some r → OwnSenses s b a.senses a.replies
+ran : (s : ScenarioValue) (b : Sent) (a : Array) (id : ProcId) (r : RunningProcess) → IsSound s a → Tells b a (Event.Run id) → running_process a id ≡ Some r → OwnSenses s b a.senses a.replies
     → OwnSenses s b a.senses ((r.process.id, reply_at a r.process (unit_state_at a.units r.process.target r.process.unit)) ∷ a.replies)
 ran s b a id r sound tells e h = one_more s b a.senses a.replies r.process.id (reply_at a p u) none new h
   where
@@ -349,18 +323,18 @@ data Owes (s : ScenarioValue) (b : Sent) (id : ProcId) (status : ℕ) (p : Nexus
   own : id.command ≡ n → id.sense ≡ false → (status == CHECK_CONDITION) ≡ true → Owes s b id status p n q
   other : IsDebt s b n q → (p ≡ q → ⊥) → Owes s b id status p n q
 
-owes : (s : ScenarioValue) (b : Story) (holds : List Nexus) (id : ProcId) (status : ℕ) (p : Process) → OfCommand s id p → PaysWell s b.sent (events.End id status) → Debts s b.sent holds → (n : ℕ) (q : Nexus)
-    → IsDebt s (story_after_event s b (events.End id status)).sent n q → Owes s b.sent id status (nexus_of p) n q
+owes : (s : ScenarioValue) (b : Story) (holds : List Nexus) (id : ProcId) (status : ℕ) (p : Process) → OfCommand s id p → PaysWell s b.sent (Event.End id status) → Debts s b.sent holds → (n : ℕ) (q : Nexus)
+    → IsDebt s (story_after_event s b (Event.End id status)).sent n q → Owes s b.sent id status (nexus_of p) n q
 owes s b holds id status p of well h n q d = go (not id.sense && status == CHECK_CONDITION) refl
   where
     c : Sent
-    c = (story_after_event s b (events.End id status)).sent
+    c = (story_after_event s b (Event.End id status)).sent
 
     ends : Story
     ends = story_with_end b id (by_status status)
 
     more : (m : ℕ) → has_item b.sent.over (sense_item m) ≡ true → has_item c.over (sense_item m) ≡ true
-    more m z = (events_grow s b (events.End id status ∷ [])).over (sense_item m) z
+    more m z = (events_grow s b (Event.End id status ∷ [])).over (sense_item m) z
 
     checks : (x : Bool) → (not id.sense && status == CHECK_CONDITION) ≡ x
         → c.checks ≡ (if x then record ends { sent = record ends.sent { checks = ends.sent.checks ++ id.command ∷ [] } } else ends).sent.checks
@@ -398,12 +372,12 @@ owes s b holds id status p of well h n q d = go (not id.sense && status == CHECK
         by (inl old) = older (debt_before s b.sent c n q more old d)
         by (inr new) = own new (plain id.sense z).0 (plain id.sense z).1
 
-ends_own : (s : ScenarioValue) (b : Story) (a : Array) (id : ProcId) (status : ℕ) → IsSound s a → Debts s b.sent a.holds → PaysWell s b.sent (events.End id status) → Tells b.sent a (events.End id status) → OwnSenses s b.sent a.senses a.replies
-    → IfBooks (OwnSenses s (story_after_event s b (events.End id status)).sent) (Steps.end_step a status (running_process a id))
+ends_own : (s : ScenarioValue) (b : Story) (a : Array) (id : ProcId) (status : ℕ) → IsSound s a → Debts s b.sent a.holds → PaysWell s b.sent (Event.End id status) → Tells b.sent a (Event.End id status) → OwnSenses s b.sent a.senses a.replies
+    → IfBooks (OwnSenses s (story_after_event s b (Event.End id status)).sent) (Steps.end_step a status (running_process a id))
 ends_own s b a id status sound debts well tells h = ended (OwnSenses s c) a id status after
   where
     c : Sent
-    c = (story_after_event s b (events.End id status)).sent
+    c = (story_after_event s b (Event.End id status)).sent
 
     after : (r : RunningProcess) (reply : Reply) → running_process a id ≡ Some r → r.reply ≡ Some reply → (reply.status == status) ≡ true → OwnSenses s c (Steps.after_status a r.process reply).senses a.replies
     after r reply e f z = record { owned = λ n q d. by n q d (owes s b a.holds id status p of well debts n q d); brought = h.brought }
@@ -470,33 +444,33 @@ ends_stopped s drops stops e b senses kept replies checked more keep h = record 
         still senses kept replies n q (keep d.def q (unstopped n q d old (stops d.def) refl) d.nexus_is) (h.owned n q old)
 
 aborted : (s : ScenarioValue) (b : Story) (a : Array) (i t n : ℕ) (what : AbortKind) → AreChecked b.sent → OwnSenses s b.sent a.senses a.replies
-    → OwnSenses s (story_after_event s b (events.Aborted i t n what)).sent (Steps.abort_step s a i t n what).senses (Steps.abort_step s a i t n what).replies
-aborted s b a i t n what checked h = go what (λ m z. (events_grow s b (events.Aborted i t n what ∷ [])).over (sense_item m) z)
+    → OwnSenses s (story_after_event s b (Event.Aborted i t n what)).sent (Steps.abort_step s a i t n what).senses (Steps.abort_step s a i t n what).replies
+aborted s b a i t n what checked h = go what (λ m z. (events_grow s b (Event.Aborted i t n what ∷ [])).over (sense_item m) z)
   where
-    go : (what : AbortKind) → ((m : ℕ) → has_item b.sent.over (sense_item m) ≡ true → has_item (story_after_event s b (events.Aborted i t n what)).sent.over (sense_item m) ≡ true)
-        → OwnSenses s (story_after_event s b (events.Aborted i t n what)).sent (Steps.abort_step s a i t n what).senses (Steps.abort_step s a i t n what).replies
-    go aborts.All more =
-        ends_stopped s (is_aborted i t n aborts.All) (is_sense_stopped i t n aborts.All) by_abort b a.senses (senses_without a.senses (nexus_at i t n)) a.replies checked more
+    go : (what : AbortKind) → ((m : ℕ) → has_item b.sent.over (sense_item m) ≡ true → has_item (story_after_event s b (Event.Aborted i t n what)).sent.over (sense_item m) ≡ true)
+        → OwnSenses s (story_after_event s b (Event.Aborted i t n what)).sent (Steps.abort_step s a i t n what).senses (Steps.abort_step s a i t n what).replies
+    go AbortKind.All more =
+        ends_stopped s (is_aborted i t n AbortKind.All) (is_sense_stopped i t n AbortKind.All) by_abort b a.senses (senses_without a.senses (nexus_at i t n)) a.replies checked more
         (λ def q e is. apart_without a.senses (nexus_at i t n) q (λ same. wrong (sym (ap (λ (x : Nexus). same_nexus x (nexus_at i t n)) (is ∙ sym same) ∙ self_nexus (nexus_at i t n)) ∙ e))) h
-    go (aborts.Tag tag) more =
-        ends_stopped s (is_aborted i t n (aborts.Tag tag)) (is_sense_stopped i t n (aborts.Tag tag)) by_abort b a.senses a.senses a.replies checked more (λ def q e is. refl) h
-    go aborts.WholeQueue more =
-        by_same (OwnSenses s (story_after_event s b (events.Aborted i t n aborts.WholeQueue)).sent) (Steps.without_dropped a (λ p. Steps.is_of_unit p t n)) (Steps.abort_step s a i t n aborts.WholeQueue)
+    go (AbortKind.Tag tag) more =
+        ends_stopped s (is_aborted i t n (AbortKind.Tag tag)) (is_sense_stopped i t n (AbortKind.Tag tag)) by_abort b a.senses a.senses a.replies checked more (λ def q e is. refl) h
+    go AbortKind.WholeQueue more =
+        by_same (OwnSenses s (story_after_event s b (Event.Aborted i t n AbortKind.WholeQueue)).sent) (Steps.without_dropped a (λ p. Steps.is_of_unit p t n)) (Steps.abort_step s a i t n AbortKind.WholeQueue)
         (cleared_same i (Steps.unit_processes (unit_state_at a.units t n)) (Steps.without_dropped a (λ p. Steps.is_of_unit p t n)))
-        (ends_stopped s (is_aborted i t n aborts.WholeQueue) (is_sense_stopped i t n aborts.WholeQueue) by_abort b a.senses a.senses a.replies checked more (λ def q e is. refl) h)
-    go aborts.Device more =
-        by_same (OwnSenses s (story_after_event s b (events.Aborted i t n aborts.Device)).sent) kept (Steps.abort_step s a i t n aborts.Device) (units_same s.hosts a.units (λ u. u.target == t) kept)
-        (ends_stopped s (is_aborted i t n aborts.Device) (is_sense_stopped i t n aborts.Device) by_abort b a.senses (Steps.kept_senses (λ r. r.target == t) a.senses) a.replies checked more
+        (ends_stopped s (is_aborted i t n AbortKind.WholeQueue) (is_sense_stopped i t n AbortKind.WholeQueue) by_abort b a.senses a.senses a.replies checked more (λ def q e is. refl) h)
+    go AbortKind.Device more =
+        by_same (OwnSenses s (story_after_event s b (Event.Aborted i t n AbortKind.Device)).sent) kept (Steps.abort_step s a i t n AbortKind.Device) (units_same s.hosts a.units (λ u. u.target == t) kept)
+        (ends_stopped s (is_aborted i t n AbortKind.Device) (is_sense_stopped i t n AbortKind.Device) by_abort b a.senses (Steps.kept_senses (λ r. r.target == t) a.senses) a.replies checked more
         (λ def q e is. kept_at (λ r. r.target == t) a.senses q (ap (λ (x : Nexus). x.target == t) (sym is) ∙ e)) h)
       where
         kept : Array
         kept = record (Steps.without_dropped a (λ p. p.target == t)) { senses = Steps.kept_senses (λ r. r.target == t) a.senses; holds = Steps.kept_nexuses (λ r. r.target == t) a.holds }
 
 reset : (s : ScenarioValue) (b : Story) (a : Array) (dev : ℕ) → AreChecked b.sent → OwnSenses s b.sent a.senses a.replies
-    → OwnSenses s (story_after_event s b (events.Reset dev)).sent (Steps.reset_step s a).senses (Steps.reset_step s a).replies
+    → OwnSenses s (story_after_event s b (Event.Reset dev)).sent (Steps.reset_step s a).senses (Steps.reset_step s a).replies
 reset s b a dev checked h =
-    by_same (OwnSenses s (story_after_event s b (events.Reset dev)).sent) cleared (Steps.reset_step s a) (units_same s.hosts a.units (λ u. true) cleared)
-    (ends_stopped s (λ x. true) (λ x. true) by_reset b a.senses [] a.replies checked (λ m z. (events_grow s b (events.Reset dev ∷ [])).over (sense_item m) z) (λ def q e is. wrong e) h)
+    by_same (OwnSenses s (story_after_event s b (Event.Reset dev)).sent) cleared (Steps.reset_step s a) (units_same s.hosts a.units (λ u. true) cleared)
+    (ends_stopped s (λ x. true) (λ x. true) by_reset b a.senses [] a.replies checked (λ m z. (events_grow s b (Event.Reset dev ∷ [])).over (sense_item m) z) (λ def q e is. wrong e) h)
   where
     cleared : Array
     cleared = record (Steps.without_dropped a (λ p. true)) { senses = []; holds = [] }
@@ -512,26 +486,26 @@ refused_plain s id p is e = go id.sense refl
 
 event_own : (s : ScenarioValue) (b : Story) (a : Array) (event : Event) → IsSound s a → AreChecked b.sent → Debts s b.sent a.holds → PaysWell s b.sent event → Tells b.sent a event → OwnSenses s b.sent a.senses a.replies
     → IfBooks (OwnSenses s (story_after_event s b event).sent) (Steps.event_step s a event)
-event_own s b a (events.Accept id) sound checked debts well tells h = accepted (OwnSenses s b.sent) a (process_of s id) h
-event_own s b a (events.Refuse id) sound checked debts well tells h =
+event_own s b a (Event.Accept id) sound checked debts well tells h = accepted (OwnSenses s b.sent) a (process_of s id) h
+event_own s b a (Event.Refuse id) sound checked debts well tells h =
     refused (OwnSenses s b.sent) a (process_of s id)
     (λ p e f. let own : p.id ≡ id = sym (process_own p e) in
     command_more s b.sent a.senses a.replies p.id queue_full (ap (reply_in a.replies) own ∙ tells) (ap (λ (x : ProcId). x.sense) own ∙ refused_plain s id p e f) h)
   where
     process_own : (p : Process) → process_of s id ≡ Some p → id ≡ p.id
     process_own p e = sym (Rattle.bus_due.specs.disk_array.proofs.SoundArrays.id_is s id p e)
-event_own s b a (events.Run id) sound checked debts well tells h =
+event_own s b a (Event.Run id) sound checked debts well tells h =
     run (OwnSenses s b.sent) a (is_some (guest_at a.guests id)) (running_process a id) (λ r e. ran s b.sent a id r sound tells e h)
-event_own s b a (events.Fail id code) sound checked debts well tells h =
+event_own s b a (Event.Fail id code) sound checked debts well tells h =
     failed (OwnSenses s b.sent) s a id (check_condition (sense_of ABORTED_COMMAND code 0x00)) (running_process a id)
     (command_more s b.sent a.senses a.replies id (check_condition (sense_of ABORTED_COMMAND code 0x00)) tells well h)
-event_own s b a (events.End id status) sound checked debts well tells h = ends_own s b a id status sound debts well tells h
-event_own s b a (events.Lost id) sound checked debts well tells h =
-    lost (OwnSenses s (story_after_event s b (events.Lost id)).sent) a id
-    (fewer_owned s b.sent (story_after_event s b (events.Lost id)).sent a.senses a.replies
-    (λ n q d. same_debt s b.sent (story_after_event s b (events.Lost id)).sent n q refl (λ m z. (events_grow s b (events.Lost id ∷ [])).over (sense_item m) z) d) h)
-event_own s b a (events.Aborted i t n what) sound checked debts well tells h = aborted s b a i t n what checked h
-event_own s b a (events.Reset dev) sound checked debts well tells h = reset s b a dev checked h
+event_own s b a (Event.End id status) sound checked debts well tells h = ends_own s b a id status sound debts well tells h
+event_own s b a (Event.Lost id) sound checked debts well tells h =
+    lost (OwnSenses s (story_after_event s b (Event.Lost id)).sent) a id
+    (fewer_owned s b.sent (story_after_event s b (Event.Lost id)).sent a.senses a.replies
+    (λ n q d. same_debt s b.sent (story_after_event s b (Event.Lost id)).sent n q refl (λ m z. (events_grow s b (Event.Lost id ∷ [])).over (sense_item m) z) d) h)
+event_own s b a (Event.Aborted i t n what) sound checked debts well tells h = aborted s b a i t n what checked h
+event_own s b a (Event.Reset dev) sound checked debts well tells h = reset s b a dev checked h
 
 pub step_own : (s : ScenarioValue) (b : Story) (a d : Array) (event : Event) → IsSound s a → AreChecked b.sent → Debts s b.sent a.holds → PaysWell s b.sent event → Tells b.sent a event → OwnSenses s b.sent a.senses a.replies
     → Steps.step s event a ≡ Some d → OwnSenses s (story_after_event s b event).sent d.senses d.replies

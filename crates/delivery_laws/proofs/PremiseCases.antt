@@ -1,51 +1,24 @@
 -- In some runs, computed: what each law of this crate asks is met, and what it says then holds. The other outcomes are those of proofs/OutcomeCases.antt, the limits
 -- those of proofs/LimitCases.antt.
-use Rattle.std.proofs.Common.{ℕ, ◌≡◌, ◌+◌, Bool, true, false, not, ◌&&◌, ◌||◌, List, [], ◌∷◌, Option, Some, None, refl}
-use Rattle.std.specs.Prelude.{◌==◌, is_none, is_some, if◌then◌else◌}
+use Rattle.delivery_laws.proofs
+use proofs.Names.{ℕ, ◌≡◌, ◌+◌, Bool, true, false, not, ◌&&◌, ◌||◌, List, [], ◌∷◌, Option, Some, None, refl, ◌==◌}
+use proofs.Names.{is_none, is_some, if◌then◌else◌, Event, change_of, line_of, changes_phase, is_message_out, connection}
+use proofs.Names.{bus, union_below, Row, Agreement, Connection, form_out, form_in, dialogue, has_target, need_of}
+use proofs.Names.{sent_of, ScenarioValue, CmdDef, command_at, same_bool, command_id, is_roomy, is_valid, trace_history}
+use proofs.Names.{bytes_of_messages, one_message, begun, phase_of, one_if, reply_to, Cause, Messages, Phase, Task}
+use proofs.Names.{command_given_up_due, command_given_up_due_rows, command_struck_twice_due}
+use proofs.Names.{command_struck_twice_due_rows, data_in_given_up_due, data_in_given_up_due_rows, data_out_given_up_due}
+use proofs.Names.{data_out_given_up_due_rows, full_queue_due, full_queue_due_rows, hold_of_a_unit_due}
+use proofs.Names.{hold_of_a_unit_due_rows, device_reset_by_message_due, device_reset_by_message_due_rows}
+use proofs.Names.{field_in_a_command_due, field_in_a_command_due_rows, lost_due, lost_due_rows, offset_255_due}
+use proofs.Names.{offset_255_due_rows, tag_aborted_due, tag_aborted_due_rows, pulsed_read_struck_due}
+use proofs.Names.{pulsed_read_struck_due_rows, pulsed_write_struck_due, pulsed_write_struck_due_rows, status_struck_due}
+use proofs.Names.{status_struck_due_rows, struck_names_due, struck_names_due_rows, onto, target_def_of, run_state}
+use proofs.Names.{task_of, has_event, is_struck_phase, is_wrong_phase, arrive_by_room, was_sense_stopped, opening_since}
+use proofs.{Names.{plan_at, is_tried_again, phase_after, phase_after_wrong}, LimitCases.{absent_target_limit}}
+use proofs.LimitCases.{data_out_twice_limit, data_out_twice_limit_rows, disconnect_twice_limit}
+use proofs.{LimitCases.{disconnect_twice_limit_rows}, Limits.{has_no_abort, has_no_reset}}
 use lib.Count.{ones}
-use Rattle.bus_due.specs.bus_base.specs.declared.Event.TheVariants as events
-use Rattle.bus_due.specs.bus_trace.specs.LineSet.{line_of}
-use Rattle.bus_due.specs.bus_trace.specs.View.{union_below}
-use Rattle.bus_due.specs.bus_trace.specs.declared.Row.{Row}
-use Rattle.bus_due.specs.bus_trace.specs.declared.connection.Connection.{Connection}
-use Rattle.bus_due.specs.bus_trace.specs.Changes.{change_of}
-use Rattle.bus_due.specs.bus_trace.specs.Phases.{changes_phase, is_message_out}
-use Rattle.bus_due.specs.bus_trace.specs.Terms.{connection}
-use Rattle.bus_due.specs.bus_trace.specs.Trace.{bus}
-use Rattle.bus_due.specs.msg_grammar.specs.Messages.{form_out, form_in}
-use Rattle.bus_due.specs.scenario.specs.Lookups.{has_target}
-use Rattle.bus_due.specs.scenario.specs.Needs.{need_of, sent_of}
-use Rattle.bus_due.specs.scenario.specs.Value.{ScenarioValue}
-use Rattle.bus_due.specs.bus_trace.specs.declared.agreements.Agreement.{Agreement}
-use Rattle.bus_due.specs.bus_dialogue.specs.declared.exchange.Cause.{Cause}
-use Rattle.bus_due.specs.bus_dialogue.specs.declared.exchange.Messages.{Messages}
-use Rattle.bus_due.specs.bus_dialogue.specs.Exchange.{bytes_of_messages, one_message}
-use Rattle.bus_due.specs.bus_dialogue.specs.Words.{reply_to}
-use Rattle.bus_due.specs.bus_dialogue.specs.declared.exchange.Cause.TheVariants as causes
-use Rattle.bus_due.specs.bus_dialogue.specs.declared.exchange.Phase.{Phase}
-use Rattle.bus_due.specs.bus_dialogue.specs.declared.exchange.Phase.TheVariants as phases
-use Rattle.bus_due.specs.bus_dialogue.specs.declared.exchange.Task.{Task}
-use Rattle.bus_due.specs.bus_dialogue.specs.Hearing.{begun}
-use Rattle.bus_due.specs.bus_dialogue.specs.NextPhase.{phase_of}
-use Rattle.bus_due.specs.bus_dialogue.specs.PhaseBytes.{one_if}
-use Rattle.bus_due.specs.bus_phases.specs.Dialogue.{dialogue}
-use Rattle.bus_due.specs.bus_story.specs.Items.{command_id}
-use Rattle.bus_due.specs.bus_story.specs.Outcomes.{is_roomy, is_valid}
-use Rattle.bus_due.specs.bus_story.specs.TraceHistory.{trace_history}
-use Rattle.bus_due.specs.disk_array.specs.Processes.{command_at, same_bool}
-use Rattle.bus_due.specs.scenario.specs.declared.value.CmdDef.{CmdDef}
-use Rattle.bus_due.specs.Defs.{target_def_of}
-use Rattle.bus_due.specs.RunSteps.{run_state}
-use Rattle.bus_due.specs.Tasks.{task_of}
-use Rattle.bus_due.proofs.Seams.{onto}
-use Rattle.bus_due.proofs.Cases.{command_given_up_due, command_given_up_due_rows, command_struck_twice_due, command_struck_twice_due_rows, data_in_given_up_due, data_in_given_up_due_rows, data_out_given_up_due, data_out_given_up_due_rows, full_queue_due, full_queue_due_rows, hold_of_a_unit_due, hold_of_a_unit_due_rows, device_reset_by_message_due, device_reset_by_message_due_rows, field_in_a_command_due, field_in_a_command_due_rows, lost_due, lost_due_rows, offset_255_due, offset_255_due_rows, tag_aborted_due, tag_aborted_due_rows, pulsed_read_struck_due, pulsed_read_struck_due_rows, pulsed_write_struck_due, pulsed_write_struck_due_rows, status_struck_due, status_struck_due_rows, struck_names_due, struck_names_due_rows}
-use Rattle.progress_laws.specs.bus_books.specs.FullQueues.{has_event}
-use Rattle.progress_laws.specs.bus_books.specs.WrongParity.{is_struck_phase, is_wrong_phase}
-use Rattle.delivery_laws.specs.Endings.{arrive_by_room, was_sense_stopped}
-use Rattle.delivery_laws.specs.Openings.{opening_since, plan_at}
-use Rattle.delivery_laws.specs.Recoveries.{is_tried_again, phase_after, phase_after_wrong}
-use Rattle.delivery_laws.proofs.LimitCases.{absent_target_limit, data_out_twice_limit, data_out_twice_limit_rows, disconnect_twice_limit, disconnect_twice_limit_rows}
-use Rattle.delivery_laws.proofs.Limits.{has_no_abort, has_no_reset}
 
 -- ---- phases with wrong parity, by how they are left
 
@@ -54,12 +27,12 @@ is_leaving rows row =
     (is_some (connection rows) && begun rows) && ((not (bus rows).rst && not (bus (row ∷ rows)).rst) && (changes_phase (change_of rows row) || is_none (connection (row ∷ rows))))
 
 abbrev same_phase : Phase → Phase → Bool
-same_phase phases.DataOut phases.DataOut = true
-same_phase phases.DataIn phases.DataIn = true
-same_phase phases.Command phases.Command = true
-same_phase phases.Status phases.Status = true
-same_phase phases.MessageOut phases.MessageOut = true
-same_phase phases.MessageIn phases.MessageIn = true
+same_phase Phase.DataOut Phase.DataOut = true
+same_phase Phase.DataIn Phase.DataIn = true
+same_phase Phase.Command Phase.Command = true
+same_phase Phase.Status Phase.Status = true
+same_phase Phase.MessageOut Phase.MessageOut = true
+same_phase Phase.MessageIn Phase.MessageIn = true
 same_phase a b = false
 
 abbrev same_next : Option Phase → Option Phase → Bool
@@ -154,7 +127,7 @@ away_command = refl
 
 -- ---- a full queue, a stopped sense
 
-refused_at_full : (arrive_by_room full_queue_due (trace_history full_queue_due (onto full_queue_due_rows [])) && has_event (trace_history full_queue_due (onto full_queue_due_rows [])) (events.Refuse (command_id 2))) ≡ true
+refused_at_full : (arrive_by_room full_queue_due (trace_history full_queue_due (onto full_queue_due_rows [])) && has_event (trace_history full_queue_due (onto full_queue_due_rows [])) (Event.Refuse (command_id 2))) ≡ true
 unfolding need_of sent_of ones union_below line_of form_out form_in
 refused_at_full = refl
 
@@ -184,7 +157,7 @@ selects None = false
 selects (Some n) = not n.reselected
 
 abbrev is_opened : Cause → Bool
-is_opened causes.Selected = true
+is_opened Cause.Selected = true
 is_opened _ = false
 
 abbrev is_opening_left : ScenarioValue → List Row → Row → Bool
@@ -233,7 +206,7 @@ same_messages a b = same_bytes (bytes_of_messages a) (bytes_of_messages b)
 
 abbrev is_replied : ScenarioValue → List Row → Row → Option Connection → Option Agreement → Bool
 is_replied s rows row (Some n) (Some offer) =
-    same_next (phase_after rows row) (Some phases.MessageIn) && same_messages (plan_at s (row ∷ rows)).messages (one_message (reply_to (target_def_of s n.target) offer))
+    same_next (phase_after rows row) (Some Phase.MessageIn) && same_messages (plan_at s (row ∷ rows)).messages (one_message (reply_to (target_def_of s n.target) offer))
 is_replied s rows row n offer = false
 
 abbrev replied : ScenarioValue → List Row → ℕ

@@ -1,32 +1,12 @@
 -- No fault strikes a connection of a command whose target is absent: it has none.
-use Rattle.std.proofs.Common.{ℕ, ◌≡◌, ◌+◌, Bool, true, false, ◌&&◌, ◌||◌, ◌∙◌, List, [], ◌∷◌, Option, Some, None, cond, refl, sym, ap}
-use Rattle.std.specs.Prelude.{◌==◌, is_some}
-use Rattle.std.specs.List.{find, list_any}
-use Rattle.std.proofs.lemmas.Bool.{and_parts, eqb-true}
-use Rattle.bus_due.specs.bus_base.specs.declared.ProcId.{ProcId}
-use Rattle.bus_due.specs.bus_base.proofs.Tests.{wrong, wrong'}
-use Rattle.bus_due.specs.bus_trace.specs.declared.Row.{Row}
-use Rattle.bus_due.specs.bus_trace.specs.declared.connection.Connection.{Connection}
-use Rattle.bus_due.specs.bus_trace.specs.Terms.{connection, is_fault}
-use Rattle.bus_due.specs.scenario.specs.declared.value.TargetDef.{TargetDef}
-use Rattle.bus_due.specs.scenario.specs.Lookups.{has_target}
-use Rattle.bus_due.specs.scenario.specs.Value.{ScenarioValue}
-use Rattle.bus_due.specs.scenario.specs.Writing.{Obeys}
-use Rattle.bus_due.specs.disk_array.specs.Processes.{Process, process_of}
-use Rattle.bus_due.specs.bus_story.specs.Items.{Item, process}
-use Rattle.bus_due.specs.bus_dialogue.specs.PhaseBytes.{one_if}
-use Rattle.bus_due.specs.Faithful.{faithful, has_ends, same_process}
-use Rattle.bus_due.specs.Next.{IsPrompt}
-use Rattle.bus_due.specs.Plain.{IsPlain}
-use Rattle.bus_due.specs.RunState.{RunState, process_item, process_served}
-use Rattle.bus_due.specs.RunSteps.{run_state}
-use Rattle.bus_due.proofs.Plains.{run_state_plain}
-use Rattle.progress_laws.specs.scsi_device.proofs.FitLines.{obeys_fits, units_are}
-use Rattle.target_course.proofs.ServedEnds.{ends_are}
-use Rattle.progress_laws.specs.bus_books.proofs.Traces.{trace_faithful}
-use Rattle.progress_laws.specs.bus_books.specs.WrongParity.{fault_rows, is_fault_of, serves}
-use Rattle.progress_laws.specs.trace_laws.proofs.OpenCommands.{item_is}
-use Rattle.progress_laws.specs.trace_laws.proofs.Whole.{Whole, whole}
+use Rattle.delivery_laws.proofs
+use proofs.Names.{ℕ, ◌≡◌, ◌+◌, Bool, true, false, ◌&&◌, ◌||◌, ◌∙◌, List, [], ◌∷◌, Option, Some, None, cond, refl, sym}
+use proofs.Names.{ap, and_parts, eqb-true, find, list_any, ◌==◌, is_some, wrong, wrong', ProcId, connection, is_fault}
+use proofs.Names.{Row, Connection, has_target, ScenarioValue, Obeys, TargetDef, Process, process_of, Item, process}
+use proofs.Names.{one_if, run_state_plain, faithful, has_ends, IsPrompt, IsPlain, RunState, process_item}
+use proofs.Names.{process_served, run_state, obeys_fits, units_are, ends_are, trace_faithful, fault_rows, is_fault_of}
+use proofs.Names.{serves, item_is, Whole, whole}
+use Rattle.bus_due.specs.Faithful.{same_process}
 
 -- A line that is found is there.
 found_there : (targets : List TargetDef) (dev : ℕ) → is_some (find (λ (t : TargetDef). t.dev == dev) targets) ≡ true → list_any (λ (t : TargetDef). t.dev == dev) targets ≡ true

@@ -1,46 +1,15 @@
 -- Row by row: a target leaves a phase as it is due to; so it tries again, or gives up, as the table says (6.6.10, 6.6.13, 6.6.19).
-use Rattle.std.proofs.Common.{◌≡◌, ◌⊎◌, inl, inr, Bool, true, false, ◌||◌, ◌∙◌, List, [], ◌∷◌, ◌++◌, Option, Some, None, refl, sym, ap, subst}
-use Rattle.std.specs.Prelude.{if◌then◌else◌, is_none, is_some, nat_lt}
-use Rattle.bus_due.specs.bus_base.proofs.Tests.{wrong, wrong'}
-use Rattle.bus_due.specs.bus_trace.specs.declared.Row.{Row}
-use Rattle.bus_due.specs.bus_trace.specs.declared.agreements.Agreement.{Agreement}
-use Rattle.bus_due.specs.bus_trace.specs.declared.changes.Change.{Change}
-use Rattle.bus_due.specs.bus_trace.specs.declared.connection.Connection.{Connection}
-use Rattle.bus_due.specs.bus_trace.specs.Changes.{change_of}
-use Rattle.bus_due.specs.bus_trace.specs.Phases.{changes_phase}
-use Rattle.bus_due.specs.bus_trace.specs.Terms.{connection, connection_after, receiver_in}
-use Rattle.bus_due.specs.bus_trace.specs.Trace.{bus}
-use Rattle.bus_due.specs.scenario.specs.declared.value.TargetDef.{TargetDef}
-use Rattle.bus_due.specs.scenario.specs.Value.{ScenarioValue}
-use Rattle.bus_due.specs.scenario.specs.Writing.{Obeys}
-use Rattle.bus_due.specs.bus_dialogue.specs.declared.exchange.Cause.{Cause}
-use Rattle.bus_due.specs.bus_dialogue.specs.declared.exchange.Cause.TheVariants as causes
-use Rattle.bus_due.specs.bus_dialogue.specs.declared.exchange.Leaving.{Leaving}
-use Rattle.bus_due.specs.bus_dialogue.specs.declared.exchange.Next.TheVariants as nexts
-use Rattle.bus_due.specs.bus_dialogue.specs.declared.exchange.Phase.{Phase}
-use Rattle.bus_due.specs.bus_dialogue.specs.declared.exchange.Phase.TheVariants as phases
-use Rattle.bus_due.specs.bus_dialogue.specs.declared.exchange.Task.{Task}
-use Rattle.bus_due.specs.bus_dialogue.specs.Arrivals.{policy_of}
-use Rattle.bus_due.specs.bus_dialogue.specs.NextPhase.{Serving, after_arrival, after_run, bus_free, leaving_by, message_out_leaving, message_repetition, phase_entry, phase_leaving, phase_of, pointer_restoration, recovery, recovery_limit, with_task}
-use Rattle.bus_due.specs.bus_dialogue.specs.Words.{is_naming}
-use Rattle.bus_due.specs.bus_story.specs.BusState.{RowReading, row_reading}
-use Rattle.bus_due.specs.Defs.{target_def_of}
-use Rattle.bus_due.specs.Next.{IsPrompt}
-use Rattle.bus_due.specs.Plain.{AreOfDevices, IsPlain}
-use Rattle.bus_due.specs.RunState.{RunState}
-use Rattle.bus_due.specs.RunSteps.{run_state}
-use Rattle.bus_due.specs.Sights.{leaving, serving_at}
-use Rattle.bus_due.specs.Tasks.{task_of}
-use Rattle.bus_due.proofs.Plains.{run_state_plain}
-use Rattle.progress_laws.specs.bus_books.specs.WrongParity.{is_complaint, is_wrong_phase}
-use Rattle.progress_laws.specs.bus_books.proofs.InConnection.{reading_is}
-use Rattle.progress_laws.specs.bus_laws.proofs.Apart.{change_plain}
-use Rattle.progress_laws.specs.bus_laws.proofs.Prompt.{least_is}
-use Rattle.progress_laws.specs.trace_laws.proofs.ConnectionRows.{connection_row}
-use Rattle.progress_laws.specs.trace_laws.proofs.Crossings.{RowFacts, ends_here, stays}
-use Rattle.progress_laws.specs.trace_laws.proofs.Impossible.{none_some}
-use Rattle.progress_laws.specs.trace_laws.proofs.Whole.{whole}
-use Rattle.delivery_laws.specs.Recoveries.{IsLeaving, free_unless, is_named_again, is_tried_again, phase_after, phase_after_wrong, status_unless}
+use Rattle.delivery_laws.proofs
+use proofs.Names.{◌≡◌, ◌⊎◌, inl, inr, Bool, true, false, ◌||◌, ◌∙◌, List, [], ◌∷◌, ◌++◌, Option, Some, None, refl, sym}
+use proofs.Names.{ap, subst, if◌then◌else◌, is_none, is_some, nat_lt, wrong, wrong', change_of, changes_phase}
+use proofs.Names.{connection, connection_after, receiver_in, bus, Row, Agreement, Change, Connection, ScenarioValue}
+use proofs.Names.{Obeys, TargetDef, RowReading, row_reading, policy_of, Serving, after_arrival, after_run, bus_free}
+use proofs.Names.{leaving_by, message_out_leaving, message_repetition, phase_entry, phase_leaving, phase_of}
+use proofs.Names.{pointer_restoration, recovery, recovery_limit, with_task, is_naming, Cause, Leaving, Next, Phase}
+use proofs.Names.{Task, run_state_plain, target_def_of, IsPrompt, AreOfDevices, IsPlain, RunState, run_state, leaving}
+use proofs.Names.{serving_at, task_of, reading_is, is_complaint, is_wrong_phase, change_plain, least_is, none_some}
+use proofs.Names.{connection_row, RowFacts, ends_here, stays, whole, IsLeaving, free_unless, is_named_again}
+use proofs.Names.{is_tried_again, phase_after, phase_after_wrong, status_unless}
 
 -- ---- where a phase is left for
 
@@ -88,15 +57,15 @@ recovered def t again gives_up = go t.in_hold (nat_lt t.recoveries (recovery_lim
     go false true = refl
     go false false = refl
 
-to_status : (q : Bool) → (if q then Some phases.MessageIn else Some phases.Status) ≡ status_unless q
+to_status : (q : Bool) → (if q then Some Phase.MessageIn else Some Phase.Status) ≡ status_unless q
 to_status true = refl
 to_status false = refl
 
-for_status : (def : Option TargetDef) (t : Task) (again gives_up : Leaving) → again.to ≡ Some phases.MessageIn → gives_up.to ≡ Some phases.Status → (recovery def t again gives_up).to ≡ status_unless (t.in_hold || nat_lt t.recoveries (recovery_limit def))
+for_status : (def : Option TargetDef) (t : Task) (again gives_up : Leaving) → again.to ≡ Some Phase.MessageIn → gives_up.to ≡ Some Phase.Status → (recovery def t again gives_up).to ≡ status_unless (t.in_hold || nat_lt t.recoveries (recovery_limit def))
 for_status def t again gives_up e f =
     recovered def t again gives_up ∙ (λ i. if t.in_hold || nat_lt t.recoveries (recovery_limit def) then e i else f i) ∙ to_status (t.in_hold || nat_lt t.recoveries (recovery_limit def))
 
-for_free : (def : Option TargetDef) (t : Task) (again gives_up : Leaving) → again.to ≡ Some phases.MessageIn → gives_up.to ≡ None → (recovery def t again gives_up).to ≡ free_unless (t.in_hold || nat_lt t.recoveries (recovery_limit def))
+for_free : (def : Option TargetDef) (t : Task) (again gives_up : Leaving) → again.to ≡ Some Phase.MessageIn → gives_up.to ≡ None → (recovery def t again gives_up).to ≡ free_unless (t.in_hold || nat_lt t.recoveries (recovery_limit def))
 for_free def t again gives_up e f = recovered def t again gives_up ∙ (λ i. if t.in_hold || nat_lt t.recoveries (recovery_limit def) then e i else f i)
 
 none_of : (o : Option Agreement) → is_none o ≡ true → is_some o ≡ false
@@ -104,16 +73,16 @@ none_of None e = refl
 none_of (Some x) e = wrong' e
 
 complained : (v : Serving) (t : Task) (cause : Cause) → v.task ≡ Some t → is_complaint v.plan cause ≡ true
-    → (message_out_leaving v cause).to ≡ phase_after_wrong phases.MessageOut cause (is_named_again v.plan phases.MessageOut cause || (t.in_hold || nat_lt t.recoveries (recovery_limit v.def)))
-complained v t causes.Selected et e = wrong' e
-complained v t causes.InData et e =
-    (λ i. (with_task (et i) (λ x. recovery v.def x (pointer_restoration nexts.GoOn) (phase_entry phases.Status))).to)
-    ∙ for_status v.def t (pointer_restoration nexts.GoOn) (phase_entry phases.Status) refl refl
-complained v t causes.InStatus et e =
-    (λ i. (with_task (et i) (λ x. recovery v.def x (pointer_restoration nexts.Status) bus_free)).to)
-    ∙ for_free v.def t (pointer_restoration nexts.Status) bus_free refl refl
-complained v t causes.InMessage et e =
-    (λ i. (if none_of v.plan.said.offer e i then phase_entry phases.Command else if is_naming v.plan.messages.first then message_repetition v.plan else with_task (et i) (λ x. recovery v.def x (message_repetition v.plan) bus_free)).to)
+    → (message_out_leaving v cause).to ≡ phase_after_wrong Phase.MessageOut cause (is_named_again v.plan Phase.MessageOut cause || (t.in_hold || nat_lt t.recoveries (recovery_limit v.def)))
+complained v t Cause.Selected et e = wrong' e
+complained v t Cause.InData et e =
+    (λ i. (with_task (et i) (λ x. recovery v.def x (pointer_restoration Next.GoOn) (phase_entry Phase.Status))).to)
+    ∙ for_status v.def t (pointer_restoration Next.GoOn) (phase_entry Phase.Status) refl refl
+complained v t Cause.InStatus et e =
+    (λ i. (with_task (et i) (λ x. recovery v.def x (pointer_restoration Next.Status) bus_free)).to)
+    ∙ for_free v.def t (pointer_restoration Next.Status) bus_free refl refl
+complained v t Cause.InMessage et e =
+    (λ i. (if none_of v.plan.said.offer e i then phase_entry Phase.Command else if is_naming v.plan.messages.first then message_repetition v.plan else with_task (et i) (λ x. recovery v.def x (message_repetition v.plan) bus_free)).to)
     ∙ go (is_naming v.plan.messages.first)
   where
     go : (q : Bool) → (if q then message_repetition v.plan else recovery v.def t (message_repetition v.plan) bus_free).to ≡ free_unless (q || (t.in_hold || nat_lt t.recoveries (recovery_limit v.def)))
@@ -122,16 +91,16 @@ complained v t causes.InMessage et e =
 
 wrong_left : (v : Serving) (attention : Bool) (t : Task) (phase : Phase) → v.task ≡ Some t → is_wrong_phase v.plan.struck v.plan phase ≡ true
     → (phase_leaving v attention phase).to ≡ phase_after_wrong phase v.plan.cause (is_tried_again v.def v.plan t phase)
-wrong_left v attention t phases.MessageOut et e = complained v t v.plan.cause et e
-wrong_left v attention t phases.Command et e =
-    (λ i. (with_task (et i) (λ x. if e i then recovery v.def x (pointer_restoration nexts.Command) (phase_entry phases.Status) else after_arrival v.def x v.arrival)).to)
-    ∙ for_status v.def t (pointer_restoration nexts.Command) (phase_entry phases.Status) refl refl
-wrong_left v attention t phases.DataOut et e =
-    (λ i. (with_task (et i) (λ x. if e i then recovery v.def x (pointer_restoration nexts.GoOn) (phase_entry phases.Status) else after_run (policy_of v.def) x)).to)
-    ∙ for_status v.def t (pointer_restoration nexts.GoOn) (phase_entry phases.Status) refl refl
-wrong_left v attention t phases.MessageIn et e = wrong' e
-wrong_left v attention t phases.DataIn et e = wrong' e
-wrong_left v attention t phases.Status et e = wrong' e
+wrong_left v attention t Phase.MessageOut et e = complained v t v.plan.cause et e
+wrong_left v attention t Phase.Command et e =
+    (λ i. (with_task (et i) (λ x. if e i then recovery v.def x (pointer_restoration Next.Command) (phase_entry Phase.Status) else after_arrival v.def x v.arrival)).to)
+    ∙ for_status v.def t (pointer_restoration Next.Command) (phase_entry Phase.Status) refl refl
+wrong_left v attention t Phase.DataOut et e =
+    (λ i. (with_task (et i) (λ x. if e i then recovery v.def x (pointer_restoration Next.GoOn) (phase_entry Phase.Status) else after_run (policy_of v.def) x)).to)
+    ∙ for_status v.def t (pointer_restoration Next.GoOn) (phase_entry Phase.Status) refl refl
+wrong_left v attention t Phase.MessageIn et e = wrong' e
+wrong_left v attention t Phase.DataIn et e = wrong' e
+wrong_left v attention t Phase.Status et e = wrong' e
 
 pub left_by_table : (s : ScenarioValue) (p : List Row) (row : Row) (n : Connection) (t : Task) → Obeys s → IsPrompt s (row ∷ p) → IsLeaving p row n → task_of s (run_state s p) ≡ Some t
     → is_wrong_phase (run_state s p).exchange.plan.struck (run_state s p).exchange.plan (phase_of (bus p)) ≡ true

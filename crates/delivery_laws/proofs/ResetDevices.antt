@@ -1,21 +1,13 @@
 -- The device of each reset line of a scenario that obeys the rules of its text is there.
-use Rattle.std.proofs.Common.{ℕ, ◌≡◌, Bool, true, false, ◌||◌, List, [], ◌∷◌, ◌++◌, Option, Some, None, Ok, cond, refl, subst}
-use Rattle.std.specs.Prelude.{◌==◌, is_some}
-use Rattle.std.specs.List.{AllByRecursion, find, list_any}
-use Rattle.bus_due.specs.bus_base.proofs.Tests.{wrong'}
-use Rattle.bus_due.specs.scenario.specs.declared.value.HostDef.{HostDef}
-use Rattle.bus_due.specs.scenario.specs.declared.value.ResetDef.{ResetDef}
-use Rattle.bus_due.specs.scenario.specs.declared.value.TargetDef.{TargetDef}
-use Rattle.bus_due.specs.scenario.specs.Forms.{Said, scsi_line, initiator_line, target_line, unit_line, fill_line, cmd_line, abort_line, reset_line, fault_line, end_line}
-use Rattle.bus_due.specs.scenario.specs.Lookups.{has_device, has_host, has_target}
-use Rattle.bus_due.specs.scenario.specs.Needs.{need_of, sent_of}
-use Rattle.bus_due.specs.scenario.specs.Reading.{Progress, guard, in_8, time_in, has_abort_room, host_def, target_def, unit_def, fill_def, full_cmd_def, abort_def, reset_def, fault_def, added, said_after, fits_version, in_order, rank, kind_of, nothing}
-use Rattle.bus_due.specs.scenario.specs.Value.{ScenarioValue}
-use Rattle.bus_due.specs.scenario.specs.Writing.{saids, built, Obeys}
-use Rattle.bus_due.specs.scenario.proofs.Steps.{bind_ok, ok_is, guard_ok}
-use Rattle.progress_laws.specs.scsi_device.proofs.Finds.{all_more}
-use Rattle.progress_laws.specs.scsi_device.proofs.LineReads.{reset_by}
-use Rattle.bus_due.specs.bus_story.specs.Samples.{host_latency, latency_of, target_latency}
+use Rattle.delivery_laws.proofs
+use proofs.Names.{ℕ, ◌≡◌, Bool, true, false, ◌||◌, List, [], ◌∷◌, ◌++◌, Option, Some, None, Ok, cond, refl, subst}
+use proofs.Names.{AllByRecursion, find, list_any, ◌==◌, is_some, wrong', bind_ok, ok_is, guard_ok, Said, scsi_line}
+use proofs.Names.{initiator_line, target_line, unit_line, fill_line, cmd_line, abort_line, reset_line, fault_line}
+use proofs.Names.{end_line, has_device, has_host, has_target, need_of, sent_of, Progress, guard, in_8, time_in}
+use proofs.Names.{has_abort_room, host_def, target_def, unit_def, fill_def, full_cmd_def, abort_def, reset_def}
+use proofs.Names.{fault_def, added, said_after, fits_version, in_order, rank, kind_of, nothing, ScenarioValue, saids}
+use proofs.Names.{built, Obeys, HostDef, ResetDef, TargetDef, host_latency, latency_of, target_latency, all_more}
+use proofs.Names.{reset_by}
 
 abbrev Has : ScenarioValue → ResetDef → Type 0
 Has s r = has_device s r.dev ≡ true

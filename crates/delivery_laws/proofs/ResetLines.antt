@@ -1,54 +1,20 @@
 -- Row by row of a prompt trace: RST begins by the reset lines alone, and each of them has its row, or falls while its device drives RST (6.2.2).
-use Rattle.std.proofs.Common.{inl, inr, ℕ, ◌≡◌, ◌⊎◌, ◌+◌, ◌<◌, ◌≤◌, Bool, true, false, not, ◌&&◌, ◌||◌, ◌∙◌, List, [], ◌∷◌, Option, Some, None, refl, sym, ap, subst, cond, min, arith}
-use Rattle.std.specs.Prelude.{if◌then◌else◌, ◌==◌, is_some, nat_le, nat_lt}
-use Rattle.std.specs.List.{AllByRecursion, find, list_all, list_any}
-use Rattle.std.proofs.lemmas.Bool.{and_from, eqb-true, eq-eqb, or_left, or_right}
-use Rattle.std.proofs.lemmas.Bool.Decides.{nat_tests}
-use Rattle.std.proofs.lemmas.Option.{same_Some}
-use Rattle.bus_due.specs.bus_base.proofs.Tests.{eq_self, wrong, wrong'}
-use Rattle.bus_due.specs.bus_trace.specs.LineSet.{LineSet, none}
-use Rattle.bus_due.specs.bus_trace.specs.declared.Kind.{Kind}
-use Rattle.bus_due.specs.bus_trace.specs.declared.Kind.TheVariants.{Drives, Fault}
-use Rattle.bus_due.specs.bus_trace.specs.declared.Row.{Row}
-use Rattle.bus_due.specs.bus_trace.specs.Changes.{rises, falls, change_of}
-use Rattle.bus_due.specs.bus_trace.specs.Terms.{when}
-use Rattle.bus_due.specs.bus_trace.specs.Trace.{bus, drives, driven_after}
-use Rattle.bus_due.specs.scenario.specs.declared.value.ResetDef.{ResetDef}
-use Rattle.bus_due.specs.scenario.specs.Value.{ScenarioValue}
-use Rattle.bus_due.specs.scenario.specs.Writing.{Obeys}
-use Rattle.bus_due.specs.scenario.specs.declared.value.HostDef.{HostDef}
-use Rattle.bus_due.specs.scenario.specs.declared.value.TargetDef.{TargetDef}
-use Rattle.progress_laws.specs.scsi_device.specs.Lines.{FitsBus, IsHostLine, IsTargetLine}
-use Rattle.bus_due.specs.bus_story.specs.Samples.{host_latency, latency_of, target_latency}
-use Rattle.bus_due.specs.bus_reactions.specs.declared.due.Due.{Due}
-use Rattle.bus_due.specs.bus_reactions.specs.Reactions.{earlier_due, sooner_time, time_if}
-use Rattle.bus_due.specs.bus_reactions.specs.Reset.{rst_assertion}
-use Rattle.bus_due.specs.Due.{is_reset_past, reset_from}
-use Rattle.bus_due.specs.Least.{IsLeast}
-use Rattle.bus_due.specs.Next.{IsEnded, IsPrompt, due}
-use Rattle.bus_due.specs.Own.{Own, own_after, own_of}
-use Rattle.bus_due.specs.Plain.{AreOfDevices}
-use Rattle.bus_due.proofs.Leasts.{least_none}
-use Rattle.progress_laws.specs.bus_laws.specs.Reactions.{reset_due, reset_due_if, unreset_due}
-use Rattle.progress_laws.specs.bus_laws.specs.Stages.{CalmStanding, HasShortLatencies}
-use Rattle.progress_laws.specs.bus_laws.proofs.Dues.{is_at}
-use Rattle.progress_laws.specs.bus_laws.proofs.FromReset.{off_at}
-use Rattle.progress_laws.specs.bus_laws.proofs.Limits.{obeys_latencies}
-use Rattle.progress_laws.specs.bus_laws.proofs.Prompt.{least_is}
-use Rattle.progress_laws.specs.bus_laws.proofs.Resets.{due_calm, due_holding, due_there, own_reset_is}
-use Rattle.progress_laws.specs.bus_laws.proofs.Rows.{drives_own}
-use Rattle.progress_laws.specs.link_laws.specs.LinkStages.{AnyStage, apart, linked}
-use Rattle.progress_laws.specs.link_laws.proofs.FromLink.{from_link}
-use Rattle.progress_laws.specs.link_laws.proofs.RunLengths.{runs_are_short}
-use Rattle.progress_laws.specs.scsi_device.proofs.FitLines.{obeys_fits}
-use Rattle.progress_laws.specs.trace_laws.proofs.Impossible.{none_some}
-use Rattle.progress_laws.specs.trace_laws.proofs.Joint.{Stood}
-use Rattle.progress_laws.specs.trace_laws.proofs.Whole.{whole}
-use Rattle.right_laws.proofs.ResetSamples.{CalmRow, ResetRow, calm_row, lets_go, raises, reacts, resets, under_reset}
-use Rattle.delivery_laws.specs.Resets.{are_lines, are_releases, began_reset, begins_reset, ends_reset, has_line, has_reset, is_line_of, is_release, is_reset_over, is_reset_row}
-use Rattle.bus_due.specs.scenario.specs.Lookups.{has_device}
-use Rattle.delivery_laws.proofs.ResetDevices.{device_there, resets_there}
-use Rattle.delivery_laws.proofs.CalmTraces.{after_calm, apart_calm, unasked}
+use Rattle.delivery_laws.proofs
+use proofs.Names.{inl, inr, ℕ, ◌≡◌, ◌⊎◌, ◌+◌, ◌<◌, ◌≤◌, Bool, true, false, not, ◌&&◌, ◌||◌, ◌∙◌, List, [], ◌∷◌, Option}
+use proofs.Names.{Some, None, refl, sym, ap, subst, cond, min, arith, and_from, eqb-true, eq-eqb, or_left, or_right}
+use proofs.Names.{nat_tests, same_Some, AllByRecursion, find, list_all, list_any, if◌then◌else◌, ◌==◌, is_some, nat_le}
+use proofs.Names.{nat_lt, eq_self, wrong, wrong', rises, falls, change_of, LineSet, none, when, bus, drives}
+use proofs.Names.{driven_after, Kind, Drives, Fault, Row, has_device, ScenarioValue, Obeys, HostDef, ResetDef}
+use proofs.Names.{TargetDef, host_latency, latency_of, target_latency, earlier_due, sooner_time, time_if, rst_assertion}
+use proofs.Names.{Due, least_none, is_reset_past, reset_from, IsLeast, IsEnded, IsPrompt, due, Own, own_after, own_of}
+use proofs.Names.{AreOfDevices, obeys_fits, FitsBus, IsHostLine, IsTargetLine, is_at, off_at, obeys_latencies, least_is}
+use proofs.Names.{due_calm, due_holding, due_there, own_reset_is, drives_own, reset_due, reset_due_if, unreset_due}
+use proofs.Names.{CalmStanding, HasShortLatencies, from_link, runs_are_short, AnyStage, linked, none_some, Stood, whole}
+use proofs.Names.{CalmRow, ResetRow, calm_row, lets_go, raises, reacts, resets, are_lines, are_releases, began_reset}
+use proofs.Names.{begins_reset, ends_reset, has_line, has_reset, is_line_of, is_release, is_reset_over, is_reset_row}
+use proofs.{CalmTraces.{after_calm, apart_calm, unasked}, ResetDevices.{device_there, resets_there}}
+use Rattle.progress_laws.specs.link_laws.specs.LinkStages.{apart}
+use Rattle.right_laws.proofs.Samples.Resets.{under_reset}
 
 -- ---- what a row does to the RST of its device
 

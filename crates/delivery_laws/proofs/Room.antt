@@ -1,64 +1,23 @@
 -- Where each queue has room for all commands that the initiators may have open at once, no command is refused.
-use Rattle.std.proofs.Common.{ℕ, suc, ◌≡◌, ◌≤◌, ◌+◌, Bool, true, false, not, ◌&&◌, ◌∙◌, List, [], ◌∷◌, ◌++◌, Option, Some, None, refl, sym, ap, subst, length, arith}
-use Rattle.std.specs.Prelude.{if◌then◌else◌, ◌==◌, is_some, nat_lt, nat_le}
-use Rattle.std.specs.List.{list_any}
-use Rattle.std.proofs.lemmas.Bool.{and_from, not-true, or_parts}
-use Rattle.std.proofs.lemmas.Bool.Decides.{nat_tests}
-use Rattle.std.proofs.lemmas.Option.{same_Some}
-use Rattle.bus_due.specs.bus_base.specs.declared.Event.TheVariants as events
-use Rattle.bus_due.specs.bus_base.specs.declared.ProcId.{ProcId}
-use Rattle.bus_due.specs.bus_base.proofs.Tests.{and_first, and_second, wrong, wrong'}
-use Rattle.bus_due.specs.bus_trace.specs.LineSet.{LineSet}
-use Rattle.bus_due.specs.bus_trace.specs.declared.Row.{Row}
-use Rattle.bus_due.specs.bus_trace.specs.declared.changes.Change.{Change}
-use Rattle.bus_due.specs.bus_trace.specs.Phases.{is_command}
-use Rattle.bus_due.specs.cdb_codec.specs.Cdb.{command_of}
-use Rattle.bus_due.specs.scenario.specs.declared.value.CmdDef.{CmdDef}
-use Rattle.bus_due.specs.scenario.specs.declared.value.UnitDef.{UnitDef}
-use Rattle.bus_due.specs.scenario.specs.Value.{ScenarioValue}
-use Rattle.bus_due.specs.scenario.specs.Writing.{Obeys}
-use Rattle.bus_due.specs.disk_array.specs.ArrayHistory.{array_after, array_step}
-use Rattle.bus_due.specs.disk_array.specs.Execution.{is_request_sense}
-use Rattle.bus_due.specs.disk_array.specs.Order.{choice, without_process}
-use Rattle.bus_due.specs.disk_array.specs.Processes.{Process, process_of, same_id}
-use Rattle.bus_due.specs.disk_array.specs.Seats.{is_initiator}
-use Rattle.bus_due.specs.disk_array.specs.Steps as Steps
-use Rattle.bus_due.specs.disk_array.specs.Units.{Array, Nexus, RunningProcess, UnitState, has_no_current, is_held, settled_array, starting_array, starting_units, unit_after_choice, unit_state_at, with_current, with_unit}
-use Rattle.bus_due.specs.bus_story.specs.BusState.{RowReading, row_reading}
-use Rattle.bus_due.specs.bus_story.specs.CarriedBytes.{CarriedBytes}
-use Rattle.bus_due.specs.bus_story.specs.HistoryEvents.{carried_if, row_events_by}
-use Rattle.bus_due.specs.bus_story.specs.Items.{Item, Sent, process, abort, command_id, command_item, has_item, is_open, open_limit_of}
-use Rattle.bus_due.specs.bus_story.specs.Links.{Link}
-use Rattle.bus_due.specs.bus_story.specs.Outcomes.{is_roomy, most_open}
-use Rattle.bus_due.specs.bus_story.proofs.CarriedLists.{carried_id}
-use Rattle.bus_due.specs.bus_dialogue.specs.declared.exchange.Phase.TheVariants as phases
-use Rattle.bus_due.specs.bus_dialogue.specs.NextPhase.{phase_of}
-use Rattle.bus_due.specs.Next.{IsPrompt}
-use Rattle.bus_due.specs.Plain.{IsPlain}
-use Rattle.bus_due.specs.RunState.{RunState, array_of, bus_of, carried_here, or_start}
-use Rattle.bus_due.specs.RunSteps.{run_state}
-use Rattle.bus_due.proofs.Plains.{prompt_plain}
-use Rattle.progress_laws.specs.bus_books.specs.Hearing.{is_in_phase}
-use Rattle.progress_laws.specs.bus_books.proofs.CarriedRows.{process_id}
-use Rattle.progress_laws.specs.scsi_device.specs.Writes.{writers}
-use Rattle.progress_laws.specs.scsi_device.proofs.FitLines.{command_fits, obeys_fits}
-use Rattle.progress_laws.specs.target_units.proofs.LiveQueue.{id_turned}
-use Rattle.progress_laws.specs.trace_laws.specs.ItemFacts.{AllP, IsQueued, RunsP, UnitsP}
-use Rattle.progress_laws.specs.trace_laws.specs.Places.{IsAway, IsUntouched, OnUnit, OnUnits, Runs, Waits}
-use Rattle.progress_laws.specs.trace_laws.specs.WriteFacts.{AllUnits, IsOther, IsWrittenUnit}
-use Rattle.progress_laws.specs.trace_laws.specs.Items.{IsServedOpen}
-use Rattle.progress_laws.specs.trace_laws.proofs.ArrivalRows.{ArrivesNow, arrives_first}
-use Rattle.progress_laws.specs.trace_laws.proofs.FreshItems.{items_open}
-use Rattle.progress_laws.specs.trace_laws.proofs.Joint.{NextStood}
-use Rattle.progress_laws.specs.trace_laws.proofs.PhaseLines.{command_phase}
-use Rattle.progress_laws.specs.trace_laws.proofs.UnitsKept.{MayWait, StaysSo, each_settled, events_all, unit_has}
-use Rattle.progress_laws.specs.trace_laws.proofs.Whole.{Whole, standing_next, whole}
-use Rattle.progress_laws.specs.trace_laws.proofs.WriterUnits.{append_all, kept_all, without_all}
-use Rattle.progress_laws.proofs.OwedEvents.{OfCommand, of_command}
-use Rattle.right_laws.proofs.RowCrossings.{GoesSo, IsNew, here_goes, known_served, new_here}
-use Rattle.delivery_laws.proofs.Counting.{AreOnce, IsAnother, IsMarked, both, count_from, count_less, hosts_bound, is_open_of, of_host, processes_fit}
-use Rattle.delivery_laws.proofs.OpenWithin.{open_within}
-use Rattle.delivery_laws.proofs.Taken.{AreTaken, row_taken, taken_both}
+use Rattle.delivery_laws.proofs
+use proofs.Names.{ℕ, suc, ◌≡◌, ◌≤◌, ◌+◌, Bool, true, false, not, ◌&&◌, ◌∙◌, List, [], ◌∷◌, ◌++◌, Option, Some, None}
+use proofs.Names.{refl, sym, ap, subst, length, arith, and_from, not-true, or_parts, nat_tests, same_Some, list_any}
+use proofs.Names.{if◌then◌else◌, ◌==◌, is_some, nat_lt, nat_le, and_first, and_second, wrong, wrong', Event, ProcId}
+use proofs.Names.{LineSet, is_command, Row, Change, command_of, ScenarioValue, Obeys, CmdDef, UnitDef, array_after}
+use proofs.Names.{array_step, is_request_sense, choice, without_process, Process, process_of, same_id, is_initiator}
+use proofs.Names.{Array, Nexus, RunningProcess, UnitState, has_no_current, is_held, settled_array, starting_array}
+use proofs.Names.{starting_units, unit_after_choice, unit_state_at, with_current, with_unit, carried_id, RowReading}
+use proofs.Names.{row_reading, CarriedBytes, carried_if, row_events_by, Item, Sent, process, abort, command_id}
+use proofs.Names.{command_item, has_item, is_open, open_limit_of, Link, is_roomy, most_open, phase_of, Phase}
+use proofs.Names.{prompt_plain, IsPrompt, IsPlain, RunState, array_of, bus_of, carried_here, or_start, run_state}
+use proofs.Names.{command_fits, obeys_fits, writers, id_turned, process_id, is_in_phase, command_phase, MayWait}
+use proofs.Names.{StaysSo, each_settled, events_all, unit_has, append_all, kept_all, without_all, items_open, NextStood}
+use proofs.Names.{Whole, standing_next, whole, ArrivesNow, arrives_first, AllP, IsQueued, RunsP, UnitsP, IsServedOpen}
+use proofs.Names.{IsAway, IsUntouched, OnUnit, OnUnits, Runs, Waits, AllUnits, IsOther, IsWrittenUnit, OfCommand}
+use proofs.{Names.{of_command, GoesSo, IsNew, here_goes, known_served, new_here}, Counting.{AreOnce, IsAnother}}
+use proofs.Counting.{IsMarked, both, count_from, count_less, hosts_bound, is_open_of, of_host, processes_fit}
+use proofs.{OpenWithin.{open_within}, Taken.{AreTaken, row_taken, taken_both}}
+use Rattle.bus_due.specs.disk_array.specs.Steps
 
 -- ---- in each unit each process waits once, and there is room for as many
 
@@ -144,7 +103,7 @@ arrives_so s p row w next pl l c v id item = record {
     served : k.served ≡ Some (process id)
     served = known_served s k row g.connection g.change l id w.stood.books g.goes v.link_is item
 
-    phase : phase_of (bus_of k) ≡ phases.Command
+    phase : phase_of (bus_of k) ≡ Phase.Command
     phase = command_phase (bus_of k) (ap is_command (g.goes.row_is.bus_is ∙ ap (λ (x : Change). x.before) (sym g.goes.row_is.change_is)) ∙ v.command)
 
     new : IsNew s w.places.array id
@@ -314,9 +273,9 @@ has_room s p o prompt w x is plain a u roomy away queued apart = by u.current re
 -- ---- it is accepted
 
 accepted : (s : ScenarioValue) (p : List Row) (row : Row) → Obeys s → IsPrompt s (row ∷ p) → is_roomy s ≡ true → (l : Link) (c : CarriedBytes) → ArrivesNow (run_state s p).story (row_reading (run_state s p).story.bus_state row) l c
-    → is_some (array_after s (events.Accept c.id ∷ (run_state s p).story.history)) ≡ true
+    → is_some (array_after s (Event.Accept c.id ∷ (run_state s p).story.history)) ≡ true
 accepted s p row o prompt roomy l c v =
-    ap (λ (x : Option Array). is_some (array_step s (events.Accept c.id) x)) plays
+    ap (λ (x : Option Array). is_some (array_step s (Event.Accept c.id) x)) plays
     ∙ ap (λ (x : Option Process). is_some (Steps.settled_array_if (Steps.accept_step w.places.array x))) here.def_is
     ∙ by (unit_state_at w.places.array.units x.target x.unit) refl
   where

@@ -1,37 +1,17 @@
 -- What the plain disk array lists of a process: its status is GOOD, CHECK CONDITION or QUEUE FULL, and an automatic REQUEST SENSE that ends GOOD
 -- brings bytes (7.3, 8.2.14).
-use Rattle.std.proofs.Common.{◌≡◌, Bool, true, false, not, ◌&&◌, ◌||◌, ◌∙◌, List, [], ◌∷◌, Option, Some, None, ℕ, refl, sym, ap, subst}
-use Rattle.std.specs.Prelude.{if◌then◌else◌, ◌==◌, is_none, is_some, Result, Ok, Err, ⊤}
-use Rattle.std.proofs.lemmas.Option.{same_Some}
-use Rattle.bus_due.specs.bus_base.specs.declared.Event.{Event}
-use Rattle.bus_due.specs.bus_base.specs.declared.Event.TheVariants as events
-use Rattle.bus_due.specs.bus_base.specs.declared.ProcId.{ProcId}
-use Rattle.bus_due.specs.bus_base.proofs.Tests.{wrong'}
-use Rattle.bus_due.specs.cdb_codec.specs.Cdb.{command_of}
-use Rattle.bus_due.specs.cdb_codec.specs.declared.Sense.{Sense}
-use Rattle.bus_due.specs.cdb_codec.specs.declared.command.CdbFault.{CdbFault}
-use Rattle.bus_due.specs.cdb_codec.specs.declared.command.CdbFault.TheVariants as faults
-use Rattle.bus_due.specs.cdb_codec.specs.declared.command.Command.{Command}
-use Rattle.bus_due.specs.cdb_codec.specs.declared.command.Command.TheVariants as commands
-use Rattle.bus_due.specs.cdb_codec.specs.declared.sense.TheConstants.{ABORTED_COMMAND}
-use Rattle.bus_due.specs.cdb_codec.specs.declared.status.TheConstants.{CHECK_CONDITION, GOOD, QUEUE_FULL}
-use Rattle.bus_due.specs.scenario.specs.Value.{ScenarioValue}
-use Rattle.bus_due.specs.scenario.specs.Writing.{Obeys}
-use Rattle.bus_due.specs.disk_array.specs.ArrayHistory.{array_after, array_step, reply_in}
-use Rattle.bus_due.specs.disk_array.specs.Execution.{CommandContext, Reply, attention_execution, block_out_of_range, cdb_execution, check_condition, command_execution, execution, heeds_attention, is_good_range, needs_unit, queue_full, range_execution, range_of, reply_execution, sense_of, unit_not_supported}
-use Rattle.bus_due.specs.disk_array.specs.Processes.{process_of, same_id, sense_block}
-use Rattle.bus_due.specs.disk_array.specs.Steps as Steps
-use Rattle.bus_due.specs.disk_array.specs.Units.{Array, RunningProcess, UnitState, guest_at, is_held, nexus_of, unit_state_at}
-use Rattle.bus_due.specs.disk_array.specs.SoundArray.{IsSound}
-use Rattle.bus_due.specs.disk_array.proofs.SoundArrays.{history_sound}
-use Rattle.bus_due.specs.disk_array.proofs.ArrayReplies.{abort_lists, fail_lists, loss_lists, reset_lists, took, end_lists}
-use Rattle.progress_laws.specs.bus_books.proofs.Lookups.{id_is}
-use Rattle.progress_laws.specs.trace_laws.proofs.ListedReplies.{accepted, refused, settles, running_id}
-use Rattle.progress_laws.specs.trace_laws.proofs.OtherProcesses.{executed, reply_at}
-use Rattle.progress_laws.specs.trace_laws.proofs.Impossible.{none_some}
-use Rattle.progress_laws.proofs.FetchedSenses.{sense_cdb}
-use Rattle.progress_laws.proofs.OwedEvents.{running_own}
-use Rattle.progress_laws.specs.scsi_device.proofs.FitLines.{obeys_fits, seats_are}
+use Rattle.delivery_laws.proofs
+use proofs.Names.{◌≡◌, Bool, true, false, not, ◌&&◌, ◌||◌, ◌∙◌, List, [], ◌∷◌, Option, Some, None, ℕ, refl, sym, ap}
+use proofs.Names.{subst, Result, Ok, Err, same_Some, if◌then◌else◌, ◌==◌, is_none, is_some, ⊤, wrong', Event, ProcId}
+use proofs.Names.{command_of, Sense, CdbFault, Command, ABORTED_COMMAND, CHECK_CONDITION, GOOD, QUEUE_FULL}
+use proofs.Names.{ScenarioValue, Obeys, abort_lists, fail_lists, loss_lists, reset_lists, took, end_lists}
+use proofs.Names.{history_sound, array_after, array_step, reply_in, CommandContext, Reply, attention_execution}
+use proofs.Names.{block_out_of_range, cdb_execution, check_condition, command_execution, execution, heeds_attention}
+use proofs.Names.{is_good_range, needs_unit, queue_full, range_execution, range_of, reply_execution, sense_of}
+use proofs.Names.{unit_not_supported, process_of, same_id, sense_block, IsSound, Array, RunningProcess, UnitState}
+use proofs.Names.{guest_at, is_held, nexus_of, unit_state_at, obeys_fits, seats_are, id_is, none_some, executed}
+use proofs.Names.{reply_at, accepted, refused, settles, running_id, sense_cdb, running_own}
+use Rattle.bus_due.specs.disk_array.specs.Steps
 
 abbrev pub is_known : ℕ → Bool
 is_known status = status == GOOD || (status == CHECK_CONDITION || status == QUEUE_FULL)
@@ -43,14 +23,14 @@ is_filled (b ∷ bytes) = true
 -- ---- what a command answers as it runs
 
 command_known : (m : CommandContext) (c : Command) (sent : List ℕ) → is_known (command_execution m c sent).reply.status ≡ true
-command_known m commands.TestUnitReady sent = refl
-command_known m (commands.RequestSense room) sent = refl
-command_known m (commands.Read6 lba count) sent = refl
-command_known m (commands.Write6 lba count) sent = refl
-command_known m (commands.Inquiry room) sent = refl
-command_known m commands.ReadCapacity sent = refl
-command_known m (commands.Read10 lba count) sent = refl
-command_known m (commands.Write10 lba count) sent = refl
+command_known m Command.TestUnitReady sent = refl
+command_known m (Command.RequestSense room) sent = refl
+command_known m (Command.Read6 lba count) sent = refl
+command_known m (Command.Write6 lba count) sent = refl
+command_known m (Command.Inquiry room) sent = refl
+command_known m Command.ReadCapacity sent = refl
+command_known m (Command.Read10 lba count) sent = refl
+command_known m (Command.Write10 lba count) sent = refl
 
 range_known : (m : CommandContext) (c : Command) (sent : List ℕ) → is_known (range_execution m c sent).reply.status ≡ true
 range_known m c sent = go (is_good_range m.contents.count (range_of c))
@@ -61,9 +41,9 @@ range_known m c sent = go (is_good_range m.contents.count (range_of c))
 
 cdb_known : (m : CommandContext) (c : Result Command CdbFault) (sent : List ℕ) → is_known (cdb_execution m c sent).reply.status ≡ true
 cdb_known m (Ok c) sent = range_known m c sent
-cdb_known m (Err faults.Opcode) sent = refl
-cdb_known m (Err faults.Length) sent = refl
-cdb_known m (Err faults.Field) sent = refl
+cdb_known m (Err CdbFault.Opcode) sent = refl
+cdb_known m (Err CdbFault.Length) sent = refl
+cdb_known m (Err CdbFault.Field) sent = refl
 
 attention_known : (m : CommandContext) (o : Option Sense) (cdb sent : List ℕ) → is_known (attention_execution m o cdb sent).reply.status ≡ true
 attention_known m None cdb sent = cdb_known m (command_of cdb) sent
@@ -137,22 +117,22 @@ ran s a c id guest (Some r) is f e g = go (is_none r.reply && (guest || not (is_
     go false z = none_some c z
 
 step_told : (s : ScenarioValue) (a d : Array) (e : Event) → IsSound s a → Steps.step s e a ≡ Some d → AreTold a.replies → AreTold d.replies
-step_told s a d (events.Accept id) is e g = settles (Steps.accept_step a (process_of s id)) d (λ (x : Array). AreTold x.replies) (λ c k. no_more a.replies c.replies (accepted a c (process_of s id) k) g) e
-step_told s a d (events.Refuse id) is e g =
+step_told s a d (Event.Accept id) is e g = settles (Steps.accept_step a (process_of s id)) d (λ (x : Array). AreTold x.replies) (λ c k. no_more a.replies c.replies (accepted a c (process_of s id) k) g) e
+step_told s a d (Event.Refuse id) is e g =
     settles (Steps.refuse_step a (process_of s id)) d (λ (x : Array). AreTold x.replies)
     (λ c k. one_more a.replies c.replies id queue_full (refused s a c id (process_of s id) refl k) (λ x same. record { known = refl; filled = λ w z. wrong' z }) g) e
-step_told s a d (events.Run id) is e g =
+step_told s a d (Event.Run id) is e g =
     settles (Steps.run_step a (is_some (guest_at a.guests id)) (Steps.running_process a id)) d (λ (x : Array). AreTold x.replies) (λ c k. ran s a c id (is_some (guest_at a.guests id)) (Steps.running_process a id) is refl k g) e
-step_told s a d (events.Fail id code) is e g =
+step_told s a d (Event.Fail id code) is e g =
     settles (Steps.fail_step s a id (check_condition (sense_of ABORTED_COMMAND code 0x00)) (Steps.running_process a id)) d (λ (x : Array). AreTold x.replies)
     (λ c k. one_more a.replies c.replies id (check_condition (sense_of ABORTED_COMMAND code 0x00)) (fail_lists s a c id (check_condition (sense_of ABORTED_COMMAND code 0x00)) (Steps.running_process a id) k)
     (λ x same. record { known = refl; filled = λ w z. wrong' z }) g) e
-step_told s a d (events.End id status) is e g =
+step_told s a d (Event.End id status) is e g =
     settles (Steps.end_step a status (Steps.running_process a id)) d (λ (x : Array). AreTold x.replies) (λ c k. no_more a.replies c.replies (end_lists a c status (Steps.running_process a id) k) g) e
-step_told s a d (events.Lost id) is e g = settles (Steps.loss_step a id) d (λ (x : Array). AreTold x.replies) (λ c k. no_more a.replies c.replies (loss_lists a c id k) g) e
-step_told s a d (events.Aborted i t n what) is e g =
+step_told s a d (Event.Lost id) is e g = settles (Steps.loss_step a id) d (λ (x : Array). AreTold x.replies) (λ c k. no_more a.replies c.replies (loss_lists a c id k) g) e
+step_told s a d (Event.Aborted i t n what) is e g =
     settles (Some (Steps.abort_step s a i t n what)) d (λ (x : Array). AreTold x.replies) (λ c k. no_more a.replies c.replies (took (Steps.abort_step s a i t n what) c a.replies k (abort_lists s a i t n what)) g) e
-step_told s a d (events.Reset dev) is e g = settles (Some (Steps.reset_step s a)) d (λ (x : Array). AreTold x.replies) (λ c k. no_more a.replies c.replies (took (Steps.reset_step s a) c a.replies k (reset_lists s a)) g) e
+step_told s a d (Event.Reset dev) is e g = settles (Some (Steps.reset_step s a)) d (λ (x : Array). AreTold x.replies) (λ c k. no_more a.replies c.replies (took (Steps.reset_step s a) c a.replies k (reset_lists s a)) g) e
 
 -- ---- after every history
 

@@ -1,41 +1,16 @@
 -- Of a prompt trace: the automatic REQUEST SENSE of a command is over exactly where it has ended, or was stopped after the command had ended with
 -- CHECK CONDITION; and not both (6.6.1, 6.6.3, 7.6, 7.8).
-use Rattle.std.proofs.Common.{ℕ, suc, zero, ◌≡◌, ◌+◌, ◌<◌, Bool, true, false, not, ◌&&◌, ◌||◌, ◌∙◌, List, [], ◌∷◌, ◌++◌, Option, Some, None, refl, sym, ap, arith}
-use Rattle.std.specs.Prelude.{if◌then◌else◌, ◌==◌}
-use Rattle.std.specs.List.{list_any}
-use Rattle.std.proofs.lemmas.Bool.{ne_eqb}
-use Rattle.bus_due.specs.bus_base.specs.declared.ProcId.{ProcId}
-use Rattle.bus_due.specs.bus_base.specs.declared.Event.{Event}
-use Rattle.bus_due.specs.bus_base.specs.declared.Event.TheVariants as events
-use Rattle.bus_due.specs.bus_base.proofs.Tests.{and_second, eq_self, wrong, wrong'}
-use Rattle.bus_due.specs.bus_trace.specs.declared.Row.{Row}
-use Rattle.bus_due.specs.cdb_codec.specs.declared.status.TheConstants.{CHECK_CONDITION}
-use Rattle.bus_due.specs.scenario.specs.declared.value.CmdDef.{CmdDef}
-use Rattle.bus_due.specs.scenario.specs.Value.{ScenarioValue}
-use Rattle.bus_due.specs.scenario.specs.Writing.{Obeys}
-use Rattle.bus_due.specs.disk_array.specs.Processes.{command_at, same_bool, same_id}
-use Rattle.bus_due.specs.bus_story.specs.BusState.{RowReading, row_reading}
-use Rattle.bus_due.specs.bus_story.specs.HistoryEvents.{row_events_by}
-use Rattle.bus_due.specs.bus_story.specs.Items.{Sent, command_id, command_item, has_item, is_open, sense_id, sense_item}
-use Rattle.bus_due.specs.bus_story.specs.Outcomes.{has_end}
-use Rattle.bus_due.specs.bus_story.specs.Story.{Ending, Story, by_abort, by_reset, by_status, is_aborted, is_sense_stopped, story_after_event, story_after_events, story_with_end, story_with_end_if, story_with_ends, story_with_over, with_check}
-use Rattle.bus_due.specs.bus_story.specs.TraceHistory.{story_by_change}
-use Rattle.bus_due.specs.Next.{IsPrompt}
-use Rattle.bus_due.specs.RunState.{RunState}
-use Rattle.bus_due.specs.RunSteps.{run_state}
-use Rattle.progress_laws.specs.bus_laws.proofs.Prompt.{least_is}
-use Rattle.progress_laws.specs.bus_books.proofs.Lookups.{id_is}
-use Rattle.progress_laws.specs.trace_laws.specs.ItemFacts.{AreChecked}
-use Rattle.progress_laws.specs.trace_laws.proofs.PointerWaits.{change_over}
-use Rattle.progress_laws.specs.trace_laws.proofs.OverItems.{events_checked}
-use Rattle.progress_laws.specs.trace_laws.proofs.Whole.{standing_next, whole}
-use Rattle.progress_laws.specs.Debts.{PaysWell, is_owed}
-use Rattle.progress_laws.proofs.DebtEvents.{AllPay}
-use Rattle.progress_laws.proofs.DebtNext.{senses_same}
-use Rattle.progress_laws.proofs.DebtTraces.{Indebted, indebted, row_pays}
-use Rattle.progress_laws.proofs.OwedRows.{Holds, changed}
-use Rattle.initiator.specs.Causes.{has_status}
-use Rattle.delivery_laws.specs.Endings.{is_sense_stop, was_sense_stopped}
+use Rattle.delivery_laws.proofs
+use proofs.Names.{ℕ, suc, zero, ◌≡◌, ◌+◌, ◌<◌, Bool, true, false, not, ◌&&◌, ◌||◌, ◌∙◌, List, [], ◌∷◌, ◌++◌, Option}
+use proofs.Names.{Some, None, refl, sym, ap, arith, ne_eqb, list_any, if◌then◌else◌, ◌==◌, and_second, eq_self, wrong}
+use proofs.Names.{wrong', Event, ProcId, Row, CHECK_CONDITION, ScenarioValue, Obeys, CmdDef, command_at, same_bool}
+use proofs.Names.{same_id, RowReading, row_reading, row_events_by, Sent, command_id, command_item, has_item, is_open}
+use proofs.Names.{sense_id, sense_item, has_end, Ending, Story, by_abort, by_reset, by_status, is_aborted}
+use proofs.Names.{is_sense_stopped, story_after_event, story_after_events, story_with_end, story_with_end_if}
+use proofs.Names.{story_with_ends, story_with_over, with_check, story_by_change, IsPrompt, RunState, run_state, id_is}
+use proofs.Names.{least_is, events_checked, change_over, standing_next, whole, AreChecked, AllPay, senses_same}
+use proofs.Names.{Indebted, indebted, row_pays, Holds, changed, PaysWell, is_owed, has_status, is_sense_stop}
+use proofs.Names.{was_sense_stopped}
 
 -- The command ended with CHECK CONDITION.
 abbrev is_checked : Sent → ℕ → Bool
@@ -238,11 +213,11 @@ no_more true = refl
 no_more false = refl
 
 stop_event : (s : ScenarioValue) (b : Story) (h : List Event) (n : ℕ) (c : CmdDef) (e : Event) → command_at s.commands n ≡ Some c → AreChecked b.sent → PaysWell s b.sent e → IsStopTold b.sent h n c → IsStopTold (story_after_event s b e).sent (e ∷ h) n c
-stop_event s b h n c (events.Accept id) at closed pays w = record { over = w.over; apart = w.apart; checks = w.checks }
-stop_event s b h n c (events.Refuse id) at closed pays w = record { over = w.over; apart = w.apart; checks = w.checks }
-stop_event s b h n c (events.Run id) at closed pays w = record { over = w.over; apart = w.apart; checks = w.checks }
-stop_event s b h n c (events.Fail id code) at closed pays w = record { over = w.over; apart = w.apart; checks = w.checks }
-stop_event s b h n c (events.End id status) at closed pays w = record {
+stop_event s b h n c (Event.Accept id) at closed pays w = record { over = w.over; apart = w.apart; checks = w.checks }
+stop_event s b h n c (Event.Refuse id) at closed pays w = record { over = w.over; apart = w.apart; checks = w.checks }
+stop_event s b h n c (Event.Run id) at closed pays w = record { over = w.over; apart = w.apart; checks = w.checks }
+stop_event s b h n c (Event.Fail id code) at closed pays w = record { over = w.over; apart = w.apart; checks = w.checks }
+stop_event s b h n c (Event.End id status) at closed pays w = record {
   over = check_over b id status n ∙ (λ i. same_id id (sense_id n) || w.over i) ∙ alike (same_id id (sense_id n)) (has_end h (sense_id n)) (was_sense_stopped h n c);
   apart = λ z. (λ i. fresh (same_id id (sense_id n)) refl z i || w.apart z i);
   checks = (λ i. (same_id id (command_id n) && status == CHECK_CONDITION) || w.checks i) ∙ sym (check_checks b id status n);
@@ -264,7 +239,7 @@ stop_event s b h n c (events.End id status) at closed pays w = record {
         or_true : (a : Bool) → (a || true) ≡ true
         or_true true = refl
         or_true false = refl
-stop_event s b h n c (events.Lost id) at closed pays w = record {
+stop_event s b h n c (Event.Lost id) at closed pays w = record {
   over = (λ i. (id.command == n && same_bool (pays i) true) || has_item b.sent.over (sense_item n)) ∙ off (id.command == n) ∙ w.over;
   apart = w.apart;
   checks = w.checks;
@@ -273,12 +248,12 @@ stop_event s b h n c (events.Lost id) at closed pays w = record {
     off : (q : Bool) → ((q && false) || has_item b.sent.over (sense_item n)) ≡ has_item b.sent.over (sense_item n)
     off true = refl
     off false = refl
-stop_event s b h n c (events.Aborted host target unit what) at closed pays w =
-    stops_more b h n c (events.Aborted host target unit what) (story_after_event s b (events.Aborted host target unit what)).sent (is_sense_stopped host target unit what c) refl refl refl
+stop_event s b h n c (Event.Aborted host target unit what) at closed pays w =
+    stops_more b h n c (Event.Aborted host target unit what) (story_after_event s b (Event.Aborted host target unit what)).sent (is_sense_stopped host target unit what c) refl refl refl
     (ends_at (is_aborted host target unit what) (is_sense_stopped host target unit what) by_abort s.commands b n c at closed)
     (ends_checks (is_aborted host target unit what) (is_sense_stopped host target unit what) by_abort 1 s.commands b) w
-stop_event s b h n c (events.Reset dev) at closed pays w =
-    stops_more b h n c (events.Reset dev) (story_after_event s b (events.Reset dev)).sent true refl refl refl
+stop_event s b h n c (Event.Reset dev) at closed pays w =
+    stops_more b h n c (Event.Reset dev) (story_after_event s b (Event.Reset dev)).sent true refl refl refl
     (ends_at (λ c. true) (λ c. true) by_reset s.commands b n c at closed) (ends_checks (λ c. true) (λ c. true) by_reset 1 s.commands b) w
 
 stop_events : (s : ScenarioValue) (b : Story) (h : List Event) (n : ℕ) (c : CmdDef) (shown : List Event) → command_at s.commands n ≡ Some c → AreChecked b.sent → AllPay s b shown → IsStopTold b.sent h n c → IsStopTold (story_after_events s b shown).sent (shown ++ h) n c

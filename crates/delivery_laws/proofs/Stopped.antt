@@ -1,41 +1,16 @@
 -- A command of a prompt trace that has ended is without the sense of its CHECK CONDITION only where its automatic REQUEST SENSE was stopped (7.8).
-use Rattle.std.proofs.Common.{ℕ, ◌≡◌, Bool, true, false, ◌&&◌, ◌||◌, ◌∙◌, List, [], ◌∷◌, Option, Some, None, refl, sym, ap, subst}
-use Rattle.std.specs.Prelude.{if◌then◌else◌, ◌==◌, is_some}
-use Rattle.std.proofs.lemmas.Bool.{and_from, eqb-true, eq-eqb, or_left}
-use Rattle.bus_due.specs.bus_base.specs.declared.Event.{Event}
-use Rattle.bus_due.specs.bus_base.specs.declared.Event.TheVariants as events
-use Rattle.bus_due.specs.bus_base.specs.declared.ProcId.{ProcId}
-use Rattle.bus_due.specs.bus_base.proofs.Tests.{eq_self, wrong, wrong'}
-use Rattle.bus_due.specs.bus_trace.specs.declared.Row.{Row}
-use Rattle.bus_due.specs.cdb_codec.specs.declared.Sense.{Sense}
-use Rattle.bus_due.specs.cdb_codec.specs.declared.status.TheConstants.{CHECK_CONDITION, GOOD, QUEUE_FULL}
-use Rattle.bus_due.specs.scenario.specs.declared.value.CmdDef.{CmdDef}
-use Rattle.bus_due.specs.scenario.specs.Value.{ScenarioValue}
-use Rattle.bus_due.specs.scenario.specs.Writing.{Obeys}
-use Rattle.bus_due.specs.disk_array.specs.ArrayHistory.{array_after, reply_of}
-use Rattle.bus_due.specs.disk_array.specs.Processes.{command_at, same_id}
-use Rattle.bus_due.specs.disk_array.specs.Units.{Array}
-use Rattle.bus_due.specs.bus_story.specs.Items.{command_id, has_item, sense_id, sense_item}
-use Rattle.bus_due.specs.bus_story.specs.Outcomes.{Outcome, ended_check, ended_full, ended_good, ending_of, has_end, is_end_of, outcome_if, outcome_of, reply_bytes, reply_bytes_if, sense_in, sense_of_end}
-use Rattle.bus_due.specs.bus_story.specs.Story.{Ending, Story, by_abort, by_loss, by_reset, by_status, unanswered}
-use Rattle.bus_due.specs.bus_story.specs.TraceHistory.{story}
-use Rattle.bus_due.specs.Next.{IsEnded, IsPrompt}
-use Rattle.bus_due.specs.Plain.{IsPlain}
-use Rattle.bus_due.specs.RunState.{RunState, array_of, or_start}
-use Rattle.bus_due.specs.RunSteps.{run_state}
-use Rattle.bus_due.proofs.Plains.{prompt_plain}
-use Rattle.progress_laws.specs.trace_laws.specs.ItemFacts.{Items}
-use Rattle.progress_laws.specs.trace_laws.proofs.Whole.{whole}
-use Rattle.progress_laws.proofs.Answered.{AreUnwanted, sense_wanted}
-use Rattle.progress_laws.proofs.DebtTraces.{Indebted, indebted}
-use Rattle.progress_laws.proofs.Ended.{Joined, free_when_ended, joined, unwanted_when_ended}
-use Rattle.progress_laws.proofs.Entries.{WantsAreItems}
-use Rattle.right_laws.proofs.Right.{all_joined}
-use Rattle.initiator.specs.Causes.{has_sense_stop, has_status, is_status_of}
-use Rattle.delivery_laws.proofs.Checks.{IsChecked, checks_stand}
-use Rattle.delivery_laws.proofs.Delivered.{HaveCauses}
-use Rattle.delivery_laws.proofs.EndStatuses.{HasReply, all_ended, end_found, end_reply}
-use Rattle.delivery_laws.proofs.SenseReplies.{AreTold, all_told, is_filled, is_known}
+use Rattle.delivery_laws.proofs
+use proofs.Names.{ℕ, ◌≡◌, Bool, true, false, ◌&&◌, ◌||◌, ◌∙◌, List, [], ◌∷◌, Option, Some, None, refl, sym, ap, subst}
+use proofs.Names.{and_from, eqb-true, eq-eqb, or_left, if◌then◌else◌, ◌==◌, is_some, eq_self, wrong, wrong', Event}
+use proofs.Names.{ProcId, Row, Sense, CHECK_CONDITION, GOOD, QUEUE_FULL, ScenarioValue, Obeys, CmdDef, array_after}
+use proofs.Names.{reply_of, command_at, same_id, Array, command_id, has_item, sense_id, sense_item, Outcome}
+use proofs.Names.{ended_check, ended_full, ended_good, ending_of, has_end, is_end_of, outcome_if, outcome_of}
+use proofs.Names.{reply_bytes, reply_bytes_if, sense_in, sense_of_end, Ending, Story, by_abort, by_loss, by_reset}
+use proofs.Names.{by_status, unanswered, story, prompt_plain, IsEnded, IsPrompt, IsPlain, RunState, array_of, or_start}
+use proofs.Names.{run_state, whole, Items, AreUnwanted, sense_wanted, Indebted, indebted, Joined, free_when_ended}
+use proofs.Names.{joined, unwanted_when_ended, WantsAreItems, all_joined, has_sense_stop, has_status, is_status_of}
+use proofs.{Checks.{IsChecked, checks_stand}, Delivered.{HaveCauses}, EndStatuses.{HasReply, all_ended, end_found}}
+use proofs.{EndStatuses.{end_reply}, SenseReplies.{AreTold, all_told, is_filled, is_known}}
 
 -- ---- the ending behind a CHECK CONDITION without sense
 
@@ -92,14 +67,14 @@ end_status (x ∷ history) id e = go (is_end_of id x) refl e (λ z. end_status h
         or_other false z = z
 
     here : (y : Event) → is_end_of id y ≡ true → HasStatus (y ∷ history) id
-    here (events.End p code) z = record { status = code; has = or_left (same_id p id && code == code) (has_status history id code) (and_from (same_id p id) (code == code) z (eq_self code)) }
-    here (events.Accept p) z = wrong' z
-    here (events.Refuse p) z = wrong' z
-    here (events.Run p) z = wrong' z
-    here (events.Fail p code) z = wrong' z
-    here (events.Lost p) z = wrong' z
-    here (events.Aborted i t m what) z = wrong' z
-    here (events.Reset dev) z = wrong' z
+    here (Event.End p code) z = record { status = code; has = or_left (same_id p id && code == code) (has_status history id code) (and_from (same_id p id) (code == code) z (eq_self code)) }
+    here (Event.Accept p) z = wrong' z
+    here (Event.Refuse p) z = wrong' z
+    here (Event.Run p) z = wrong' z
+    here (Event.Fail p code) z = wrong' z
+    here (Event.Lost p) z = wrong' z
+    here (Event.Aborted i t m what) z = wrong' z
+    here (Event.Reset dev) z = wrong' z
 
     go : (q : Bool) → is_end_of id x ≡ q → (q || has_end history id) ≡ true → (has_end history id ≡ true → HasStatus history id) → HasStatus (x ∷ history) id
     go true z f rest = here x z

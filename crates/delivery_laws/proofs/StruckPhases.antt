@@ -1,44 +1,22 @@
 -- In COMMAND and DATA OUT a target takes a phase for struck exactly where a fault row stands in it (6.6.19).
-use Rattle.std.proofs.Common.{ℕ, ◌≡◌, Bool, true, false, not, ◌&&◌, ◌||◌, ◌∙◌, List, [], ◌∷◌, Option, Some, None, refl, sym, ap}
-use Rattle.std.specs.Prelude.{if◌then◌else◌, is_some}
-use Rattle.bus_due.specs.bus_base.proofs.Tests.{wrong, wrong'}
-use Rattle.bus_due.specs.bus_trace.specs.LineSet.{LineSet}
-use Rattle.bus_due.specs.bus_trace.specs.declared.Row.{Row}
-use Rattle.bus_due.specs.bus_trace.specs.declared.changes.Change.{Change}
-use Rattle.bus_due.specs.bus_trace.specs.declared.connection.Connection.{Connection}
-use Rattle.bus_due.specs.bus_trace.specs.Phases.{changes_phase, is_message_out}
-use Rattle.bus_due.specs.bus_trace.specs.Terms.{is_fault}
-use Rattle.bus_due.specs.scenario.specs.Value.{ScenarioValue}
-use Rattle.bus_due.specs.scenario.specs.Writing.{Obeys}
-use Rattle.bus_due.specs.bus_dialogue.specs.declared.exchange.Leaving.{Leaving}
-use Rattle.bus_due.specs.bus_dialogue.specs.declared.exchange.Phase.{Phase}
-use Rattle.bus_due.specs.bus_dialogue.specs.declared.exchange.Phase.TheVariants as phases
-use Rattle.bus_due.specs.bus_dialogue.specs.declared.exchange.Plan.{Plan}
-use Rattle.bus_due.specs.bus_dialogue.specs.declared.exchange.Hearing.{Hearing}
-use Rattle.bus_due.specs.bus_dialogue.specs.Planning.{plan_after, plan_in_phase, plan_with_byte}
-use Rattle.bus_due.specs.bus_dialogue.specs.Exchange.{struck_plan, plan_after_message}
-use Rattle.bus_due.specs.bus_dialogue.specs.NextPhase.{phase_of}
-use Rattle.bus_due.specs.bus_story.specs.BusState.{RowReading, row_reading}
-use Rattle.bus_due.specs.Next.{IsPrompt}
-use Rattle.bus_due.specs.RunState.{RunState, bus_of}
-use Rattle.bus_due.specs.RunSteps.{exchange_after, leaving_of, run_state}
-use Rattle.bus_due.specs.Sights.{hearing_of}
-use Rattle.progress_laws.specs.bus_books.specs.Rows.{IsRowIn, RowKind, crosses, still, strikes, turns}
-use Rattle.progress_laws.specs.bus_books.specs.Traces.{RowOf, apart, begins, ends, goes_on, under_reset}
-use Rattle.progress_laws.specs.bus_books.specs.WrongParity.{is_struck_phase, is_wrong_phase}
-use Rattle.progress_laws.specs.bus_books.proofs.InConnection.{reading_is}
-use Rattle.progress_laws.specs.trace_laws.proofs.UndoneAnswers.{same_phase_of}
-use Rattle.progress_laws.specs.trace_laws.proofs.Whole.{standing_next, whole}
+use Rattle.delivery_laws.proofs
+use proofs.Names.{ℕ, ◌≡◌, Bool, true, false, not, ◌&&◌, ◌||◌, ◌∙◌, List, [], ◌∷◌, Option, Some, None, refl, sym, ap}
+use proofs.Names.{if◌then◌else◌, is_some, wrong, wrong', LineSet, changes_phase, is_message_out, is_fault, Row, Change}
+use proofs.Names.{Connection, ScenarioValue, Obeys, RowReading, row_reading, struck_plan, plan_after_message, phase_of}
+use proofs.Names.{plan_after, plan_in_phase, plan_with_byte, Hearing, Leaving, Phase, Plan, IsPrompt, RunState, bus_of}
+use proofs.Names.{exchange_after, leaving_of, run_state, hearing_of, reading_is, IsRowIn, RowKind, crosses, still}
+use proofs.Names.{strikes, turns, RowOf, apart, begins, ends, goes_on, under_reset, is_struck_phase, is_wrong_phase}
+use proofs.Names.{same_phase_of, standing_next, whole}
 
 abbrev is_taken : Phase → Bool
-is_taken phases.Command = true
-is_taken phases.DataOut = true
+is_taken Phase.Command = true
+is_taken Phase.DataOut = true
 is_taken _ = false
 
 taken_lines : (l : LineSet) → is_taken (phase_of l) ≡ true → (l.io ≡ false) × (is_message_out l ≡ false)
 taken_lines l e = go l.msg l.cd l.io e
   where
-    go : (m c i : Bool) → is_taken (if m then (if i then phases.MessageIn else phases.MessageOut) else if c then (if i then phases.Status else phases.Command) else if i then phases.DataIn else phases.DataOut) ≡ true → (i ≡ false) × ((m && c && not i) ≡ false)
+    go : (m c i : Bool) → is_taken (if m then (if i then Phase.MessageIn else Phase.MessageOut) else if c then (if i then Phase.Status else Phase.Command) else if i then Phase.DataIn else Phase.DataOut) ≡ true → (i ≡ false) × ((m && c && not i) ≡ false)
     go true c true z = wrong' z
     go true c false z = wrong' z
     go false true true z = wrong' z
@@ -137,9 +115,9 @@ wrong_for_target s p o prompt e = go (phase_of (bus_of (run_state s p))) refl e
     plan = (run_state s p).exchange.plan
 
     go : (x : Phase) → phase_of (bus_of (run_state s p)) ≡ x → is_wrong_phase (is_struck_phase s p) plan x ≡ true → is_wrong_phase plan.struck plan x ≡ true
-    go phases.Command f z = struck_taken s p o prompt z (ap is_taken f)
-    go phases.DataOut f z = struck_taken s p o prompt z (ap is_taken f)
-    go phases.MessageOut f z = z
-    go phases.MessageIn f z = z
-    go phases.DataIn f z = z
-    go phases.Status f z = z
+    go Phase.Command f z = struck_taken s p o prompt z (ap is_taken f)
+    go Phase.DataOut f z = struck_taken s p o prompt z (ap is_taken f)
+    go Phase.MessageOut f z = z
+    go Phase.MessageIn f z = z
+    go Phase.DataIn f z = z
+    go Phase.Status f z = z

@@ -1,28 +1,12 @@
 -- A row refuses no command where every command that arrives with it is accepted.
-use Rattle.std.proofs.Common.{ℕ, ◌≡◌, Bool, true, false, not, ◌&&◌, ◌||◌, List, [], ◌∷◌, ◌++◌, Option, Some, None, refl}
-use Rattle.std.specs.Prelude.{if◌then◌else◌, is_some}
-use Rattle.std.specs.List.{list_all, list_any}
-use Rattle.std.proofs.lemmas.Bool.{and_from, and_parts}
-use Rattle.bus_due.specs.bus_base.specs.declared.Event.{Event}
-use Rattle.bus_due.specs.bus_base.specs.declared.Event.TheVariants as events
-use Rattle.bus_due.specs.bus_base.specs.declared.ProcId.{ProcId}
-use Rattle.bus_due.specs.bus_base.proofs.Tests.{and_first, and_second, wrong'}
-use Rattle.bus_due.specs.bus_trace.specs.LineSet.{LineSet}
-use Rattle.bus_due.specs.bus_trace.specs.declared.Row.{Row}
-use Rattle.bus_due.specs.bus_trace.specs.Changes.{rises}
-use Rattle.bus_due.specs.bus_trace.specs.Phases.{changes_phase, is_command}
-use Rattle.bus_due.specs.scenario.specs.declared.value.AbortDef.{AbortDef}
-use Rattle.bus_due.specs.scenario.specs.Value.{ScenarioValue}
-use Rattle.bus_due.specs.disk_array.specs.ArrayHistory.{array_after}
-use Rattle.bus_due.specs.bus_story.specs.BusState.{RowReading}
-use Rattle.bus_due.specs.bus_story.specs.CarriedBytes.{CarriedBytes, is_whole_block, is_status_phase}
-use Rattle.bus_due.specs.bus_story.specs.HistoryEvents.{abort_line_at, abort_line_events, bus_free_events, carried_if, end_events, is_completion, is_refuse, item_abort_events, item_loss_events, link_events, phase_events, queue_events, row_events_by, status_event, status_events}
-use Rattle.bus_due.specs.bus_story.specs.Items.{Item, process, abort}
-use Rattle.bus_due.specs.bus_story.specs.Links.{Link, LastMessage, plain, complete, disconnect, abortive}
-use Rattle.bus_due.specs.bus_story.specs.Story.{Story}
-use Rattle.bus_due.specs.Telling.{same_event}
-use Rattle.progress_laws.specs.bus_books.specs.FullQueues.{has_event}
-use Rattle.progress_laws.specs.trace_laws.proofs.ArrivalRows.{ArrivesNow}
+use Rattle.delivery_laws.proofs
+use proofs.Names.{ℕ, ◌≡◌, Bool, true, false, not, ◌&&◌, ◌||◌, List, [], ◌∷◌, ◌++◌, Option, Some, None, refl, and_from}
+use proofs.Names.{and_parts, list_all, list_any, if◌then◌else◌, is_some, and_first, and_second, wrong', Event, ProcId}
+use proofs.Names.{rises, LineSet, changes_phase, is_command, Row, ScenarioValue, AbortDef, array_after, RowReading}
+use proofs.Names.{CarriedBytes, is_whole_block, is_status_phase, abort_line_at, abort_line_events, bus_free_events}
+use proofs.Names.{carried_if, end_events, is_completion, is_refuse, item_abort_events, item_loss_events, link_events}
+use proofs.Names.{phase_events, queue_events, row_events_by, status_event, status_events, Item, process, abort, Link}
+use proofs.Names.{LastMessage, plain, complete, disconnect, abortive, Story, same_event, has_event, ArrivesNow}
 
 abbrev pub is_taken : Event → Bool
 is_taken e = not (is_refuse e)
@@ -37,18 +21,18 @@ taken_both (x ∷ xs) ys h g =
     (taken_both xs ys (and_second (is_taken x) (list_all (λ (e : Event). is_taken e) xs) h) g)
 
 abbrev IsAccepted : ScenarioValue → Story → CarriedBytes → Type 0
-IsAccepted s b c = is_some (array_after s (events.Accept c.id ∷ b.history)) ≡ true
+IsAccepted s b c = is_some (array_after s (Event.Accept c.id ∷ b.history)) ≡ true
 
 queue_taken : (s : ScenarioValue) (b : Story) (c : Option CarriedBytes) (before : LineSet) → ((x : CarriedBytes) → c ≡ Some x → is_whole_block x ≡ true → is_command before ≡ true → IsAccepted s b x) → AreTaken (queue_events s b c before)
 queue_taken s b None before h = refl
 queue_taken s b (Some k) before h = go (is_command before && is_whole_block k) refl
   where
-    by : (r : Bool) → r ≡ true → AreTaken ((if r then events.Accept k.id else events.Refuse k.id) ∷ [])
+    by : (r : Bool) → r ≡ true → AreTaken ((if r then Event.Accept k.id else Event.Refuse k.id) ∷ [])
     by true e = refl
     by false e = wrong' e
 
-    go : (q : Bool) → (is_command before && is_whole_block k) ≡ q → AreTaken (if q then (if is_some (array_after s (events.Accept k.id ∷ b.history)) then events.Accept k.id else events.Refuse k.id) ∷ [] else [])
-    go true e = let two = and_parts (is_command before) (is_whole_block k) e in by (is_some (array_after s (events.Accept k.id ∷ b.history))) (h k refl two.1 two.0)
+    go : (q : Bool) → (is_command before && is_whole_block k) ≡ q → AreTaken (if q then (if is_some (array_after s (Event.Accept k.id ∷ b.history)) then Event.Accept k.id else Event.Refuse k.id) ∷ [] else [])
+    go true e = let two = and_parts (is_command before) (is_whole_block k) e in by (is_some (array_after s (Event.Accept k.id ∷ b.history))) (h k refl two.1 two.0)
     go false e = refl
 
 status_taken : (c : Option CarriedBytes) (after : LineSet) (arrived : List Event) → AreTaken arrived → AreTaken (status_events c after arrived)
@@ -100,25 +84,25 @@ row_taken s b d row h = go d.change.after.rst refl
         by true f false g false = refl
         by false f y g z = free_taken s l l.last
 
-    reset : (y : Bool) → AreTaken (if y then events.Reset row.dev ∷ [] else [])
+    reset : (y : Bool) → AreTaken (if y then Event.Reset row.dev ∷ [] else [])
     reset true = refl
     reset false = refl
 
-    go : (x : Bool) → d.change.after.rst ≡ x → AreTaken (if x then (if rises d.change.own.rst d.change.next.rst then events.Reset row.dev ∷ [] else []) else link_events s b b.link d)
+    go : (x : Bool) → d.change.after.rst ≡ x → AreTaken (if x then (if rises d.change.own.rst d.change.next.rst then Event.Reset row.dev ∷ [] else []) else link_events s b b.link d)
     go true e = reset (rises d.change.own.rst d.change.next.rst)
     go false e = linked e b.link refl
 
-refusal : (e : Event) (id : ProcId) → is_taken e ≡ true → same_event e (events.Refuse id) ≡ false
-refusal (events.Refuse p) id h = wrong' h
-refusal (events.Accept p) id h = refl
-refusal (events.Run p) id h = refl
-refusal (events.Fail p code) id h = refl
-refusal (events.End p status) id h = refl
-refusal (events.Lost p) id h = refl
-refusal (events.Aborted i t n what) id h = refl
-refusal (events.Reset dev) id h = refl
+refusal : (e : Event) (id : ProcId) → is_taken e ≡ true → same_event e (Event.Refuse id) ≡ false
+refusal (Event.Refuse p) id h = wrong' h
+refusal (Event.Accept p) id h = refl
+refusal (Event.Run p) id h = refl
+refusal (Event.Fail p code) id h = refl
+refusal (Event.End p status) id h = refl
+refusal (Event.Lost p) id h = refl
+refusal (Event.Aborted i t n what) id h = refl
+refusal (Event.Reset dev) id h = refl
 
-pub never_refused : (h : List Event) (id : ProcId) → AreTaken h → has_event h (events.Refuse id) ≡ false
+pub never_refused : (h : List Event) (id : ProcId) → AreTaken h → has_event h (Event.Refuse id) ≡ false
 never_refused [] id e = refl
 never_refused (x ∷ h) id e =
     let two = and_parts (is_taken x) (list_all (λ (y : Event). is_taken y) h) e in

@@ -1,41 +1,13 @@
 -- Whose target is absent, of that process no event is shown; and no automatic REQUEST SENSE is lost.
-use Rattle.std.proofs.Common.{inl, inr, ℕ, ◌≡◌, ◌⊎◌, Bool, true, false, ◌||◌, ◌∙◌, List, [], ◌∷◌, ◌++◌, Option, Some, None, refl, sym, ap}
-use Rattle.std.specs.Prelude.{if◌then◌else◌}
-use Rattle.std.specs.List.{list_any}
-use Rattle.bus_due.specs.bus_base.specs.declared.Event.{Event}
-use Rattle.bus_due.specs.bus_base.specs.declared.Event.TheVariants as events
-use Rattle.bus_due.specs.bus_base.specs.declared.ProcId.{ProcId}
-use Rattle.bus_due.specs.bus_base.proofs.Tests.{wrong, wrong'}
-use Rattle.bus_due.specs.bus_trace.specs.declared.Row.{Row}
-use Rattle.bus_due.specs.bus_trace.specs.declared.connection.Connection.{Connection}
-use Rattle.bus_due.specs.bus_trace.specs.Changes.{rises}
-use Rattle.bus_due.specs.scenario.specs.Lookups.{has_target}
-use Rattle.bus_due.specs.scenario.specs.Value.{ScenarioValue}
-use Rattle.bus_due.specs.scenario.specs.Writing.{Obeys}
-use Rattle.bus_due.specs.disk_array.specs.Processes.{Process, process_of, same_id}
-use Rattle.bus_due.specs.bus_story.specs.BusState.{RowReading, row_reading}
-use Rattle.bus_due.specs.bus_story.specs.HistoryEvents.{link_events, row_events_by}
-use Rattle.bus_due.specs.bus_story.specs.Items.{Item, process, sense_id}
-use Rattle.bus_due.specs.bus_story.specs.Links.{Link}
-use Rattle.bus_due.specs.bus_story.specs.Story.{Story}
-use Rattle.bus_due.specs.bus_story.specs.TraceHistory.{story_by_change}
-use Rattle.bus_due.specs.Next.{IsPrompt}
-use Rattle.bus_due.specs.Plain.{IsPlain}
-use Rattle.bus_due.specs.RunState.{RunState, bus_of, item_of}
-use Rattle.bus_due.specs.RunSteps.{run_state}
-use Rattle.bus_due.proofs.Plains.{run_state_plain}
-use Rattle.progress_laws.specs.bus_books.specs.Traces.{RowOf, apart, begins, ends, goes_on, under_reset}
-use Rattle.progress_laws.specs.bus_books.proofs.Lookups.{id_is}
-use Rattle.progress_laws.specs.bus_laws.proofs.Prompt.{least_is}
-use Rattle.progress_laws.specs.trace_laws.proofs.Impossible.{none_some}
-use Rattle.progress_laws.specs.trace_laws.proofs.RowEvents.{AllOf, process_in, row_of}
-use Rattle.progress_laws.specs.trace_laws.proofs.Whole.{Whole, standing_next, whole}
-use Rattle.progress_laws.proofs.DebtEvents.{AllPay}
+use Rattle.delivery_laws.proofs
+use proofs.Names.{inl, inr, ℕ, ◌≡◌, ◌⊎◌, Bool, true, false, ◌||◌, ◌∙◌, List, [], ◌∷◌, ◌++◌, Option, Some, None, refl}
+use proofs.Names.{sym, ap, list_any, if◌then◌else◌, wrong, wrong', Event, ProcId, rises, Row, Connection, has_target}
+use proofs.Names.{ScenarioValue, Obeys, Process, process_of, same_id, RowReading, row_reading, link_events}
+use proofs.Names.{row_events_by, Item, process, sense_id, Link, Story, story_by_change, run_state_plain, IsPrompt}
+use proofs.Names.{IsPlain, RunState, bus_of, item_of, run_state, id_is, RowOf, apart, begins, ends, goes_on}
+use proofs.Names.{under_reset, least_is, none_some, AllOf, process_in, row_of, Whole, standing_next, whole, AllPay}
+use proofs.{Names.{Indebted, indebted, row_pays, has_loss, is_loss_of}, OwnRows.{Coming}, Present.{served_there}}
 use Rattle.progress_laws.proofs.DebtNext.{known_served}
-use Rattle.progress_laws.proofs.DebtTraces.{Indebted, indebted, row_pays}
-use Rattle.initiator.specs.Causes.{has_loss, is_loss_of}
-use Rattle.delivery_laws.proofs.OwnRows.{Coming}
-use Rattle.delivery_laws.proofs.Present.{served_there}
 
 -- ---- events of a process
 
@@ -101,9 +73,9 @@ shown_there s p row o prompt id q own has = go (standing_next s p row o prompt w
     reset : d.change.after.rst ≡ true → has_target s q.target ≡ true
     reset on =
         by (rises d.change.own.rst d.change.next.rst)
-        (ap (λ (x : Bool). has_about (if x then (if rises d.change.own.rst d.change.next.rst then events.Reset row.dev ∷ [] else []) else link_events s k.story k.story.link d) id) (sym on) ∙ has)
+        (ap (λ (x : Bool). has_about (if x then (if rises d.change.own.rst d.change.next.rst then Event.Reset row.dev ∷ [] else []) else link_events s k.story k.story.link d) id) (sym on) ∙ has)
       where
-        by : (x : Bool) → has_about (if x then events.Reset row.dev ∷ [] else []) id ≡ true → has_target s q.target ≡ true
+        by : (x : Bool) → has_about (if x then Event.Reset row.dev ∷ [] else []) id ≡ true → has_target s q.target ≡ true
         by true z = wrong' z
         by false z = wrong' z
 
@@ -128,18 +100,18 @@ about_there s (row ∷ p) o prompt id q own e =
 
 pays_losses : {A : Type 0} (s : ScenarioValue) (b : Story) (n : ℕ) (shown : List Event) → AllPay s b shown → has_loss shown (sense_id n) ≡ true → A
 pays_losses s b n [] well e = wrong' e
-pays_losses s b n (events.Lost id ∷ shown) well e = go (same_id id (sense_id n)) refl e (λ z. pays_losses s b n shown well.1 z)
+pays_losses s b n (Event.Lost id ∷ shown) well e = go (same_id id (sense_id n)) refl e (λ z. pays_losses s b n shown well.1 z)
   where
     go : {A : Type 0} (q : Bool) → same_id id (sense_id n) ≡ q → (q || has_loss shown (sense_id n)) ≡ true → (has_loss shown (sense_id n) ≡ true → A) → A
     go true f z rest = wrong (ap (λ (x : ProcId). x.sense) (sym (id_is id (sense_id n) f)) ∙ well.0)
     go false f z rest = rest z
-pays_losses s b n (events.Accept id ∷ shown) well e = pays_losses s b n shown well.1 e
-pays_losses s b n (events.Refuse id ∷ shown) well e = pays_losses s b n shown well.1 e
-pays_losses s b n (events.Run id ∷ shown) well e = pays_losses s b n shown well.1 e
-pays_losses s b n (events.Fail id code ∷ shown) well e = pays_losses s b n shown well.1 e
-pays_losses s b n (events.End id status ∷ shown) well e = pays_losses s b n shown well.1 e
-pays_losses s b n (events.Aborted i t m what ∷ shown) well e = pays_losses s b n shown well.1 e
-pays_losses s b n (events.Reset dev ∷ shown) well e = pays_losses s b n shown well.1 e
+pays_losses s b n (Event.Accept id ∷ shown) well e = pays_losses s b n shown well.1 e
+pays_losses s b n (Event.Refuse id ∷ shown) well e = pays_losses s b n shown well.1 e
+pays_losses s b n (Event.Run id ∷ shown) well e = pays_losses s b n shown well.1 e
+pays_losses s b n (Event.Fail id code ∷ shown) well e = pays_losses s b n shown well.1 e
+pays_losses s b n (Event.End id status ∷ shown) well e = pays_losses s b n shown well.1 e
+pays_losses s b n (Event.Aborted i t m what ∷ shown) well e = pays_losses s b n shown well.1 e
+pays_losses s b n (Event.Reset dev ∷ shown) well e = pays_losses s b n shown well.1 e
 
 pub no_sense_lost : {A : Type 0} (s : ScenarioValue) (p : List Row) (n : ℕ) → Obeys s → IsPrompt s p → has_loss (run_state s p).story.history (sense_id n) ≡ true → A
 no_sense_lost s [] n o prompt e = wrong' e

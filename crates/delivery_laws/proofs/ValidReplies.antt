@@ -1,59 +1,33 @@
 -- In a history without resets and aborts no attention stands, so a valid command that runs is answered GOOD (7.2, 7.3, 8.2).
-use Rattle.std.proofs.Common.{ℕ, ◌≡◌, ◌⊎◌, inl, inr, Bool, true, false, not, ◌&&◌, ◌||◌, ◌∙◌, List, [], ◌∷◌, ◌++◌, Option, Some, None, Result, Ok, Err, length, refl, sym, ap, subst}
-use Rattle.std.specs.Prelude.{if◌then◌else◌, ◌==◌, is_none, is_some, nat_lt, slice_index, ⊤}
-use Rattle.std.specs.List.{list_all, list_any}
-use Rattle.std.proofs.lemmas.Bool.{eqb-true, or_left, or_right}
-use Rattle.std.proofs.lemmas.Option.{same_Some}
-use Rattle.bus_due.specs.bus_base.specs.declared.Event.{Event}
-use Rattle.bus_due.specs.bus_base.specs.declared.Event.TheVariants as events
-use Rattle.bus_due.specs.bus_base.specs.declared.ProcId.{ProcId}
-use Rattle.bus_due.specs.bus_base.proofs.Tests.{wrong', and_first, and_second}
-use Rattle.bus_due.specs.cdb_codec.specs.Cdb.{command_of, sized_of, has_group_len, are_zero, spare_room}
-use Rattle.bus_due.specs.cdb_codec.specs.Operations.{operation_of}
-use Rattle.bus_due.specs.cdb_codec.specs.declared.command.CdbFault.{CdbFault}
-use Rattle.bus_due.specs.cdb_codec.specs.declared.command.CdbFault.TheVariants as faults
-use Rattle.bus_due.specs.cdb_codec.specs.declared.command.Command.{Command}
-use Rattle.bus_due.specs.cdb_codec.specs.declared.command.Command.TheVariants as commands
-use Rattle.bus_due.specs.cdb_codec.specs.declared.operation.Operation.TheVariants as operations
-use Rattle.bus_due.specs.cdb_codec.specs.declared.operation.TheConstants.{INQUIRY, REQUEST_SENSE}
-use Rattle.bus_due.specs.cdb_codec.specs.declared.sense.TheConstants.{ABORTED_COMMAND}
-use Rattle.bus_due.specs.cdb_codec.specs.declared.status.TheConstants.{CHECK_CONDITION, GOOD}
-use Rattle.bus_due.specs.scenario.specs.declared.value.CmdDef.{CmdDef}
-use Rattle.bus_due.specs.scenario.specs.declared.value.UnitDef.{UnitDef}
-use Rattle.bus_due.specs.scenario.specs.Lookups.{has_target, unit_of}
-use Rattle.bus_due.specs.scenario.specs.Value.{ScenarioValue}
-use Rattle.bus_due.specs.scenario.specs.Writing.{Obeys}
-use Rattle.bus_due.specs.disk_array.specs.ArrayHistory.{array_after, array_step, reply_in}
-use Rattle.bus_due.specs.disk_array.specs.Execution.{CommandContext, Reply, attention_execution, block_out_of_range, cdb_execution, check_condition, command_execution, execution, is_good_range, is_opcode, is_request_sense, needs_unit, queue_full, range_execution, range_of, reply_execution, sense_of, unit_not_supported}
-use Rattle.bus_due.specs.disk_array.specs.Processes.{Process, command_at, process_of, process_if, process_by, same_id}
-use Rattle.bus_due.specs.disk_array.specs.SoundArray.{IsSound}
-use Rattle.bus_due.specs.disk_array.specs.Steps as Steps
-use Rattle.bus_due.specs.disk_array.specs.Units.{Array, Nexus, RunningProcess, UnitState, guest_at, is_held, nexus_of, nexuses_without, sense_of_nexus, senses_without, settled_array, unit_state_at, with_unit}
-use Rattle.bus_due.specs.disk_array.proofs.ArrayReplies.{fail_lists, loss_lists, took, end_lists}
-use Rattle.bus_due.specs.disk_array.proofs.SoundArrays.{history_sound}
-use Rattle.bus_due.specs.bus_story.specs.Items.{command_id}
-use Rattle.bus_due.specs.bus_story.specs.Outcomes.{fits_unit, is_sound_command, is_valid}
-use Rattle.progress_laws.specs.bus_books.proofs.Lookups.{id_is, self_id}
-use Rattle.progress_laws.specs.scsi_device.proofs.FitLines.{obeys_fits, seats_are}
-use Rattle.progress_laws.specs.target_units.specs.Rooms.{AreOfLines, IsOfLine}
-use Rattle.progress_laws.specs.target_units.proofs.Rooms.{lines_always}
-use Rattle.progress_laws.specs.trace_laws.proofs.Impossible.{none_some}
-use Rattle.progress_laws.specs.trace_laws.proofs.ListedReplies.{accepted, refused, settles, running_id}
-use Rattle.progress_laws.specs.trace_laws.proofs.OtherProcesses.{executed, reply_at}
-use Rattle.progress_laws.proofs.OwedEvents.{running_own}
-use Rattle.delivery_laws.specs.Delivery.{is_given_up_by, is_calm_event}
+use Rattle.delivery_laws.proofs
+use proofs.Names.{ℕ, ◌≡◌, ◌⊎◌, inl, inr, Bool, true, false, not, ◌&&◌, ◌||◌, ◌∙◌, List, [], ◌∷◌, ◌++◌, Option, Some}
+use proofs.Names.{None, Result, Ok, Err, length, refl, sym, ap, subst, eqb-true, or_left, or_right, same_Some, list_all}
+use proofs.Names.{list_any, if◌then◌else◌, ◌==◌, is_none, is_some, nat_lt, slice_index, ⊤, wrong', and_first}
+use proofs.Names.{and_second, Event, ProcId, command_of, sized_of, has_group_len, are_zero, spare_room, operation_of}
+use proofs.Names.{CdbFault, Command, Operation, INQUIRY, REQUEST_SENSE, ABORTED_COMMAND, CHECK_CONDITION, GOOD}
+use proofs.Names.{has_target, unit_of, ScenarioValue, Obeys, CmdDef, UnitDef, fail_lists, loss_lists, took, end_lists}
+use proofs.Names.{history_sound, array_after, array_step, reply_in, CommandContext, Reply, attention_execution}
+use proofs.Names.{block_out_of_range, cdb_execution, check_condition, command_execution, execution, is_good_range}
+use proofs.Names.{is_opcode, is_request_sense, needs_unit, queue_full, range_execution, range_of, reply_execution}
+use proofs.Names.{sense_of, unit_not_supported, Process, command_at, process_of, process_if, process_by, same_id}
+use proofs.Names.{IsSound, Array, Nexus, RunningProcess, UnitState, guest_at, is_held, nexus_of, nexuses_without}
+use proofs.Names.{sense_of_nexus, senses_without, settled_array, unit_state_at, with_unit, command_id, fits_unit}
+use proofs.Names.{is_sound_command, is_valid, obeys_fits, seats_are, lines_always, AreOfLines, IsOfLine, id_is, self_id}
+use proofs.Names.{none_some, executed, reply_at, accepted, refused, settles, running_id, running_own, is_given_up_by}
+use proofs.Names.{is_calm_event}
+use Rattle.bus_due.specs.disk_array.specs.Steps
 
 -- ---- what a command without fault answers, where no attention stands and its range is good
 
 command_good : (m : CommandContext) (c : Command) (sent : List ℕ) → (command_execution m c sent).reply.status ≡ GOOD
-command_good m commands.TestUnitReady sent = refl
-command_good m (commands.RequestSense room) sent = refl
-command_good m (commands.Read6 lba count) sent = refl
-command_good m (commands.Write6 lba count) sent = refl
-command_good m (commands.Inquiry room) sent = refl
-command_good m commands.ReadCapacity sent = refl
-command_good m (commands.Read10 lba count) sent = refl
-command_good m (commands.Write10 lba count) sent = refl
+command_good m Command.TestUnitReady sent = refl
+command_good m (Command.RequestSense room) sent = refl
+command_good m (Command.Read6 lba count) sent = refl
+command_good m (Command.Write6 lba count) sent = refl
+command_good m (Command.Inquiry room) sent = refl
+command_good m Command.ReadCapacity sent = refl
+command_good m (Command.Read10 lba count) sent = refl
+command_good m (Command.Write10 lba count) sent = refl
 
 range_good : (m : CommandContext) (c : Command) (sent : List ℕ) → is_good_range m.contents.count (range_of c) ≡ true → (range_execution m c sent).reply.status ≡ GOOD
 range_good m c sent e = ap (λ (q : Bool). (if q then command_execution m c sent else reply_execution m (check_condition block_out_of_range)).reply.status) e ∙ command_good m c sent
@@ -68,39 +42,39 @@ run_good m cdb sent c there calm is range =
 -- ---- INQUIRY and REQUEST SENSE without fault name no blocks, and need no unit
 
 abbrev is_inquiry_or_faulty : Result Command CdbFault → Bool
-is_inquiry_or_faulty (Ok (commands.Inquiry room)) = true
-is_inquiry_or_faulty (Ok commands.TestUnitReady) = false
-is_inquiry_or_faulty (Ok (commands.RequestSense room)) = false
-is_inquiry_or_faulty (Ok (commands.Read6 lba count)) = false
-is_inquiry_or_faulty (Ok (commands.Write6 lba count)) = false
-is_inquiry_or_faulty (Ok commands.ReadCapacity) = false
-is_inquiry_or_faulty (Ok (commands.Read10 lba count)) = false
-is_inquiry_or_faulty (Ok (commands.Write10 lba count)) = false
+is_inquiry_or_faulty (Ok (Command.Inquiry room)) = true
+is_inquiry_or_faulty (Ok Command.TestUnitReady) = false
+is_inquiry_or_faulty (Ok (Command.RequestSense room)) = false
+is_inquiry_or_faulty (Ok (Command.Read6 lba count)) = false
+is_inquiry_or_faulty (Ok (Command.Write6 lba count)) = false
+is_inquiry_or_faulty (Ok Command.ReadCapacity) = false
+is_inquiry_or_faulty (Ok (Command.Read10 lba count)) = false
+is_inquiry_or_faulty (Ok (Command.Write10 lba count)) = false
 is_inquiry_or_faulty (Err fault) = true
 
 abbrev is_sense_or_faulty : Result Command CdbFault → Bool
-is_sense_or_faulty (Ok (commands.RequestSense room)) = true
-is_sense_or_faulty (Ok commands.TestUnitReady) = false
-is_sense_or_faulty (Ok (commands.Inquiry room)) = false
-is_sense_or_faulty (Ok (commands.Read6 lba count)) = false
-is_sense_or_faulty (Ok (commands.Write6 lba count)) = false
-is_sense_or_faulty (Ok commands.ReadCapacity) = false
-is_sense_or_faulty (Ok (commands.Read10 lba count)) = false
-is_sense_or_faulty (Ok (commands.Write10 lba count)) = false
+is_sense_or_faulty (Ok (Command.RequestSense room)) = true
+is_sense_or_faulty (Ok Command.TestUnitReady) = false
+is_sense_or_faulty (Ok (Command.Inquiry room)) = false
+is_sense_or_faulty (Ok (Command.Read6 lba count)) = false
+is_sense_or_faulty (Ok (Command.Write6 lba count)) = false
+is_sense_or_faulty (Ok Command.ReadCapacity) = false
+is_sense_or_faulty (Ok (Command.Read10 lba count)) = false
+is_sense_or_faulty (Ok (Command.Write10 lba count)) = false
 is_sense_or_faulty (Err fault) = true
 
-sized_inquiry : (cdb : List ℕ) → is_inquiry_or_faulty (sized_of (Some operations.Inquiry) cdb) ≡ true
+sized_inquiry : (cdb : List ℕ) → is_inquiry_or_faulty (sized_of (Some Operation.Inquiry) cdb) ≡ true
 sized_inquiry cdb = go (has_group_len cdb) (are_zero (spare_room cdb))
   where
-    go : (y z : Bool) → is_inquiry_or_faulty (if y then (if z then Ok (commands.Inquiry (slice_index cdb 4)) else Err faults.Field) else Err faults.Length) ≡ true
+    go : (y z : Bool) → is_inquiry_or_faulty (if y then (if z then Ok (Command.Inquiry (slice_index cdb 4)) else Err CdbFault.Field) else Err CdbFault.Length) ≡ true
     go true true = refl
     go true false = refl
     go false z = refl
 
-sized_sense : (cdb : List ℕ) → is_sense_or_faulty (sized_of (Some operations.RequestSense) cdb) ≡ true
+sized_sense : (cdb : List ℕ) → is_sense_or_faulty (sized_of (Some Operation.RequestSense) cdb) ≡ true
 sized_sense cdb = go (has_group_len cdb) (are_zero (spare_room cdb))
   where
-    go : (y z : Bool) → is_sense_or_faulty (if y then (if z then Ok (commands.RequestSense (slice_index cdb 4)) else Err faults.Field) else Err faults.Length) ≡ true
+    go : (y z : Bool) → is_sense_or_faulty (if y then (if z then Ok (Command.RequestSense (slice_index cdb 4)) else Err CdbFault.Field) else Err CdbFault.Length) ≡ true
     go true true = refl
     go true false = refl
     go false z = refl
@@ -108,7 +82,7 @@ sized_sense cdb = go (has_group_len cdb) (are_zero (spare_room cdb))
 inquiry_command : (cdb : List ℕ) → is_opcode cdb INQUIRY ≡ true → is_inquiry_or_faulty (command_of cdb) ≡ true
 inquiry_command cdb h = go (length cdb == 0) h
   where
-    go : (y : Bool) → (not y && slice_index cdb 0 == INQUIRY) ≡ true → is_inquiry_or_faulty (if y then Err faults.Length else sized_of (operation_of (slice_index cdb 0)) cdb) ≡ true
+    go : (y : Bool) → (not y && slice_index cdb 0 == INQUIRY) ≡ true → is_inquiry_or_faulty (if y then Err CdbFault.Length else sized_of (operation_of (slice_index cdb 0)) cdb) ≡ true
     go true k = refl
     go false k =
         let code : slice_index cdb 0 ≡ INQUIRY = eqb-true (slice_index cdb 0) INQUIRY k in
@@ -117,31 +91,31 @@ inquiry_command cdb h = go (length cdb == 0) h
 sense_command : (cdb : List ℕ) → is_opcode cdb REQUEST_SENSE ≡ true → is_sense_or_faulty (command_of cdb) ≡ true
 sense_command cdb h = go (length cdb == 0) h
   where
-    go : (y : Bool) → (not y && slice_index cdb 0 == REQUEST_SENSE) ≡ true → is_sense_or_faulty (if y then Err faults.Length else sized_of (operation_of (slice_index cdb 0)) cdb) ≡ true
+    go : (y : Bool) → (not y && slice_index cdb 0 == REQUEST_SENSE) ≡ true → is_sense_or_faulty (if y then Err CdbFault.Length else sized_of (operation_of (slice_index cdb 0)) cdb) ≡ true
     go true k = refl
     go false k =
         let code : slice_index cdb 0 ≡ REQUEST_SENSE = eqb-true (slice_index cdb 0) REQUEST_SENSE k in
         (λ i. is_sense_or_faulty (sized_of (operation_of (code i)) cdb)) ∙ sized_sense cdb
 
 inquiry_range : (blocks : ℕ) (c : Command) → is_inquiry_or_faulty (Ok c) ≡ true → is_good_range blocks (range_of c) ≡ true
-inquiry_range blocks (commands.Inquiry room) e = refl
-inquiry_range blocks commands.TestUnitReady e = wrong' e
-inquiry_range blocks (commands.RequestSense room) e = wrong' e
-inquiry_range blocks (commands.Read6 lba count) e = wrong' e
-inquiry_range blocks (commands.Write6 lba count) e = wrong' e
-inquiry_range blocks commands.ReadCapacity e = wrong' e
-inquiry_range blocks (commands.Read10 lba count) e = wrong' e
-inquiry_range blocks (commands.Write10 lba count) e = wrong' e
+inquiry_range blocks (Command.Inquiry room) e = refl
+inquiry_range blocks Command.TestUnitReady e = wrong' e
+inquiry_range blocks (Command.RequestSense room) e = wrong' e
+inquiry_range blocks (Command.Read6 lba count) e = wrong' e
+inquiry_range blocks (Command.Write6 lba count) e = wrong' e
+inquiry_range blocks Command.ReadCapacity e = wrong' e
+inquiry_range blocks (Command.Read10 lba count) e = wrong' e
+inquiry_range blocks (Command.Write10 lba count) e = wrong' e
 
 sense_range : (blocks : ℕ) (c : Command) → is_sense_or_faulty (Ok c) ≡ true → (is_good_range blocks (range_of c) ≡ true) × (is_request_sense (Ok c) ≡ true)
-sense_range blocks (commands.RequestSense room) e = (refl, refl)
-sense_range blocks commands.TestUnitReady e = wrong' e
-sense_range blocks (commands.Inquiry room) e = wrong' e
-sense_range blocks (commands.Read6 lba count) e = wrong' e
-sense_range blocks (commands.Write6 lba count) e = wrong' e
-sense_range blocks commands.ReadCapacity e = wrong' e
-sense_range blocks (commands.Read10 lba count) e = wrong' e
-sense_range blocks (commands.Write10 lba count) e = wrong' e
+sense_range blocks (Command.RequestSense room) e = (refl, refl)
+sense_range blocks Command.TestUnitReady e = wrong' e
+sense_range blocks (Command.Inquiry room) e = wrong' e
+sense_range blocks (Command.Read6 lba count) e = wrong' e
+sense_range blocks (Command.Write6 lba count) e = wrong' e
+sense_range blocks Command.ReadCapacity e = wrong' e
+sense_range blocks (Command.Read10 lba count) e = wrong' e
+sense_range blocks (Command.Write10 lba count) e = wrong' e
 
 -- ---- a valid command at its unit
 
@@ -250,7 +224,7 @@ record IsAlong (s : ScenarioValue) (a : Array) : Type 0 where
   lines : AreOfLines s a
   calm : a.attentions ≡ []
 
-ran : (s : ScenarioValue) (h : List Event) (a c : Array) (id : ProcId) (guest : Bool) (o : Option RunningProcess) → IsAlong s a → Steps.running_process a id ≡ o → Steps.run_step a guest o ≡ Some c → AreFair s h a.replies → AreFair s (events.Run id ∷ h) c.replies
+ran : (s : ScenarioValue) (h : List Event) (a c : Array) (id : ProcId) (guest : Bool) (o : Option RunningProcess) → IsAlong s a → Steps.running_process a id ≡ o → Steps.run_step a guest o ≡ Some c → AreFair s h a.replies → AreFair s (Event.Run id ∷ h) c.replies
 ran s h a c id guest None is f e g = none_some c e
 ran s h a c id guest (Some r) is f e g = go (is_none r.reply && (guest || not (is_held a.holds r.process.target r.process.unit))) e
   where
@@ -267,32 +241,32 @@ ran s h a c id guest (Some r) is f e g = go (is_none r.reply && (guest || not (i
         (λ i. (execution (Steps.context_at a (nexus_of r.process) (unit_state_at a.units (sym target i) (sym unit i))) (sym cdb i) r.process.sent).reply.status)
         ∙ valid_answers s a (nexus_of r.process) d r.process.sent is.lines is.calm valid
 
-    go : (x : Bool) → (if x then Some (Steps.after_execution_at a r.process u) else None) ≡ Some c → AreFair s (events.Run id ∷ h) c.replies
+    go : (x : Bool) → (if x then Some (Steps.after_execution_at a r.process u) else None) ≡ Some c → AreFair s (Event.Run id ∷ h) c.replies
     go true z =
-        one_more s h (events.Run id) a.replies c.replies r.process.id (reply_at a r.process u) (took (Steps.after_execution_at a r.process u) c _ z (executed a r.process u).replies)
+        one_more s h (Event.Run id) a.replies c.replies r.process.id (reply_at a r.process u) (took (Steps.after_execution_at a r.process u) c _ z (executed a r.process u).replies)
         (λ n d at valid own. inl (good n d at valid own)) g
     go false z = none_some c z
 
 step_fair : (s : ScenarioValue) (h : List Event) (a d : Array) (e : Event) → IsAlong s a → is_calm_event e ≡ true → Steps.step s e a ≡ Some d → AreFair s h a.replies → AreFair s (e ∷ h) d.replies
-step_fair s h a d (events.Accept id) is calm e g =
-    settles (Steps.accept_step a (process_of s id)) d (λ (x : Array). AreFair s (events.Accept id ∷ h) x.replies) (λ c k. no_more s h (events.Accept id) a.replies c.replies (accepted a c (process_of s id) k) g) e
-step_fair s h a d (events.Refuse id) is calm e g =
-    settles (Steps.refuse_step a (process_of s id)) d (λ (x : Array). AreFair s (events.Refuse id ∷ h) x.replies)
-    (λ c k. one_more s h (events.Refuse id) a.replies c.replies id queue_full (refused s a c id (process_of s id) refl k) (λ n x at valid own. inr (ap (λ (y : ProcId). same_id y (command_id n)) own ∙ self_id (command_id n))) g) e
-step_fair s h a d (events.Run id) is calm e g =
-    settles (Steps.run_step a (is_some (guest_at a.guests id)) (Steps.running_process a id)) d (λ (x : Array). AreFair s (events.Run id ∷ h) x.replies)
+step_fair s h a d (Event.Accept id) is calm e g =
+    settles (Steps.accept_step a (process_of s id)) d (λ (x : Array). AreFair s (Event.Accept id ∷ h) x.replies) (λ c k. no_more s h (Event.Accept id) a.replies c.replies (accepted a c (process_of s id) k) g) e
+step_fair s h a d (Event.Refuse id) is calm e g =
+    settles (Steps.refuse_step a (process_of s id)) d (λ (x : Array). AreFair s (Event.Refuse id ∷ h) x.replies)
+    (λ c k. one_more s h (Event.Refuse id) a.replies c.replies id queue_full (refused s a c id (process_of s id) refl k) (λ n x at valid own. inr (ap (λ (y : ProcId). same_id y (command_id n)) own ∙ self_id (command_id n))) g) e
+step_fair s h a d (Event.Run id) is calm e g =
+    settles (Steps.run_step a (is_some (guest_at a.guests id)) (Steps.running_process a id)) d (λ (x : Array). AreFair s (Event.Run id ∷ h) x.replies)
     (λ c k. ran s h a c id (is_some (guest_at a.guests id)) (Steps.running_process a id) is refl k g) e
-step_fair s h a d (events.Fail id code) is calm e g =
-    settles (Steps.fail_step s a id (check_condition (sense_of ABORTED_COMMAND code 0x00)) (Steps.running_process a id)) d (λ (x : Array). AreFair s (events.Fail id code ∷ h) x.replies)
-    (λ c k. one_more s h (events.Fail id code) a.replies c.replies id (check_condition (sense_of ABORTED_COMMAND code 0x00))
+step_fair s h a d (Event.Fail id code) is calm e g =
+    settles (Steps.fail_step s a id (check_condition (sense_of ABORTED_COMMAND code 0x00)) (Steps.running_process a id)) d (λ (x : Array). AreFair s (Event.Fail id code ∷ h) x.replies)
+    (λ c k. one_more s h (Event.Fail id code) a.replies c.replies id (check_condition (sense_of ABORTED_COMMAND code 0x00))
     (fail_lists s a c id (check_condition (sense_of ABORTED_COMMAND code 0x00)) (Steps.running_process a id) k) (λ n x at valid own. inr (ap (λ (y : ProcId). same_id y (command_id n)) own ∙ self_id (command_id n))) g) e
-step_fair s h a d (events.End id status) is calm e g =
-    settles (Steps.end_step a status (Steps.running_process a id)) d (λ (x : Array). AreFair s (events.End id status ∷ h) x.replies)
-    (λ c k. no_more s h (events.End id status) a.replies c.replies (end_lists a c status (Steps.running_process a id) k) g) e
-step_fair s h a d (events.Lost id) is calm e g =
-    settles (Steps.loss_step a id) d (λ (x : Array). AreFair s (events.Lost id ∷ h) x.replies) (λ c k. no_more s h (events.Lost id) a.replies c.replies (loss_lists a c id k) g) e
-step_fair s h a d (events.Aborted i t n what) is calm e g = wrong' calm
-step_fair s h a d (events.Reset dev) is calm e g = wrong' calm
+step_fair s h a d (Event.End id status) is calm e g =
+    settles (Steps.end_step a status (Steps.running_process a id)) d (λ (x : Array). AreFair s (Event.End id status ∷ h) x.replies)
+    (λ c k. no_more s h (Event.End id status) a.replies c.replies (end_lists a c status (Steps.running_process a id) k) g) e
+step_fair s h a d (Event.Lost id) is calm e g =
+    settles (Steps.loss_step a id) d (λ (x : Array). AreFair s (Event.Lost id ∷ h) x.replies) (λ c k. no_more s h (Event.Lost id) a.replies c.replies (loss_lists a c id k) g) e
+step_fair s h a d (Event.Aborted i t n what) is calm e g = wrong' calm
+step_fair s h a d (Event.Reset dev) is calm e g = wrong' calm
 
 -- ---- no attention stands
 
@@ -373,14 +347,14 @@ calm_ended a status (Some r) h = by r.reply
         (stays reply (reply.status == CHECK_CONDITION) (reply.status == GOOD && is_request_sense (command_of r.process.cdb)))
 
 calm_event : (s : ScenarioValue) (a : Array) (e : Event) → is_calm_event e ≡ true → IsCalm a → IfCalm (Steps.event_step s a e)
-calm_event s a (events.Accept id) q h = calm_accepted a (process_of s id) h
-calm_event s a (events.Refuse id) q h = calm_refused a (process_of s id) h
-calm_event s a (events.Run id) q h = calm_ran a (is_some (guest_at a.guests id)) (Steps.running_process a id) h
-calm_event s a (events.Fail id code) q h = calm_failed s a id (check_condition (sense_of ABORTED_COMMAND code 0x00)) (Steps.running_process a id) h
-calm_event s a (events.End id status) q h = calm_ended a status (Steps.running_process a id) h
-calm_event s a (events.Lost id) q h = calm_none (Steps.has_ended a id) (Steps.array_without a id) h
-calm_event s a (events.Aborted i t n what) q h = wrong' q
-calm_event s a (events.Reset dev) q h = wrong' q
+calm_event s a (Event.Accept id) q h = calm_accepted a (process_of s id) h
+calm_event s a (Event.Refuse id) q h = calm_refused a (process_of s id) h
+calm_event s a (Event.Run id) q h = calm_ran a (is_some (guest_at a.guests id)) (Steps.running_process a id) h
+calm_event s a (Event.Fail id code) q h = calm_failed s a id (check_condition (sense_of ABORTED_COMMAND code 0x00)) (Steps.running_process a id) h
+calm_event s a (Event.End id status) q h = calm_ended a status (Steps.running_process a id) h
+calm_event s a (Event.Lost id) q h = calm_none (Steps.has_ended a id) (Steps.array_without a id) h
+calm_event s a (Event.Aborted i t n what) q h = wrong' q
+calm_event s a (Event.Reset dev) q h = wrong' q
 
 calm_step : (s : ScenarioValue) (a d : Array) (e : Event) → is_calm_event e ≡ true → Steps.step s e a ≡ Some d → IsCalm a → IsCalm d
 calm_step s a d e q st h = go (Steps.event_step s a e) (calm_event s a e q h) st

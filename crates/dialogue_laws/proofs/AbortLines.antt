@@ -1,57 +1,22 @@
 -- Row by row of a prompt trace: each abort line is sent, dropped or still to be sent; and at its end none is to be sent.
-use Rattle.std.proofs.Common.{inl, inr, ℕ, zero, suc, ◌≡◌, ◌⊎◌, ◌<◌, ◌≤◌, ◌+◌, Bool, true, false, not, ◌&&◌, ◌||◌, ◌∙◌, List, [], ◌∷◌, ◌++◌, Option, Some, None, refl, sym, ap, subst, arith}
-use Rattle.std.specs.Prelude.{if◌then◌else◌, ◌==◌, is_none, nat_lt}
-use Rattle.std.specs.List.{list_any}
-use Rattle.std.proofs.lemmas.Bool.{ltb-true, ltb-false}
-use Rattle.std.proofs.lemmas.Option.{same_Some}
-use Rattle.bus_due.specs.bus_base.proofs.Tests.{eq_self, wrong, wrong'}
-use Rattle.bus_due.specs.bus_base.specs.declared.Event.{Event}
-use Rattle.bus_due.specs.bus_base.specs.declared.Event.TheVariants as events
-use Rattle.bus_due.specs.bus_trace.specs.declared.Row.{Row}
-use Rattle.bus_due.specs.bus_trace.specs.declared.changes.Change.{Change}
-use Rattle.bus_due.specs.bus_trace.specs.declared.selection.Call.{Call}
-use Rattle.bus_due.specs.bus_trace.specs.declared.selection.Calling.{Calling}
-use Rattle.bus_due.specs.bus_trace.specs.Changes.{change_of, falls}
-use Rattle.bus_due.specs.bus_trace.specs.Terms.{connection, connection_after}
-use Rattle.bus_due.specs.bus_trace.specs.Trace.{bus}
-use Rattle.bus_due.specs.cdb_codec.specs.declared.status.TheConstants.{CHECK_CONDITION}
-use Rattle.bus_due.specs.scenario.specs.declared.value.AbortDef.{AbortDef}
-use Rattle.bus_due.specs.scenario.specs.declared.value.CmdDef.{CmdDef}
-use Rattle.bus_due.specs.scenario.specs.Value.{ScenarioValue}
-use Rattle.bus_due.specs.scenario.specs.Writing.{Obeys}
-use Rattle.bus_due.specs.bus_story.specs.BusState.{RowReading, row_reading}
-use Rattle.bus_due.specs.bus_story.specs.HistoryEvents.{abort_line_at, row_events_by}
-use Rattle.bus_due.specs.bus_story.specs.Items.{Item, Sent, abort, count_item, has_item, is_done, is_open, process, same_item, sense_item}
-use Rattle.bus_due.specs.bus_story.specs.Story.{Ending, Story, by_abort, by_reset, by_status, is_aborted, is_sense_stopped, story_after_event, story_after_events, story_with_end, story_with_end_if, story_with_ends, story_with_over}
-use Rattle.bus_due.specs.bus_story.specs.TraceHistory.{aim_of, is_arbitration_entry, is_counted, retries_of, story_after_calling, story_after_calling_by, story_by_change, story_on_bus, story_on_free_bus, story_with_aim, story_with_try, story_without_answer}
-use Rattle.bus_due.specs.bus_reactions.specs.Reactions.{sooner_time, time_if}
-use Rattle.bus_due.specs.bus_dialogue.specs.Wants.{abort_since}
-use Rattle.bus_due.specs.Next.{IsPrompt}
-use Rattle.bus_due.specs.Plain.{IsPlain}
-use Rattle.bus_due.specs.RunState.{RunState}
-use Rattle.bus_due.specs.RunSteps.{run_state}
-use Rattle.bus_due.specs.Wants.{item_want_time, own_abort, own_aborts, ready_of, ready_time, want_time}
-use Rattle.bus_due.proofs.Plains.{run_state_plain}
-use Rattle.progress_laws.specs.scsi_device.specs.Lines.{IsAbortLine}
-use Rattle.progress_laws.specs.scsi_device.proofs.FitLines.{abort_fits, obeys_fits}
-use Rattle.progress_laws.specs.bus_books.specs.Items.{IsItem, is_abort, is_process}
-use Rattle.progress_laws.specs.bus_books.specs.Traces.{RowOf, apart as row_apart, begins, goes_on, ends, under_reset}
-use Rattle.progress_laws.specs.bus_books.proofs.Aims.{aims_are}
-use Rattle.progress_laws.specs.bus_laws.proofs.Apart.{change_plain}
-use Rattle.progress_laws.specs.bus_laws.proofs.Prompt.{least_is}
-use Rattle.progress_laws.specs.link_laws.specs.LinkStages.{AnyStage, apart, linked}
-use Rattle.progress_laws.specs.trace_laws.proofs.FirstItems.{next_unended, next_unsent}
-use Rattle.progress_laws.specs.trace_laws.proofs.FirstTalks.{first_sent, sent_with}
-use Rattle.progress_laws.specs.trace_laws.proofs.FreshItems.{items_fresh}
-use Rattle.progress_laws.specs.trace_laws.proofs.Impossible.{none_some}
-use Rattle.progress_laws.specs.trace_laws.proofs.ItemFacts.{falls_quiet}
-use Rattle.progress_laws.specs.trace_laws.proofs.ItemSteps.{free_still}
-use Rattle.progress_laws.specs.trace_laws.proofs.Joint.{NextStood, link_connection}
-use Rattle.progress_laws.specs.trace_laws.proofs.OpenCommands.{item_is}
-use Rattle.progress_laws.specs.trace_laws.proofs.PointerWaits.{connection_sent}
-use Rattle.progress_laws.specs.trace_laws.proofs.Whole.{Whole, standing_next, whole}
-use Rattle.progress_laws.proofs.Rooms.{initiator_there}
-use Rattle.dialogue_laws.specs.AbortLines.{AbortEnd, IsToSend, was_dropped, was_sent}
+use Rattle.dialogue_laws.proofs
+use proofs.Names.{inl, inr, ℕ, zero, suc, ◌≡◌, ◌⊎◌, ◌<◌, ◌≤◌, ◌+◌, Bool, true, false, not, ◌&&◌, ◌||◌, ◌∙◌, List, []}
+use proofs.Names.{◌∷◌, ◌++◌, Option, Some, None, refl, sym, ap, subst, arith, ltb-true, ltb-false, same_Some, list_any}
+use proofs.Names.{if◌then◌else◌, ◌==◌, is_none, nat_lt, eq_self, wrong, wrong', Event, change_of, falls, connection}
+use proofs.Names.{connection_after, bus, Row, Change, Call, Calling, CHECK_CONDITION, ScenarioValue, Obeys, AbortDef}
+use proofs.Names.{CmdDef, RowReading, row_reading, abort_line_at, row_events_by, Item, Sent, abort, count_item}
+use proofs.Names.{has_item, is_done, is_open, process, same_item, sense_item, Ending, Story, by_abort, by_reset}
+use proofs.Names.{by_status, is_aborted, is_sense_stopped, story_after_event, story_after_events, story_with_end}
+use proofs.Names.{story_with_end_if, story_with_ends, story_with_over, aim_of, is_arbitration_entry, is_counted}
+use proofs.Names.{retries_of, story_after_calling, story_after_calling_by, story_by_change, story_on_bus}
+use proofs.Names.{story_on_free_bus, story_with_aim, story_with_try, story_without_answer, sooner_time, time_if}
+use proofs.Names.{abort_since, run_state_plain, IsPrompt, IsPlain, RunState, run_state, item_want_time, own_abort}
+use proofs.Names.{own_aborts, ready_of, ready_time, want_time, abort_fits, obeys_fits, IsAbortLine, aims_are, IsItem}
+use proofs.Names.{is_abort, is_process, RowOf, apart as row_apart, begins, goes_on, ends, under_reset, change_plain}
+use proofs.Names.{least_is, AnyStage, linked, none_some, falls_quiet, next_unended, next_unsent, items_fresh, item_is}
+use proofs.Names.{free_still, NextStood, link_connection, connection_sent, first_sent, sent_with, Whole, standing_next}
+use proofs.Names.{whole, initiator_there, AbortEnd, IsToSend, was_dropped, was_sent}
+use Rattle.progress_laws.specs.link_laws.specs.LinkStages.{apart}
 
 abbrev pub AbortState : ScenarioValue → Sent → ℕ → AbortDef → Type 0
 AbortState s b n a = AbortEnd s b n a ⊎ IsToSend s b n a
@@ -92,11 +57,11 @@ ends_same drops stops e k n (c ∷ commands) b =
     same_then n b.sent next.sent (story_with_ends drops stops e (k + 1) commands next).sent (one_end (is_open b.sent k && drops c) (stops c && list_any (λ j. j == k) b.sent.checks) k n e b) (ends_same drops stops e (k + 1) n commands next)
 
 event_same : (s : ScenarioValue) (n : ℕ) (b : Story) (event : Event) → Same n b.sent (story_after_event s b event).sent
-event_same s n b (events.Accept id) = record { sent = refl; over = refl; tries = refl }
-event_same s n b (events.Refuse id) = record { sent = refl; over = refl; tries = refl }
-event_same s n b (events.Run id) = record { sent = refl; over = refl; tries = refl }
-event_same s n b (events.Fail id code) = record { sent = refl; over = refl; tries = refl }
-event_same s n b (events.End id status) = go (not id.sense && status == CHECK_CONDITION)
+event_same s n b (Event.Accept id) = record { sent = refl; over = refl; tries = refl }
+event_same s n b (Event.Refuse id) = record { sent = refl; over = refl; tries = refl }
+event_same s n b (Event.Run id) = record { sent = refl; over = refl; tries = refl }
+event_same s n b (Event.Fail id code) = record { sent = refl; over = refl; tries = refl }
+event_same s n b (Event.End id status) = go (not id.sense && status == CHECK_CONDITION)
   where
     over : Story
     over = story_with_end b id (by_status status)
@@ -104,9 +69,9 @@ event_same s n b (events.End id status) = go (not id.sense && status == CHECK_CO
     go : (q : Bool) → Same n b.sent (if q then record over { sent = record over.sent { checks = b.sent.checks ++ id.command ∷ [] } } else over).sent
     go true = record { sent = refl; over = refl; tries = refl }
     go false = record { sent = refl; over = refl; tries = refl }
-event_same s n b (events.Lost id) = record { sent = refl; over = refl; tries = refl }
-event_same s n b (events.Aborted host target unit what) = ends_same (is_aborted host target unit what) (is_sense_stopped host target unit what) by_abort 1 n s.commands b
-event_same s n b (events.Reset dev) = ends_same (λ c. true) (λ c. true) by_reset 1 n s.commands b
+event_same s n b (Event.Lost id) = record { sent = refl; over = refl; tries = refl }
+event_same s n b (Event.Aborted host target unit what) = ends_same (is_aborted host target unit what) (is_sense_stopped host target unit what) by_abort 1 n s.commands b
+event_same s n b (Event.Reset dev) = ends_same (λ c. true) (λ c. true) by_reset 1 n s.commands b
 
 events_same : (s : ScenarioValue) (n : ℕ) (b : Story) (shown : List Event) → Same n b.sent (story_after_events s b shown).sent
 events_same s n b [] = record { sent = refl; over = refl; tries = refl }

@@ -1,68 +1,31 @@
 -- Row by row of a prompt trace: the connection that began for an abort line stands, or its end was told, or RST cut it.
-use Rattle.std.proofs.Common.{inl, inr, ℕ, ◌≡◌, ◌⊎◌, ◌<◌, Bool, true, false, ◌&&◌, ◌||◌, ◌∙◌, List, [], ◌∷◌, ◌++◌, Option, Some, None, refl, sym, ap}
-use Rattle.std.specs.Prelude.{if◌then◌else◌, is_some}
-use Rattle.std.proofs.lemmas.Bool.{or_left, or_right}
-use Rattle.std.proofs.lemmas.Option.{same_Some}
-use Rattle.bus_due.specs.bus_base.proofs.Tests.{eq_self, wrong, wrong'}
-use Rattle.bus_due.specs.bus_base.specs.declared.AbortKind.{AbortKind}
-use Rattle.bus_due.specs.bus_base.specs.declared.AbortKind.TheVariants as aborts
-use Rattle.bus_due.specs.bus_base.specs.declared.Event.{Event}
-use Rattle.bus_due.specs.bus_base.specs.declared.Event.TheVariants as events
-use Rattle.bus_due.specs.bus_trace.specs.declared.Row.{Row}
-use Rattle.bus_due.specs.bus_trace.specs.declared.changes.Change.{Change}
-use Rattle.bus_due.specs.bus_trace.specs.Changes.{change_of, rises}
-use Rattle.bus_due.specs.bus_trace.specs.LineSet.{LineSet}
-use Rattle.bus_due.specs.bus_trace.specs.Terms.{connection, connection_after}
-use Rattle.bus_due.specs.bus_trace.specs.Trace.{bus}
-use Rattle.bus_due.specs.scenario.specs.declared.value.AbortDef.{AbortDef}
-use Rattle.bus_due.specs.scenario.specs.Value.{ScenarioValue}
-use Rattle.bus_due.specs.scenario.specs.Writing.{Obeys}
-use Rattle.bus_due.specs.bus_story.specs.BusState.{RowReading, row_reading}
-use Rattle.bus_due.specs.bus_story.specs.HistoryEvents.{abort_line_at, abort_line_events, bus_free_events, connection_events, item_abort_events, link_events, row_events_by}
-use Rattle.bus_due.specs.bus_story.specs.Items.{Item, Sent, abort, has_item, process, same_item}
-use Rattle.bus_due.specs.bus_story.specs.Links.{abortive}
-use Rattle.bus_due.specs.bus_story.specs.TraceHistory.{aim_of, story_by_change, story_on_bus}
-use Rattle.bus_due.specs.bus_story.proofs.StorySteps.{events_sent}
-use Rattle.bus_due.specs.Next.{IsPrompt}
-use Rattle.bus_due.specs.Plain.{IsPlain}
-use Rattle.bus_due.specs.RunState.{RunState, bus_of}
-use Rattle.bus_due.specs.RunSteps.{run_state, served_after, item_if}
-use Rattle.bus_due.specs.Telling.{same_event, same_kind}
-use Rattle.bus_due.specs.Wants.{ready_of}
-use Rattle.bus_due.proofs.Plains.{run_state_plain}
-use Rattle.progress_laws.specs.scsi_device.proofs.FitLines.{obeys_fits, units_are}
-use Rattle.progress_laws.specs.bus_books.specs.FullQueues.{has_event}
-use Rattle.progress_laws.specs.bus_books.specs.Knowing.{Knows}
-use Rattle.progress_laws.specs.bus_books.specs.Traces.{Books, RowOf, apart as row_apart, begins, goes_on, ends, under_reset}
-use Rattle.progress_laws.specs.bus_books.specs.Reactions.{IsOver}
-use Rattle.progress_laws.specs.bus_laws.proofs.Apart.{change_plain}
-use Rattle.progress_laws.specs.bus_laws.proofs.Prompt.{least_is}
-use Rattle.progress_laws.specs.trace_laws.specs.Tells.{IsServed, of_abort, of_process}
-use Rattle.progress_laws.specs.trace_laws.proofs.CommandMessages.{same_item as item_served}
-use Rattle.progress_laws.specs.trace_laws.proofs.ConnectionRows.{ConnectionRow, connection_row}
-use Rattle.progress_laws.specs.trace_laws.proofs.Crossings.{RowFacts, ends_here, stays as goes}
-use Rattle.progress_laws.specs.trace_laws.proofs.FirstTalks.{first_sent, sent_with}
-use Rattle.progress_laws.specs.trace_laws.proofs.Impossible.{none_some}
-use Rattle.progress_laws.specs.trace_laws.proofs.Joint.{NextStood, link_phase}
-use Rattle.progress_laws.specs.trace_laws.proofs.OpenCommands.{item_is}
-use Rattle.progress_laws.specs.trace_laws.proofs.PointerWaits.{connection_sent}
-use Rattle.progress_laws.specs.trace_laws.proofs.SentItems.{free_keeps}
-use Rattle.progress_laws.specs.trace_laws.proofs.TellRows.{IsHeard, is_heard}
-use Rattle.progress_laws.specs.trace_laws.proofs.Whole.{Whole, standing_next, whole}
-use Rattle.dialogue_laws.specs.AbortLines.{is_cut, is_cut_by, is_served_for}
+use Rattle.dialogue_laws.proofs
+use proofs.Names.{inl, inr, ℕ, ◌≡◌, ◌⊎◌, ◌<◌, Bool, true, false, ◌&&◌, ◌||◌, ◌∙◌, List, [], ◌∷◌, ◌++◌, Option, Some}
+use proofs.Names.{None, refl, sym, ap, or_right, same_Some, if◌then◌else◌, is_some, eq_self, wrong, wrong', AbortKind}
+use proofs.Names.{Event, change_of, rises, LineSet, connection, connection_after, bus, Row, Change, ScenarioValue}
+use proofs.Names.{Obeys, AbortDef, events_sent, RowReading, row_reading, abort_line_at, abort_line_events}
+use proofs.Names.{bus_free_events, connection_events, item_abort_events, link_events, row_events_by, Item, Sent, abort}
+use proofs.Names.{has_item, process, same_item, abortive, aim_of, story_by_change, story_on_bus, run_state_plain}
+use proofs.Names.{IsPrompt, IsPlain, RunState, bus_of, run_state, served_after, item_if, same_event, same_kind}
+use proofs.Names.{ready_of, obeys_fits, units_are, has_event, Knows, IsOver, Books, RowOf, apart as row_apart, begins}
+use proofs.Names.{goes_on, ends, under_reset, change_plain, least_is, item_served, none_some, item_is, free_keeps}
+use proofs.Names.{ConnectionRow, connection_row, RowFacts, ends_here, stays as goes, NextStood, link_phase}
+use proofs.Names.{connection_sent, first_sent, sent_with, IsHeard, is_heard, Whole, standing_next, whole, IsServed}
+use proofs.Names.{of_abort, of_process, is_cut, is_cut_by, is_served_for}
+use Rattle.std.proofs.lemmas.Bool.{or_left}
 
 abbrev pub aborted : AbortDef → Event
-aborted a = events.Aborted a.host a.target a.unit a.what
+aborted a = Event.Aborted a.host a.target a.unit a.what
 
 abbrev pub ToldState : ScenarioValue → List Row → ℕ → AbortDef → Type 0
 ToldState s p n a =
     (((run_state s p).served ≡ Some (abort n)) × ((bus p).rst ≡ false)) ⊎ ((has_event (run_state s p).story.history (aborted a) ≡ true) ⊎ (is_cut s p n ≡ true))
 
 same_kind_self : (x : AbortKind) → same_kind x x ≡ true
-same_kind_self aborts.All = refl
-same_kind_self (aborts.Tag n) = eq_self n
-same_kind_self aborts.WholeQueue = refl
-same_kind_self aborts.Device = refl
+same_kind_self AbortKind.All = refl
+same_kind_self (AbortKind.Tag n) = eq_self n
+same_kind_self AbortKind.WholeQueue = refl
+same_kind_self AbortKind.Device = refl
 
 same_self : (a : AbortDef) → same_event (aborted a) (aborted a) ≡ true
 same_self a = λ i. eq_self a.host i && eq_self a.target i && eq_self a.unit i && same_kind_self a.what i
@@ -235,7 +198,7 @@ told_next s p row n a o prompt at was h sent = go nx.row_is
                     let last : knows.link.last ≡ abortive = (was.facts.last m con quiet).1 knows.link n knows.link_is served f.0 heard.last in
                     let item : knows.link.item ≡ Some (abort n) = item_served s k m knows re ∙ served in
                     let all : row_events_by s k.story d row ≡ aborted a ∷ [] =
-                    (λ i. if off i then (if rises d.change.own.rst d.change.next.rst then events.Reset row.dev ∷ [] else []) else link_events s k.story (knows.link_is i) d)
+                    (λ i. if off i then (if rises d.change.own.rst d.change.next.rst then Event.Reset row.dev ∷ [] else []) else link_events s k.story (knows.link_is i) d)
                     ∙ (λ i. if is_some (g.next_is i) then connection_events s k.story knows.link d else bus_free_events s knows.link (last i))
                     ∙ (λ i. item_abort_events s (item i))
                     ∙ ap abort_line_events at in

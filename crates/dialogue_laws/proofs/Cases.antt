@@ -1,15 +1,9 @@
 -- In some runs, computed: what the laws speak of is there.
-use Rattle.std.proofs.Common.{◌≡◌, true, false, [], refl}
+use Rattle.dialogue_laws.proofs
+use proofs.Names.{◌≡◌, true, false, [], refl, line_of, union_below, form_out, form_in, need_of, sent_of, abort}
+use proofs.Names.{count_item, has_item, own_processes_aborted_due, own_processes_aborted_due_rows, unanswered_due}
+use proofs.Names.{unanswered_due_rows, onto, run_state, is_cut}
 use lib.Count.{ones}
-use Rattle.bus_due.specs.bus_trace.specs.LineSet.{line_of}
-use Rattle.bus_due.specs.bus_trace.specs.View.{union_below}
-use Rattle.bus_due.specs.msg_grammar.specs.Messages.{form_out, form_in}
-use Rattle.bus_due.specs.scenario.specs.Needs.{need_of, sent_of}
-use Rattle.bus_due.specs.bus_story.specs.Items.{abort, count_item, has_item}
-use Rattle.bus_due.specs.RunSteps.{run_state}
-use Rattle.bus_due.proofs.Cases.{own_processes_aborted_due, own_processes_aborted_due_rows, unanswered_due, unanswered_due_rows}
-use Rattle.bus_due.proofs.Seams.{onto}
-use Rattle.dialogue_laws.specs.AbortLines.{is_cut}
 
 -- ---- abort lines
 

@@ -1,49 +1,22 @@
 -- As the target leaves a phase to the initiator with ATN true MESSAGE OUT follows, and the initiator says what it complains of.
-use Rattle.std.proofs.Common.{ℕ, ◌≡◌, Bool, true, false, not, ◌∙◌, List, ◌∷◌, Option, Some, refl, sym, ap}
-use Rattle.std.specs.Prelude.{if◌then◌else◌, ◌&&◌}
-use Rattle.std.proofs.lemmas.Option.{same_Some}
-use Rattle.bus_due.specs.bus_trace.specs.LineSet.{LineSet}
-use Rattle.bus_due.specs.bus_trace.specs.Phases.{is_message_in}
-use Rattle.bus_due.specs.bus_trace.specs.Trace.{bus}
-use Rattle.bus_due.specs.bus_trace.specs.declared.Row.{Row}
-use Rattle.bus_due.specs.bus_trace.specs.declared.connection.Connection.{Connection}
-use Rattle.bus_due.specs.bus_lines.specs.Handshakes.{Handshakes, handshakes}
-use Rattle.bus_due.specs.cdb_codec.specs.declared.sense.TheConstants.{INITIATOR_DETECTED_ERROR}
-use Rattle.bus_due.specs.scenario.specs.Value.{ScenarioValue}
-use Rattle.bus_due.specs.scenario.specs.Writing.{Obeys}
-use Rattle.bus_due.specs.disk_array.specs.Processes.{Process}
-use Rattle.bus_due.specs.bus_dialogue.specs.NextPhase.{phase_of}
-use Rattle.bus_due.specs.bus_dialogue.specs.Planning.{cause_after}
-use Rattle.bus_due.specs.bus_dialogue.specs.Words.{answer_bytes, detected_error, parity_error}
-use Rattle.bus_due.specs.bus_dialogue.specs.declared.exchange.Cause.{Cause}
-use Rattle.bus_due.specs.bus_dialogue.specs.declared.exchange.Cause.TheVariants as causes
-use Rattle.bus_due.specs.bus_dialogue.specs.declared.exchange.Phase.{Phase}
-use Rattle.bus_due.specs.bus_dialogue.specs.declared.exchange.Phase.TheVariants as phases
-use Rattle.bus_due.specs.Defs.{host_of}
-use Rattle.bus_due.specs.Next.{IsPrompt}
-use Rattle.bus_due.specs.Plain.{IsPlain}
-use Rattle.bus_due.specs.RunState.{RunState, bus_of, carried_here}
-use Rattle.bus_due.specs.RunSteps.{run_state}
-use Rattle.bus_due.proofs.Plains.{run_state_plain}
-use Rattle.bus_due.specs.bus_base.proofs.Tests.{wrong'}
-use Rattle.progress_laws.specs.trace_laws.specs.Tells.{code_if}
-use Rattle.progress_laws.specs.trace_laws.proofs.ComplaintTurns.{left_for_out}
-use Rattle.progress_laws.specs.trace_laws.proofs.PointerLeavings.{is_attended}
-use Rattle.progress_laws.specs.trace_laws.proofs.SentFailures.{sent_asks}
-use Rattle.dialogue_laws.specs.Recoveries.{Complains, present_phase}
-use Rattle.dialogue_laws.proofs.PhaseEnds.{words_by}
-use Rattle.dialogue_laws.proofs.RecoveryRows.{Left, id_served, phase_is}
+use Rattle.dialogue_laws.proofs
+use proofs.Names.{ℕ, ◌≡◌, Bool, true, false, not, ◌∙◌, List, ◌∷◌, Option, Some, refl, sym, ap, ◌&&◌, same_Some}
+use proofs.Names.{if◌then◌else◌, wrong', LineSet, is_message_in, bus, Row, Connection, Handshakes, handshakes}
+use proofs.Names.{INITIATOR_DETECTED_ERROR, ScenarioValue, Obeys, Process, phase_of, cause_after, answer_bytes}
+use proofs.Names.{detected_error, parity_error, Cause, Phase, run_state_plain, host_of, IsPrompt, IsPlain, RunState}
+use proofs.Names.{bus_of, carried_here, run_state, left_for_out, is_attended, sent_asks, code_if, Complains}
+use proofs.{Names.{present_phase}, PhaseEnds.{words_by}, RecoveryRows.{Left, id_served, phase_is}}
 
 -- ---- lines of a phase
 
-data_in_is : (b : LineSet) → phase_of b ≡ phases.DataIn → (is_message_in b ≡ false) × (b.cd ≡ false)
+data_in_is : (b : LineSet) → phase_of b ≡ Phase.DataIn → (is_message_in b ≡ false) × (b.cd ≡ false)
 data_in_is b e = go b.msg b.cd b.io (ap of e)
   where
     of : Phase → Bool
-    of phases.DataIn = true
+    of Phase.DataIn = true
     of _ = false
 
-    go : (m c i : Bool) → of (if m then (if i then phases.MessageIn else phases.MessageOut) else if c then (if i then phases.Status else phases.Command) else if i then phases.DataIn else phases.DataOut) ≡ true → ((m && c && i) ≡ false) × (c ≡ false)
+    go : (m c i : Bool) → of (if m then (if i then Phase.MessageIn else Phase.MessageOut) else if c then (if i then Phase.Status else Phase.Command) else if i then Phase.DataIn else Phase.DataOut) ≡ true → ((m && c && i) ≡ false) × (c ≡ false)
     go true c true f = wrong' f
     go true c false f = wrong' f
     go false true true f = wrong' f
@@ -51,14 +24,14 @@ data_in_is b e = go b.msg b.cd b.io (ap of e)
     go false false true f = (refl, refl)
     go false false false f = wrong' f
 
-status_is : (b : LineSet) → phase_of b ≡ phases.Status → (is_message_in b ≡ false) × (b.cd ≡ true)
+status_is : (b : LineSet) → phase_of b ≡ Phase.Status → (is_message_in b ≡ false) × (b.cd ≡ true)
 status_is b e = go b.msg b.cd b.io (ap of e)
   where
     of : Phase → Bool
-    of phases.Status = true
+    of Phase.Status = true
     of _ = false
 
-    go : (m c i : Bool) → of (if m then (if i then phases.MessageIn else phases.MessageOut) else if c then (if i then phases.Status else phases.Command) else if i then phases.DataIn else phases.DataOut) ≡ true → ((m && c && i) ≡ false) × (c ≡ true)
+    go : (m c i : Bool) → of (if m then (if i then Phase.MessageIn else Phase.MessageOut) else if c then (if i then Phase.Status else Phase.Command) else if i then Phase.DataIn else Phase.DataOut) ≡ true → ((m && c && i) ≡ false) × (c ≡ true)
     go true c true f = wrong' f
     go true c false f = wrong' f
     go false true true f = (refl, refl)
@@ -66,14 +39,14 @@ status_is b e = go b.msg b.cd b.io (ap of e)
     go false false true f = wrong' f
     go false false false f = wrong' f
 
-message_in_is : (b : LineSet) → phase_of b ≡ phases.MessageIn → (b.msg ≡ true → b.cd ≡ true) → is_message_in b ≡ true
+message_in_is : (b : LineSet) → phase_of b ≡ Phase.MessageIn → (b.msg ≡ true → b.cd ≡ true) → is_message_in b ≡ true
 message_in_is b e known = go b.msg b.cd b.io (ap of e) known
   where
     of : Phase → Bool
-    of phases.MessageIn = true
+    of Phase.MessageIn = true
     of _ = false
 
-    go : (m c i : Bool) → of (if m then (if i then phases.MessageIn else phases.MessageOut) else if c then (if i then phases.Status else phases.Command) else if i then phases.DataIn else phases.DataOut) ≡ true → (m ≡ true → c ≡ true) → (m && c && i) ≡ true
+    go : (m c i : Bool) → of (if m then (if i then Phase.MessageIn else Phase.MessageOut) else if c then (if i then Phase.Status else Phase.Command) else if i then Phase.DataIn else Phase.DataOut) ≡ true → (m ≡ true → c ≡ true) → (m && c && i) ≡ true
     go true true true f k = refl
     go true false true f k = wrong' (k refl)
     go true c false f k = wrong' f
@@ -84,7 +57,7 @@ message_in_is b e known = go b.msg b.cd b.io (ap of e) known
 
 -- ---- MESSAGE OUT follows
 
-out_follows : (s : ScenarioValue) (p : List Row) (row : Row) (n : Connection) (q : Process) → Left s p row n q → (phase : Phase) → phase_of (bus p) ≡ phase → is_attended phase ≡ true → (bus p).atn ≡ true → present_phase (row ∷ p) ≡ Some phases.MessageOut
+out_follows : (s : ScenarioValue) (p : List Row) (row : Row) (n : Connection) (q : Process) → Left s p row n q → (phase : Phase) → phase_of (bus p) ≡ phase → is_attended phase ≡ true → (bus p).atn ≡ true → present_phase (row ∷ p) ≡ Some Phase.MessageOut
 out_follows s p row n q h phase e there atn =
     let k : RunState = run_state s p in
     let pl : IsPlain s p k = run_state_plain s p h.end.was.stood.standing.devices in
@@ -97,39 +70,39 @@ complains s p row n q cause words h phase e there atn is said =
     let w = h.end.says out in
     record { asked = (here out, w.0 ∙ is); stands = out; words_are = w.1 ∙ said }
   where
-    here : present_phase (row ∷ p) ≡ Some phases.MessageOut → phase_of (bus (row ∷ p)) ≡ phases.MessageOut
-    here out = same_Some (phase_of (bus (row ∷ p))) phases.MessageOut (sym (ap (λ (x : Option Connection). Rattle.dialogue_laws.specs.Recoveries.phase_if x (bus (row ∷ p))) (h.end.stands phases.MessageOut out).0) ∙ out)
+    here : present_phase (row ∷ p) ≡ Some Phase.MessageOut → phase_of (bus (row ∷ p)) ≡ Phase.MessageOut
+    here out = same_Some (phase_of (bus (row ∷ p))) Phase.MessageOut (sym (ap (λ (x : Option Connection). Rattle.dialogue_laws.specs.Recoveries.phase_if x (bus (row ∷ p))) (h.end.stands Phase.MessageOut out).0) ∙ out)
 
-pub data_in_complains : (s : ScenarioValue) (p : List Row) (row : Row) (n : Connection) (q : Process) → Left s p row n q → phase_of (bus p) ≡ phases.DataIn → (bus p).atn ≡ true → Complains s p row causes.InData detected_error
+pub data_in_complains : (s : ScenarioValue) (p : List Row) (row : Row) (n : Connection) (q : Process) → Left s p row n q → phase_of (bus p) ≡ Phase.DataIn → (bus p).atn ≡ true → Complains s p row Cause.InData detected_error
 data_in_complains s p row n q h e atn =
     let k : RunState = run_state s p in
-    let l = data_in_is (bus_of k) (phase_is s p row n q h phases.DataIn e) in
-    complains s p row n q causes.InData detected_error h phases.DataIn e refl atn
-    (λ i. if l.0 i then causes.InMessage else if l.1 i then causes.InStatus else causes.InData)
+    let l = data_in_is (bus_of k) (phase_is s p row n q h Phase.DataIn e) in
+    complains s p row n q Cause.InData detected_error h Phase.DataIn e refl atn
+    (λ i. if l.0 i then Cause.InMessage else if l.1 i then Cause.InStatus else Cause.InData)
     (λ i. if not (l.0 i) then detected_error else if k.handshakes.struck then parity_error else answer_bytes (host_of s n.initiator) k.exchange.speech.asked)
 
-pub status_complains : (s : ScenarioValue) (p : List Row) (row : Row) (n : Connection) (q : Process) → Left s p row n q → phase_of (bus p) ≡ phases.Status → (bus p).atn ≡ true → Complains s p row causes.InStatus detected_error
+pub status_complains : (s : ScenarioValue) (p : List Row) (row : Row) (n : Connection) (q : Process) → Left s p row n q → phase_of (bus p) ≡ Phase.Status → (bus p).atn ≡ true → Complains s p row Cause.InStatus detected_error
 status_complains s p row n q h e atn =
     let k : RunState = run_state s p in
-    let l = status_is (bus_of k) (phase_is s p row n q h phases.Status e) in
-    complains s p row n q causes.InStatus detected_error h phases.Status e refl atn
-    (λ i. if l.0 i then causes.InMessage else if l.1 i then causes.InStatus else causes.InData)
+    let l = status_is (bus_of k) (phase_is s p row n q h Phase.Status e) in
+    complains s p row n q Cause.InStatus detected_error h Phase.Status e refl atn
+    (λ i. if l.0 i then Cause.InMessage else if l.1 i then Cause.InStatus else Cause.InData)
     (λ i. if not (l.0 i) then detected_error else if k.handshakes.struck then parity_error else answer_bytes (host_of s n.initiator) k.exchange.speech.asked)
 
-pub message_complains : (s : ScenarioValue) (p : List Row) (row : Row) (n : Connection) (q : Process) → Left s p row n q → phase_of (bus p) ≡ phases.MessageIn → (bus p).atn ≡ true → (handshakes p).struck ≡ true → Complains s p row causes.InMessage parity_error
+pub message_complains : (s : ScenarioValue) (p : List Row) (row : Row) (n : Connection) (q : Process) → Left s p row n q → phase_of (bus p) ≡ Phase.MessageIn → (bus p).atn ≡ true → (handshakes p).struck ≡ true → Complains s p row Cause.InMessage parity_error
 message_complains s p row n q h e atn struck =
     let k : RunState = run_state s p in
     let pl : IsPlain s p k = run_state_plain s p h.end.was.stood.standing.devices in
-    let l = message_in_is (bus_of k) (phase_is s p row n q h phases.MessageIn e) h.end.known in
-    complains s p row n q causes.InMessage parity_error h phases.MessageIn e refl atn
-    (λ i. if l i then causes.InMessage else if (bus_of k).cd then causes.InStatus else causes.InData)
+    let l = message_in_is (bus_of k) (phase_is s p row n q h Phase.MessageIn e) h.end.known in
+    complains s p row n q Cause.InMessage parity_error h Phase.MessageIn e refl atn
+    (λ i. if l i then Cause.InMessage else if (bus_of k).cd then Cause.InStatus else Cause.InData)
     (λ i. if not (l i) then detected_error else if (ap (λ (x : Handshakes). x.struck) pl.handshakes ∙ struck) i then parity_error else answer_bytes (host_of s n.initiator) k.exchange.speech.asked)
 
 -- In DATA IN ATN is true then exactly where a byte of the run was struck.
-pub data_in_attends : (s : ScenarioValue) (p : List Row) (row : Row) (n : Connection) (q : Process) → Obeys s → IsPrompt s (row ∷ p) → Left s p row n q → phase_of (bus p) ≡ phases.DataIn
+pub data_in_attends : (s : ScenarioValue) (p : List Row) (row : Row) (n : Connection) (q : Process) → Obeys s → IsPrompt s (row ∷ p) → Left s p row n q → phase_of (bus p) ≡ Phase.DataIn
     → (carried_here (run_state s p) q.id).failure ≡ code_if (bus p).atn INITIATOR_DETECTED_ERROR
 data_in_attends s p row n q o prompt h e =
     let k : RunState = run_state s p in
     let pl : IsPlain s p k = run_state_plain s p h.end.was.stood.standing.devices in
-    sent_asks s p row o prompt h.end.was.stood h.end.was.facts h.end.was.sent n q.id h.leaving_row (id_served s p row n q h) (phase_is s p row n q h phases.DataIn e)
+    sent_asks s p row o prompt h.end.was.stood h.end.was.facts h.end.was.sent n q.id h.leaving_row (id_served s p row n q h) (phase_is s p row n q h Phase.DataIn e)
     ∙ ap (λ (l : LineSet). code_if l.atn INITIATOR_DETECTED_ERROR) pl.bus

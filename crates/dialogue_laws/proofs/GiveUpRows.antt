@@ -1,37 +1,20 @@
 -- A process fails, or is lost, with a row only where its target gives it up.
-use Rattle.std.proofs.Common.{ℕ, ◌≡◌, true, false, ◌&&◌, ◌||◌, ◌∙◌, List, ◌∷◌, Option, Some, sym, ap}
-use Rattle.std.specs.Prelude.{is_none, is_some}
-use Rattle.std.proofs.lemmas.Bool.{and_parts}
-use Rattle.bus_due.specs.bus_base.specs.declared.Event.TheVariants as events
-use Rattle.bus_due.specs.bus_base.specs.declared.ProcId.{ProcId}
-use Rattle.bus_due.specs.bus_trace.specs.Terms.{connection}
-use Rattle.bus_due.specs.bus_trace.specs.declared.Row.{Row}
-use Rattle.bus_due.specs.bus_trace.specs.declared.connection.Connection.{Connection}
-use Rattle.bus_due.specs.scenario.specs.Value.{ScenarioValue}
-use Rattle.bus_due.specs.scenario.specs.Writing.{Obeys}
-use Rattle.bus_due.specs.disk_array.specs.Processes.{Process, process_of}
-use Rattle.bus_due.specs.bus_story.specs.BusState.{RowReading, row_reading}
-use Rattle.bus_due.specs.bus_dialogue.specs.NextPhase.{phase_of}
-use Rattle.bus_due.specs.Next.{IsPrompt}
-use Rattle.bus_due.specs.RunState.{RunState, bus_of}
-use Rattle.bus_due.specs.RunSteps.{events_of_row, run_state}
-use Rattle.bus_due.specs.Sights.{leaving}
-use Rattle.bus_due.specs.Telling.{is_true_telling, telling}
-use Rattle.bus_due.proofs.Plains.{run_state_plain}
-use Rattle.progress_laws.specs.bus_books.specs.FullQueues.{has_event}
-use Rattle.progress_laws.specs.bus_books.specs.WrongParity.{gives_up, is_failure, is_left_as_due, is_left_by, is_loss, left_as_due}
-use Rattle.progress_laws.specs.bus_books.proofs.GiveUps.{failure_is, loss_by, lost_calm}
-use Rattle.progress_laws.specs.trace_laws.proofs.Whole.{Whole, whole}
+use Rattle.dialogue_laws.proofs
+use proofs.Names.{ℕ, ◌≡◌, true, false, ◌&&◌, ◌||◌, ◌∙◌, List, ◌∷◌, Option, Some, sym, ap, and_parts, is_none, is_some}
+use proofs.Names.{Event, ProcId, connection, Row, Connection, ScenarioValue, Obeys, Process, process_of, RowReading}
+use proofs.Names.{row_reading, phase_of, run_state_plain, IsPrompt, RunState, bus_of, events_of_row, run_state, leaving}
+use proofs.Names.{is_true_telling, telling, failure_is, loss_by, lost_calm, has_event, gives_up, is_failure}
+use proofs.Names.{is_left_as_due, is_left_by, is_loss, left_as_due, Whole, whole}
 
 told_row : (s : ScenarioValue) (p : List Row) (row : Row) → Whole s (row ∷ p) → is_true_telling s (run_state s p) row (row_reading (run_state s p).story.bus_state row) ≡ true
 told_row s p row now = (and_parts (telling s p) (is_true_telling s (run_state s p) row (row_reading (run_state s p).story.bus_state row)) now.told).1
 
-pub fails_so : (s : ScenarioValue) (p : List Row) (row : Row) (n : Connection) (id : ProcId) (code : ℕ) → Obeys s → IsPrompt s (row ∷ p) → connection p ≡ Some n → has_event (events_of_row s p row) (events.Fail id code) ≡ true
+pub fails_so : (s : ScenarioValue) (p : List Row) (row : Row) (n : Connection) (id : ProcId) (code : ℕ) → Obeys s → IsPrompt s (row ∷ p) → connection p ≡ Some n → has_event (events_of_row s p row) (Event.Fail id code) ≡ true
     → (is_failure (run_state s p).exchange.plan.cause code (phase_of (bus_of (run_state s p))) && gives_up s p row n id) ≡ true
 fails_so s p row n id code o prompt con has =
     failure_is s p row n id code ((run_state_plain s p (whole s p o prompt.0).stood.standing.devices).connection ∙ con) (told_row s p row (whole s (row ∷ p) o prompt)) has
 
-pub loses_so : (s : ScenarioValue) (p : List Row) (row : Row) (n : Connection) (q : Process) → Obeys s → IsPrompt s (row ∷ p) → connection p ≡ Some n → process_of s q.id ≡ Some q → has_event (events_of_row s p row) (events.Lost q.id) ≡ true
+pub loses_so : (s : ScenarioValue) (p : List Row) (row : Row) (n : Connection) (q : Process) → Obeys s → IsPrompt s (row ∷ p) → connection p ≡ Some n → process_of s q.id ≡ Some q → has_event (events_of_row s p row) (Event.Lost q.id) ≡ true
     → (is_loss (run_state s p).exchange.plan.cause (phase_of (bus_of (run_state s p))) && gives_up s p row n q.id) ≡ true
 loses_so s p row n q o prompt con own has =
     loss_by s p row n q standing told own (λ e. free e) has

@@ -1,3 +1,4 @@
+pub mod Names
 pub mod AbortLines
 pub mod AbortsTold
 mod Cases

@@ -1,56 +1,18 @@
 -- A row of a prompt trace with which a phase that has begun is left: for the phase, or for BUS FREE, that the target is due to go to.
-use Rattle.std.proofs.Common.{inl, inr, ℕ, ◌≡◌, ◌⊎◌, Bool, true, false, not, ◌&&◌, ◌||◌, ◌∙◌, List, [], ◌∷◌, Option, Some, None, refl, sym, ap}
-use Rattle.std.specs.Prelude.{if◌then◌else◌, is_some}
-use Rattle.bus_due.specs.bus_base.proofs.Tests.{wrong}
-use Rattle.bus_due.specs.bus_base.specs.declared.Event.{Event}
-use Rattle.bus_due.specs.bus_base.specs.declared.Event.TheVariants as events
-use Rattle.bus_due.specs.bus_trace.specs.Changes.{change_of, rises}
-use Rattle.bus_due.specs.bus_trace.specs.LineSet.{LineSet}
-use Rattle.bus_due.specs.bus_trace.specs.Phases.{changes_phase, is_message_in, is_message_out}
-use Rattle.bus_due.specs.bus_trace.specs.Terms.{connection, connection_after, is_fault, receiver_in}
-use Rattle.bus_due.specs.bus_trace.specs.Trace.{bus}
-use Rattle.bus_due.specs.bus_trace.specs.declared.Row.{Row}
-use Rattle.bus_due.specs.bus_trace.specs.declared.changes.Change.{Change}
-use Rattle.bus_due.specs.bus_trace.specs.declared.connection.Connection.{Connection}
-use Rattle.bus_due.specs.scenario.specs.Value.{ScenarioValue}
-use Rattle.bus_due.specs.scenario.specs.Writing.{Obeys}
-use Rattle.bus_due.specs.bus_story.specs.BusState.{RowReading, row_reading}
-use Rattle.bus_due.specs.bus_dialogue.specs.declared.exchange.Hearing.{Hearing}
-use Rattle.bus_due.specs.bus_dialogue.specs.declared.exchange.Leaving.{Leaving}
-use Rattle.bus_due.specs.bus_dialogue.specs.declared.exchange.Phase.{Phase}
-use Rattle.bus_due.specs.bus_dialogue.specs.declared.exchange.Phase.TheVariants as phases
-use Rattle.bus_due.specs.bus_dialogue.specs.Exchange.{Exchange, plan_anew, speech_of}
-use Rattle.bus_due.specs.bus_dialogue.specs.NextPhase.{leaving_by, phase_leaving, phase_of}
-use Rattle.bus_due.specs.bus_dialogue.specs.Planning.{cause_after, plan_in_message_out}
-use Rattle.bus_due.specs.bus_trace.specs.declared.agreements.Agreement.{Agreement}
-use Rattle.bus_due.specs.scenario.specs.declared.value.HostDef.{HostDef}
-use Rattle.bus_due.specs.bus_dialogue.specs.Speaking.{words_after}
-use Rattle.bus_due.specs.bus_dialogue.specs.Words.{answer_bytes, detected_error, parity_error}
-use Rattle.bus_due.specs.Defs.{host_of}
-use Rattle.bus_due.specs.Next.{IsPrompt}
-use Rattle.bus_due.specs.Plain.{IsPlain}
-use Rattle.bus_due.specs.RunState.{RunState, bus_of, process_served}
-use Rattle.bus_due.specs.RunSteps.{events_of_row, leaving_of, progress_after, progress_by_leaving, run_state}
-use Rattle.bus_due.specs.Sights.{hearing_of, leaving, serving_of}
-use Rattle.bus_due.specs.Telling.{events_of_ends, events_of_ends_in, initiator_events, is_true_telling, same_events, target_events}
-use Rattle.bus_due.proofs.Plains.{run_state_plain}
-use Rattle.std.proofs.lemmas.Bool.{and_parts}
-use Rattle.std.proofs.lemmas.Option.{same_Some}
-use Rattle.progress_laws.specs.bus_books.specs.Hearing.{is_out_phase}
-use Rattle.progress_laws.specs.bus_books.specs.Reactions.{IsOver}
-use Rattle.progress_laws.specs.bus_books.specs.Rows.{RowKind, crosses, reading_in, still, strikes, turns}
-use Rattle.progress_laws.specs.bus_books.proofs.InConnection.{InConnection, in_connection, reading_is}
-use Rattle.progress_laws.specs.bus_laws.proofs.Apart.{change_plain}
-use Rattle.progress_laws.specs.bus_laws.proofs.Prompt.{least_is}
-use Rattle.progress_laws.specs.trace_laws.specs.Tells.{IsLeaving}
-use Rattle.progress_laws.specs.trace_laws.proofs.ConnectionRows.{ConnectionRow, connection_row, stage_of_connection}
-use Rattle.progress_laws.specs.trace_laws.proofs.Crossings.{RowFacts, ends_here, stays}
-use Rattle.progress_laws.specs.trace_laws.proofs.InstructedTurns.{out_is}
-use Rattle.progress_laws.specs.trace_laws.proofs.Impossible.{none_some}
-use Rattle.progress_laws.specs.trace_laws.proofs.Joint.{link_phase}
-use Rattle.progress_laws.specs.trace_laws.proofs.PhaseLines.{out_phase}
-use Rattle.progress_laws.specs.trace_laws.proofs.Whole.{Whole, whole}
-use Rattle.dialogue_laws.specs.Recoveries.{phase_if, present_phase}
+use Rattle.dialogue_laws.proofs
+use proofs.Names.{inl, inr, ℕ, ◌≡◌, ◌⊎◌, Bool, true, false, not, ◌&&◌, ◌||◌, ◌∙◌, List, [], ◌∷◌, Option, Some, None}
+use proofs.Names.{refl, sym, ap, and_parts, same_Some, if◌then◌else◌, is_some, wrong, Event, change_of, rises, LineSet}
+use proofs.Names.{changes_phase, is_message_in, is_message_out, connection, connection_after, is_fault, receiver_in}
+use proofs.Names.{bus, Row, Agreement, Change, Connection, ScenarioValue, Obeys, HostDef, RowReading, row_reading}
+use proofs.Names.{Exchange, plan_anew, speech_of, leaving_by, phase_leaving, phase_of, cause_after, plan_in_message_out}
+use proofs.Names.{words_after, answer_bytes, detected_error, parity_error, Hearing, Leaving, Phase, run_state_plain}
+use proofs.Names.{host_of, IsPrompt, IsPlain, RunState, bus_of, process_served, events_of_row, leaving_of}
+use proofs.Names.{progress_after, progress_by_leaving, run_state, hearing_of, leaving, serving_of, events_of_ends}
+use proofs.Names.{events_of_ends_in, initiator_events, is_true_telling, same_events, target_events, InConnection}
+use proofs.Names.{in_connection, reading_is, is_out_phase, IsOver, RowKind, crosses, reading_in, still, strikes, turns}
+use proofs.Names.{change_plain, least_is, none_some, out_phase, out_is, ConnectionRow, connection_row}
+use proofs.Names.{stage_of_connection, RowFacts, ends_here, stays, link_phase, Whole, whole, IsLeaving, phase_if}
+use proofs.Names.{present_phase}
 
 -- What the initiator says in MESSAGE OUT after a phase with these lines, the last byte to it struck or not.
 abbrev pub words_by : Option HostDef → LineSet → Bool → Agreement → List ℕ
@@ -69,7 +31,7 @@ pub record PhaseEnd (s : ScenarioValue) (p : List Row) (row : Row) (n : Connecti
       → (run_state s (row ∷ p)).exchange.plan ≡ record (plan_anew (run_state s p).exchange.plan) { messages = (leaving s (run_state s p) n.target).messages; next = (leaving s (run_state s p) n.target).next }
   pub progress : (next : Phase) → present_phase (row ∷ p) ≡ Some next → (run_state s (row ∷ p)).progress ≡ progress_by_leaving (run_state s p) (process_served s (run_state s p)) (leaving s (run_state s p) n.target)
   pub stands : (next : Phase) → present_phase (row ∷ p) ≡ Some next → (connection (row ∷ p) ≡ Some n) × (changes_phase (change_of p row) ≡ true)
-  pub says : present_phase (row ∷ p) ≡ Some phases.MessageOut
+  pub says : present_phase (row ∷ p) ≡ Some Phase.MessageOut
       → ((run_state s (row ∷ p)).exchange.plan.cause ≡ cause_after (bus_of (run_state s p)))
       × ((run_state s (row ∷ p)).exchange.speech.words ≡ words_by (host_of s n.initiator) (bus_of (run_state s p)) (run_state s p).handshakes.struck (run_state s p).exchange.speech.asked)
 
@@ -130,7 +92,7 @@ phase_end s p row n o prompt w = by r.facts
     -- what the ends show is what the target shows
     ends_are : (x : Option Connection) → d.next ≡ x → (changes_phase d.change || not (is_some x)) ≡ true → events_of_ends s k row d ≡ target_events s k n (is_some x)
     ends_are x e t =
-        (λ i. if off i then (if rises d.change.own.rst d.change.next.rst then events.Reset row.dev ∷ [] else []) else events_of_ends_in s k (standing i) d)
+        (λ i. if off i then (if rises d.change.own.rst d.change.next.rst then Event.Reset row.dev ∷ [] else []) else events_of_ends_in s k (standing i) d)
         ∙ (λ i. if changes_phase d.change || not (is_some (e i)) then target_events s k n (is_some (e i)) else initiator_events k k.story.link d)
         ∙ ap (λ (y : Bool). if y then target_events s k n (is_some x) else initiator_events k k.story.link d) t
 
@@ -158,7 +120,7 @@ phase_end s p row n o prompt w = by r.facts
           plan = λ next e. none_next next (sym free ∙ e);
           progress = λ next e. none_next next (sym free ∙ e);
           stands = λ next e. none_next next (sym free ∙ e);
-          says = λ e. none_next phases.MessageOut (sym free ∙ e);
+          says = λ e. none_next Phase.MessageOut (sym free ∙ e);
         }
     by (stays g) = record {
       was = was;
@@ -220,7 +182,7 @@ phase_end s p row n o prompt w = by r.facts
             (λ j. progress_after s k (reading_is k row n g.change false g.row_is (ap (λ (x : Option ℕ). is_some x) two.1) j) (standing j) (next_is j) (leaving_of s k (standing j)))
             ∙ (λ j. if turned j && w.begun j then progress_by_leaving k (process_served s k) l else k.progress)
 
-        says : present_phase q ≡ Some phases.MessageOut → ((run_state s q).exchange.plan.cause ≡ cause_after (bus_of k)) × ((run_state s q).exchange.speech.words ≡ words_by (host_of s n.initiator) (bus_of k) k.handshakes.struck k.exchange.speech.asked)
+        says : present_phase q ≡ Some Phase.MessageOut → ((run_state s q).exchange.plan.cause ≡ cause_after (bus_of k)) × ((run_state s q).exchange.speech.words ≡ words_by (host_of s n.initiator) (bus_of k) k.handshakes.struck k.exchange.speech.asked)
         says e = (
           ap (λ (x : Exchange). x.plan.cause) i.exchange_is
               ∙ (λ j. (if not (out j) then record (plan_anew k.exchange.plan) { messages = l.messages; next = l.next } else if w.begun j then plan_in_message_out hearing k.exchange.plan else plan_anew k.exchange.plan).cause)
@@ -239,4 +201,4 @@ phase_end s p row n o prompt w = by r.facts
                 ∙ (link_phase s q n (stage_of_connection s q n now.stood con w.calm_after) (ap (λ (x : LineSet). x.msg) lines ∙ z)).0
 
             out : is_message_out g.change.after ≡ true
-            out = out_is g.change.after lines_known ∙ ap is_out_phase (same_Some (phase_of g.change.after) phases.MessageOut (sym here ∙ e))
+            out = out_is g.change.after lines_known ∙ ap is_out_phase (same_Some (phase_of g.change.after) Phase.MessageOut (sym here ∙ e))

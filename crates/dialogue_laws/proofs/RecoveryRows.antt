@@ -1,62 +1,21 @@
 -- As the target leaves a phase in which parity was wrong it recovers, or gives up where the limit is spent.
-use Rattle.std.proofs.Common.{inl, inr, ℕ, ◌≡◌, ◌⊎◌, ◌+◌, Bool, true, false, not, ◌&&◌, ◌∙◌, List, [], ◌∷◌, Option, Some, None, refl, sym, ap, subst, arith}
-use Rattle.std.specs.Prelude.{if◌then◌else◌, ◌==◌, is_some, nat_lt}
-use Rattle.std.proofs.lemmas.Bool.{and_parts, eqb-true}
-use Rattle.bus_due.specs.bus_base.proofs.Tests.{wrong, wrong'}
-use Rattle.bus_due.specs.bus_base.specs.declared.Event.{Event}
-use Rattle.bus_due.specs.bus_base.specs.declared.Event.TheVariants as events
-use Rattle.bus_due.specs.bus_base.specs.declared.ProcId.{ProcId}
-use Rattle.bus_due.specs.bus_trace.specs.LineSet.{LineSet}
-use Rattle.bus_due.specs.bus_trace.specs.Trace.{bus}
-use Rattle.bus_due.specs.bus_trace.specs.declared.Row.{Row}
-use Rattle.bus_due.specs.bus_trace.specs.declared.connection.Connection.{Connection}
-use Rattle.bus_due.specs.cdb_codec.specs.declared.sense.TheConstants.{INITIATOR_DETECTED_ERROR, PARITY_ERROR}
-use Rattle.bus_due.specs.msg_grammar.specs.declared.message.MsgIn.TheVariants as to_initiator
-use Rattle.bus_due.specs.scenario.specs.Value.{ScenarioValue}
-use Rattle.bus_due.specs.scenario.specs.Writing.{Obeys}
-use Rattle.bus_due.specs.scenario.specs.declared.value.TargetDef.{TargetDef}
-use Rattle.bus_due.specs.disk_array.specs.ArrayHistory.{reply_in}
-use Rattle.bus_due.specs.disk_array.specs.Processes.{Process, process_of, same_id}
-use Rattle.bus_due.specs.disk_array.proofs.SeatReplies.{id_self}
-use Rattle.bus_due.specs.disk_array.proofs.SeatLookups.{same_id_is}
-use Rattle.bus_due.specs.bus_story.specs.Items.{process}
-use Rattle.bus_due.specs.bus_dialogue.specs.Events.{arrival_events, after_opening_events, connection_end_events, detected_events, has_replied, is_status_next, newest_with, reply_events, turn_events, turn_events_if}
-use Rattle.bus_due.specs.bus_dialogue.specs.Exchange.{one_message}
-use Rattle.bus_due.specs.bus_dialogue.specs.NextPhase.{Serving, bus_free, command_leaving, data_out_leaving, message_in_entry, message_out_leaving, message_repetition, phase_entry, phase_leaving, phase_of, pointer_restoration, recovery, recovery_limit, with_task}
-use Rattle.bus_due.specs.bus_dialogue.specs.PhaseBytes.{one_if}
-use Rattle.bus_due.specs.bus_dialogue.specs.Words.{is_naming}
-use Rattle.bus_due.specs.bus_dialogue.specs.declared.exchange.Cause.{Cause}
-use Rattle.bus_due.specs.bus_dialogue.specs.declared.exchange.Cause.TheVariants as causes
-use Rattle.bus_due.specs.bus_dialogue.specs.declared.exchange.Leaving.{Leaving}
-use Rattle.bus_due.specs.bus_dialogue.specs.declared.exchange.Messages.{Messages}
-use Rattle.bus_due.specs.bus_dialogue.specs.declared.exchange.Next.{Next}
-use Rattle.bus_due.specs.bus_dialogue.specs.declared.exchange.Next.TheVariants as nexts
-use Rattle.bus_due.specs.bus_dialogue.specs.declared.exchange.Phase.{Phase}
-use Rattle.bus_due.specs.bus_dialogue.specs.declared.exchange.Phase.TheVariants as phases
-use Rattle.bus_due.specs.bus_dialogue.specs.declared.exchange.Plan.{Plan}
-use Rattle.bus_due.specs.bus_dialogue.specs.declared.exchange.Task.{Task}
-use Rattle.bus_due.specs.LastingState.{ProcessProgress, progress_in, progress_with}
-use Rattle.bus_due.specs.Next.{IsPrompt}
-use Rattle.bus_due.specs.Plain.{IsPlain}
-use Rattle.bus_due.specs.RunState.{RunState, bus_of, or_start, process_item, process_served}
-use Rattle.bus_due.specs.RunSteps.{events_of_row, progress_by_leaving, run_state}
-use Rattle.bus_due.specs.Sights.{leaving, serving_of}
-use Rattle.bus_due.specs.Tasks.{task_if, task_of}
-use Rattle.bus_due.specs.Telling.{id_of, same_event, same_events}
-use Rattle.bus_due.proofs.Plains.{run_state_plain}
-use Rattle.progress_laws.specs.scsi_device.proofs.FitLines.{obeys_fits, units_are}
-use Rattle.progress_laws.specs.bus_books.specs.WrongParity.{is_struck_phase}
-use Rattle.progress_laws.specs.trace_laws.specs.Places.{PlacedAsked, PlacedIf, PlacedIn}
-use Rattle.progress_laws.specs.bus_books.specs.Hearing.{is_out_phase}
-use Rattle.progress_laws.specs.trace_laws.specs.Tells.{IsLeaving, IsServed, of_abort, of_process}
-use Rattle.progress_laws.specs.trace_laws.proofs.CommandNext.{out_unstruck}
-use Rattle.progress_laws.specs.trace_laws.proofs.ItemRows.{served_item}
-use Rattle.progress_laws.specs.trace_laws.proofs.RunFacts.{task_here}
-use Rattle.progress_laws.specs.trace_laws.proofs.TellEnds.{none_heard}
-use Rattle.progress_laws.specs.trace_laws.proofs.TellRows.{IsHeard, is_heard}
-use Rattle.dialogue_laws.specs.Recoveries.{FailsWith, HasTakenAll, IsAsked, IsLost, LeavesPhase, Recovers, RecoversUnless, Repeats, is_spent, present_phase}
-use Rattle.dialogue_laws.proofs.PhaseEnds.{PhaseEnd, phase_end}
-use Rattle.dialogue_laws.proofs.StruckPlans.{struck_known}
+use Rattle.dialogue_laws.proofs
+use proofs.Names.{inl, inr, ℕ, ◌≡◌, ◌⊎◌, ◌+◌, Bool, true, false, not, ◌&&◌, ◌∙◌, List, [], ◌∷◌, Option, Some, None}
+use proofs.Names.{refl, sym, ap, subst, arith, and_parts, eqb-true, if◌then◌else◌, ◌==◌, is_some, nat_lt, wrong, wrong'}
+use proofs.Names.{Event, ProcId, LineSet, bus, Row, Connection, INITIATOR_DETECTED_ERROR, PARITY_ERROR, MsgIn}
+use proofs.Names.{ScenarioValue, Obeys, TargetDef, same_id_is, id_self, reply_in, Process, process_of, same_id, process}
+use proofs.Names.{arrival_events, after_opening_events, connection_end_events, detected_events, has_replied}
+use proofs.Names.{is_status_next, newest_with, reply_events, turn_events, turn_events_if, one_message, Serving}
+use proofs.Names.{bus_free, command_leaving, data_out_leaving, message_in_entry, message_out_leaving}
+use proofs.Names.{message_repetition, phase_entry, phase_leaving, phase_of, pointer_restoration, recovery}
+use proofs.Names.{recovery_limit, with_task, one_if, is_naming, Cause, Leaving, Messages, Next, Phase, Plan, Task}
+use proofs.Names.{run_state_plain, ProcessProgress, progress_in, progress_with, IsPrompt, IsPlain, RunState, bus_of}
+use proofs.Names.{or_start, process_item, process_served, events_of_row, progress_by_leaving, run_state, leaving}
+use proofs.Names.{serving_of, task_if, task_of, id_of, same_event, same_events, obeys_fits, units_are, is_out_phase}
+use proofs.Names.{is_struck_phase, out_unstruck, served_item, task_here, none_heard, IsHeard, is_heard, PlacedAsked}
+use proofs.Names.{PlacedIf, PlacedIn, IsLeaving, IsServed, of_abort, of_process, FailsWith, HasTakenAll, IsAsked}
+use proofs.Names.{IsLost, LeavesPhase, Recovers, RecoversUnless, Repeats, is_spent, present_phase}
+use proofs.{PhaseEnds.{PhaseEnd, phase_end}, StruckPlans.{struck_known}}
 
 -- ---- events that are the same
 
@@ -64,27 +23,27 @@ same_none : (shown : List Event) → same_events [] shown ≡ true → shown ≡
 same_none [] e = refl
 same_none (x ∷ shown) e = wrong' e
 
-same_fail : (id : ProcId) (code : ℕ) (f : Event) → same_event (events.Fail id code) f ≡ true → f ≡ events.Fail id code
-same_fail id code (events.Fail b y) e =
+same_fail : (id : ProcId) (code : ℕ) (f : Event) → same_event (Event.Fail id code) f ≡ true → f ≡ Event.Fail id code
+same_fail id code (Event.Fail b y) e =
     let parts = and_parts (same_id id b) (code == y) e in
-    λ i. events.Fail (sym (same_id_is id b parts.0) i) (sym (eqb-true code y parts.1) i)
-same_fail id code (events.Accept b) e = wrong' e
-same_fail id code (events.Refuse b) e = wrong' e
-same_fail id code (events.Run b) e = wrong' e
-same_fail id code (events.End b y) e = wrong' e
-same_fail id code (events.Lost b) e = wrong' e
-same_fail id code (events.Aborted h t u x) e = wrong' e
-same_fail id code (events.Reset b) e = wrong' e
+    λ i. Event.Fail (sym (same_id_is id b parts.0) i) (sym (eqb-true code y parts.1) i)
+same_fail id code (Event.Accept b) e = wrong' e
+same_fail id code (Event.Refuse b) e = wrong' e
+same_fail id code (Event.Run b) e = wrong' e
+same_fail id code (Event.End b y) e = wrong' e
+same_fail id code (Event.Lost b) e = wrong' e
+same_fail id code (Event.Aborted h t u x) e = wrong' e
+same_fail id code (Event.Reset b) e = wrong' e
 
-same_lost : (id : ProcId) (f : Event) → same_event (events.Lost id) f ≡ true → f ≡ events.Lost id
-same_lost id (events.Lost b) e = λ i. events.Lost (sym (same_id_is id b e) i)
-same_lost id (events.Accept b) e = wrong' e
-same_lost id (events.Refuse b) e = wrong' e
-same_lost id (events.Run b) e = wrong' e
-same_lost id (events.End b y) e = wrong' e
-same_lost id (events.Fail b y) e = wrong' e
-same_lost id (events.Aborted h t u x) e = wrong' e
-same_lost id (events.Reset b) e = wrong' e
+same_lost : (id : ProcId) (f : Event) → same_event (Event.Lost id) f ≡ true → f ≡ Event.Lost id
+same_lost id (Event.Lost b) e = λ i. Event.Lost (sym (same_id_is id b e) i)
+same_lost id (Event.Accept b) e = wrong' e
+same_lost id (Event.Refuse b) e = wrong' e
+same_lost id (Event.Run b) e = wrong' e
+same_lost id (Event.End b y) e = wrong' e
+same_lost id (Event.Fail b y) e = wrong' e
+same_lost id (Event.Aborted h t u x) e = wrong' e
+same_lost id (Event.Reset b) e = wrong' e
 
 same_one : (x : Event) (shown : List Event) → ((f : Event) → same_event x f ≡ true → f ≡ x) → same_events (x ∷ []) shown ≡ true → shown ≡ x ∷ []
 same_one x [] h e = wrong' e
@@ -92,46 +51,46 @@ same_one x (f ∷ []) h e = ap (λ (y : Event). y ∷ []) (h f (and_parts (same_
 same_one x (f ∷ (g ∷ shown)) h e = wrong' (and_parts (same_event x f) false e).1
 
 abbrev names_process : Event → Bool
-names_process (events.Accept id) = true
-names_process (events.Refuse id) = true
-names_process (events.Run id) = true
-names_process (events.Fail id code) = true
-names_process (events.Lost id) = true
-names_process (events.End id status) = false
-names_process (events.Aborted h t u x) = false
-names_process (events.Reset b) = false
+names_process (Event.Accept id) = true
+names_process (Event.Refuse id) = true
+names_process (Event.Run id) = true
+names_process (Event.Fail id code) = true
+names_process (Event.Lost id) = true
+names_process (Event.End id status) = false
+names_process (Event.Aborted h t u x) = false
+names_process (Event.Reset b) = false
 
 -- Of any list of events that name processes alone.
 same_process_event : (x f : Event) → names_process x ≡ true → same_event x f ≡ true → f ≡ x
-same_process_event (events.Fail id code) f n e = same_fail id code f e
-same_process_event (events.Lost id) f n e = same_lost id f e
-same_process_event (events.Accept id) (events.Accept b) n e = λ i. events.Accept (sym (same_id_is id b e) i)
-same_process_event (events.Refuse id) (events.Refuse b) n e = λ i. events.Refuse (sym (same_id_is id b e) i)
-same_process_event (events.Run id) (events.Run b) n e = λ i. events.Run (sym (same_id_is id b e) i)
-same_process_event (events.Accept id) (events.Refuse b) n e = wrong' e
-same_process_event (events.Accept id) (events.Run b) n e = wrong' e
-same_process_event (events.Accept id) (events.Fail b y) n e = wrong' e
-same_process_event (events.Accept id) (events.End b y) n e = wrong' e
-same_process_event (events.Accept id) (events.Lost b) n e = wrong' e
-same_process_event (events.Accept id) (events.Aborted h t u x) n e = wrong' e
-same_process_event (events.Accept id) (events.Reset b) n e = wrong' e
-same_process_event (events.Refuse id) (events.Accept b) n e = wrong' e
-same_process_event (events.Refuse id) (events.Run b) n e = wrong' e
-same_process_event (events.Refuse id) (events.Fail b y) n e = wrong' e
-same_process_event (events.Refuse id) (events.End b y) n e = wrong' e
-same_process_event (events.Refuse id) (events.Lost b) n e = wrong' e
-same_process_event (events.Refuse id) (events.Aborted h t u x) n e = wrong' e
-same_process_event (events.Refuse id) (events.Reset b) n e = wrong' e
-same_process_event (events.Run id) (events.Accept b) n e = wrong' e
-same_process_event (events.Run id) (events.Refuse b) n e = wrong' e
-same_process_event (events.Run id) (events.Fail b y) n e = wrong' e
-same_process_event (events.Run id) (events.End b y) n e = wrong' e
-same_process_event (events.Run id) (events.Lost b) n e = wrong' e
-same_process_event (events.Run id) (events.Aborted h t u x) n e = wrong' e
-same_process_event (events.Run id) (events.Reset b) n e = wrong' e
-same_process_event (events.End id status) f n e = wrong' n
-same_process_event (events.Aborted h t u x) f n e = wrong' n
-same_process_event (events.Reset b) f n e = wrong' n
+same_process_event (Event.Fail id code) f n e = same_fail id code f e
+same_process_event (Event.Lost id) f n e = same_lost id f e
+same_process_event (Event.Accept id) (Event.Accept b) n e = λ i. Event.Accept (sym (same_id_is id b e) i)
+same_process_event (Event.Refuse id) (Event.Refuse b) n e = λ i. Event.Refuse (sym (same_id_is id b e) i)
+same_process_event (Event.Run id) (Event.Run b) n e = λ i. Event.Run (sym (same_id_is id b e) i)
+same_process_event (Event.Accept id) (Event.Refuse b) n e = wrong' e
+same_process_event (Event.Accept id) (Event.Run b) n e = wrong' e
+same_process_event (Event.Accept id) (Event.Fail b y) n e = wrong' e
+same_process_event (Event.Accept id) (Event.End b y) n e = wrong' e
+same_process_event (Event.Accept id) (Event.Lost b) n e = wrong' e
+same_process_event (Event.Accept id) (Event.Aborted h t u x) n e = wrong' e
+same_process_event (Event.Accept id) (Event.Reset b) n e = wrong' e
+same_process_event (Event.Refuse id) (Event.Accept b) n e = wrong' e
+same_process_event (Event.Refuse id) (Event.Run b) n e = wrong' e
+same_process_event (Event.Refuse id) (Event.Fail b y) n e = wrong' e
+same_process_event (Event.Refuse id) (Event.End b y) n e = wrong' e
+same_process_event (Event.Refuse id) (Event.Lost b) n e = wrong' e
+same_process_event (Event.Refuse id) (Event.Aborted h t u x) n e = wrong' e
+same_process_event (Event.Refuse id) (Event.Reset b) n e = wrong' e
+same_process_event (Event.Run id) (Event.Accept b) n e = wrong' e
+same_process_event (Event.Run id) (Event.Refuse b) n e = wrong' e
+same_process_event (Event.Run id) (Event.Fail b y) n e = wrong' e
+same_process_event (Event.Run id) (Event.End b y) n e = wrong' e
+same_process_event (Event.Run id) (Event.Lost b) n e = wrong' e
+same_process_event (Event.Run id) (Event.Aborted h t u x) n e = wrong' e
+same_process_event (Event.Run id) (Event.Reset b) n e = wrong' e
+same_process_event (Event.End id status) f n e = wrong' n
+same_process_event (Event.Aborted h t u x) f n e = wrong' n
+same_process_event (Event.Reset b) f n e = wrong' n
 
 abbrev pub all_name : List Event → Bool
 all_name [] = true
@@ -216,44 +175,44 @@ repeats_row : (s : ScenarioValue) (p : List Row) (row : Row) (n : Connection) (q
 repeats_row s p row n q m next c h e none =
     let k : RunState = run_state s p in
     let v : Serving = serving_of s k n.target in
-    let phase : present_phase (row ∷ p) ≡ Some phases.MessageIn = sym h.end.whereto ∙ ap (λ (l : Leaving). l.to) e in
-    let plan = h.end.plan phases.MessageIn phase refl in
+    let phase : present_phase (row ∷ p) ≡ Some Phase.MessageIn = sym h.end.whereto ∙ ap (λ (l : Leaving). l.to) e in
+    let plan = h.end.plan Phase.MessageIn phase refl in
     record {
       phase = phase;
       messages = ap (λ (x : Plan). x.messages) plan ∙ ap (λ (l : Leaving). l.messages) e;
       follows = ap (λ (x : Plan). x.next) plan ∙ ap (λ (l : Leaving). l.next) e;
       counted =
-          ap (λ (x : List ProcessProgress). (progress_in x q.id).recoveries) (h.end.progress phases.MessageIn phase)
+          ap (λ (x : List ProcessProgress). (progress_in x q.id).recoveries) (h.end.progress Phase.MessageIn phase)
           ∙ (λ i. (progress_in (progress_by_leaving k (h.served i) (e i)) q.id).recoveries)
           ∙ counted_so k.progress q.id c;
       silent = same_none (events_of_row s p row)
-          (shows_turn s p row n q h phases.MessageIn phase []
+          (shows_turn s p row n q h Phase.MessageIn phase []
           (turn_is v (bus_of k).atn (phase_of (bus_of k)) q.id (record (message_in_entry m next) { counts = c }) (has_replied v.task) [] (sym h.end.leaves ∙ e) refl none));
     }
 
 -- It gives up with STATUS.
-fails_row : (s : ScenarioValue) (p : List Row) (row : Row) (n : Connection) (q : Process) (code : ℕ) → Left s p row n q → leaving s (run_state s p) n.target ≡ phase_entry phases.Status
+fails_row : (s : ScenarioValue) (p : List Row) (row : Row) (n : Connection) (q : Process) (code : ℕ) → Left s p row n q → leaving s (run_state s p) n.target ≡ phase_entry Phase.Status
     → has_replied (serving_of s (run_state s p) n.target).task ≡ false
     → arrival_events q.id (serving_of s (run_state s p) n.target).plan (serving_of s (run_state s p) n.target).arrival (phase_of (bus_of (run_state s p))) ≡ []
-    → reply_events q.id (serving_of s (run_state s p) n.target).plan (serving_of s (run_state s p) n.target).arrival (phase_of (bus_of (run_state s p))) ≡ events.Fail q.id code ∷ []
+    → reply_events q.id (serving_of s (run_state s p) n.target).plan (serving_of s (run_state s p) n.target).arrival (phase_of (bus_of (run_state s p))) ≡ Event.Fail q.id code ∷ []
     → FailsWith s p row q code
 fails_row s p row n q code h e unanswered none fails =
     let k : RunState = run_state s p in
     let v : Serving = serving_of s k n.target in
-    let phase : present_phase (row ∷ p) ≡ Some phases.Status = sym h.end.whereto ∙ ap (λ (l : Leaving). l.to) e in
+    let phase : present_phase (row ∷ p) ≡ Some Phase.Status = sym h.end.whereto ∙ ap (λ (l : Leaving). l.to) e in
     record {
       phase = phase;
-      shown = same_one (events.Fail q.id code) (events_of_row s p row) (same_fail q.id code)
-          (shows_turn s p row n q h phases.Status phase (events.Fail q.id code ∷ [])
-          (turn_is v (bus_of k).atn (phase_of (bus_of k)) q.id (phase_entry phases.Status) false [] (sym h.end.leaves ∙ e) unanswered none ∙ (λ i. newest_with (fails i) [])));
+      shown = same_one (Event.Fail q.id code) (events_of_row s p row) (same_fail q.id code)
+          (shows_turn s p row n q h Phase.Status phase (Event.Fail q.id code ∷ [])
+          (turn_is v (bus_of k).atn (phase_of (bus_of k)) q.id (phase_entry Phase.Status) false [] (sym h.end.leaves ∙ e) unanswered none ∙ (λ i. newest_with (fails i) [])));
     }
 
 -- It gives up with BUS FREE.
 lost_row : (s : ScenarioValue) (p : List Row) (row : Row) (n : Connection) (q : Process) → Left s p row n q → leaving s (run_state s p) n.target ≡ bus_free
-    → connection_end_events n (run_state s p).exchange.plan (phase_of (bus_of (run_state s p))) (Some q.id) ≡ events.Lost q.id ∷ [] → IsLost s p row q
+    → connection_end_events n (run_state s p).exchange.plan (phase_of (bus_of (run_state s p))) (Some q.id) ≡ Event.Lost q.id ∷ [] → IsLost s p row q
 lost_row s p row n q h e lost =
     let free : present_phase (row ∷ p) ≡ None = sym h.end.whereto ∙ ap (λ (l : Leaving). l.to) e in
-    record { phase = free; shown = same_one (events.Lost q.id) (events_of_row s p row) (same_lost q.id) (shows_end s p row n q h free (events.Lost q.id ∷ []) lost) }
+    record { phase = free; shown = same_one (Event.Lost q.id) (events_of_row s p row) (same_lost q.id) (shows_end s p row n q h free (Event.Lost q.id ∷ []) lost) }
 
 -- ---- what the target knows
 
@@ -284,19 +243,19 @@ open_if s p row n q h e =
 abbrev pub Struck : ScenarioValue → List Row → Phase → Type 0
 Struck s p phase = (phase_of (bus p) ≡ phase) × (is_struck_phase s p ≡ true)
 
-takes_bytes : (b : LineSet) (phase : Phase) → phase_of b ≡ phase → (phase ≡ phases.Command) ⊎ (phase ≡ phases.DataOut) → (b.io ≡ false) × (b.msg ≡ false)
+takes_bytes : (b : LineSet) (phase : Phase) → phase_of b ≡ phase → (phase ≡ Phase.Command) ⊎ (phase ≡ Phase.DataOut) → (b.io ≡ false) × (b.msg ≡ false)
 takes_bytes b phase e here = go b.msg b.cd b.io (kind here e)
   where
     is_data_or_command : Phase → Bool
-    is_data_or_command phases.Command = true
-    is_data_or_command phases.DataOut = true
+    is_data_or_command Phase.Command = true
+    is_data_or_command Phase.DataOut = true
     is_data_or_command _ = false
 
-    kind : (phase ≡ phases.Command) ⊎ (phase ≡ phases.DataOut) → phase_of b ≡ phase → is_data_or_command (phase_of b) ≡ true
+    kind : (phase ≡ Phase.Command) ⊎ (phase ≡ Phase.DataOut) → phase_of b ≡ phase → is_data_or_command (phase_of b) ≡ true
     kind (inl z) f = ap is_data_or_command (f ∙ z)
     kind (inr z) f = ap is_data_or_command (f ∙ z)
 
-    go : (m c i : Bool) → is_data_or_command (if m then (if i then phases.MessageIn else phases.MessageOut) else if c then (if i then phases.Status else phases.Command) else if i then phases.DataIn else phases.DataOut) ≡ true → (i ≡ false) × (m ≡ false)
+    go : (m c i : Bool) → is_data_or_command (if m then (if i then Phase.MessageIn else Phase.MessageOut) else if c then (if i then Phase.Status else Phase.Command) else if i then Phase.DataIn else Phase.DataOut) ≡ true → (i ≡ false) × (m ≡ false)
     go true c true f = wrong' f
     go true c false f = wrong' f
     go false true true f = wrong' f
@@ -304,14 +263,14 @@ takes_bytes b phase e here = go b.msg b.cd b.io (kind here e)
     go false false true f = wrong' f
     go false false false f = (refl, refl)
 
-struck_plan_is : (s : ScenarioValue) (p : List Row) (row : Row) (n : Connection) (q : Process) → Left s p row n q → (phase : Phase) → (phase ≡ phases.Command) ⊎ (phase ≡ phases.DataOut) → Struck s p phase → (run_state s p).exchange.plan.struck ≡ true
+struck_plan_is : (s : ScenarioValue) (p : List Row) (row : Row) (n : Connection) (q : Process) → Left s p row n q → (phase : Phase) → (phase ≡ Phase.Command) ⊎ (phase ≡ Phase.DataOut) → Struck s p phase → (run_state s p).exchange.plan.struck ≡ true
 struck_plan_is s p row n q h phase here e = struck_known s p h.end.was.rows_are e.1 (takes_bytes (bus_of (run_state s p)) phase (phase_is s p row n q h phase e.0) here)
 
-pub command_recovers : (s : ScenarioValue) (p : List Row) (row : Row) (n : Connection) (q : Process) → Left s p row n q → Struck s p phases.Command
-    → RecoversUnless (is_spent s (run_state s p) n q) (Recovers s p row q (one_message to_initiator.RestorePointers) nexts.Command) (FailsWith s p row q PARITY_ERROR)
+pub command_recovers : (s : ScenarioValue) (p : List Row) (row : Row) (n : Connection) (q : Process) → Left s p row n q → Struck s p Phase.Command
+    → RecoversUnless (is_spent s (run_state s p) n q) (Recovers s p row q (one_message MsgIn.RestorePointers) Next.Command) (FailsWith s p row q PARITY_ERROR)
 command_recovers s p row n q h e = (
-  λ z. repeats_row s p row n q (one_message to_initiator.RestorePointers) nexts.Command (not t.in_hold) h (leaves ∙ recovers_so v.def t (one_message to_initiator.RestorePointers) nexts.Command (phase_entry phases.Status) z) none,
-  λ z. fails_row s p row n q PARITY_ERROR h (leaves ∙ gives_up_so v.def t (pointer_restoration nexts.Command) (phase_entry phases.Status) z) (open_if s p row n q h (placed_is s p row n q h phases.Command e.0).reply) none fails,
+  λ z. repeats_row s p row n q (one_message MsgIn.RestorePointers) Next.Command (not t.in_hold) h (leaves ∙ recovers_so v.def t (one_message MsgIn.RestorePointers) Next.Command (phase_entry Phase.Status) z) none,
+  λ z. fails_row s p row n q PARITY_ERROR h (leaves ∙ gives_up_so v.def t (pointer_restoration Next.Command) (phase_entry Phase.Status) z) (open_if s p row n q h (placed_is s p row n q h Phase.Command e.0).reply) none fails,
 )
   where
     k : RunState
@@ -323,28 +282,28 @@ command_recovers s p row n q h e = (
     t : Task
     t = task_here s k q
 
-    here : phase_of (bus_of k) ≡ phases.Command
-    here = phase_is s p row n q h phases.Command e.0
+    here : phase_of (bus_of k) ≡ Phase.Command
+    here = phase_is s p row n q h Phase.Command e.0
 
     struck : k.exchange.plan.struck ≡ true
-    struck = struck_plan_is s p row n q h phases.Command (inl refl) e
+    struck = struck_plan_is s p row n q h Phase.Command (inl refl) e
 
-    leaves : leaving s k n.target ≡ recovery v.def t (pointer_restoration nexts.Command) (phase_entry phases.Status)
+    leaves : leaving s k n.target ≡ recovery v.def t (pointer_restoration Next.Command) (phase_entry Phase.Status)
     leaves =
         h.end.leaves ∙ ap (phase_leaving v (bus_of k).atn) here
-        ∙ (λ i. with_task (task_is s p row n q h i) (λ x. if struck i then recovery v.def x (pointer_restoration nexts.Command) (phase_entry phases.Status) else Rattle.bus_due.specs.bus_dialogue.specs.NextPhase.after_arrival v.def x v.arrival))
+        ∙ (λ i. with_task (task_is s p row n q h i) (λ x. if struck i then recovery v.def x (pointer_restoration Next.Command) (phase_entry Phase.Status) else Rattle.bus_due.specs.bus_dialogue.specs.NextPhase.after_arrival v.def x v.arrival))
 
     none : arrival_events q.id v.plan v.arrival (phase_of (bus_of k)) ≡ []
     none = ap (arrival_events q.id v.plan v.arrival) here ∙ ap (λ (b : Bool). if b then [] else Rattle.bus_due.specs.bus_dialogue.specs.Events.arrival_event q.id v.arrival ∷ []) struck
 
-    fails : reply_events q.id v.plan v.arrival (phase_of (bus_of k)) ≡ events.Fail q.id PARITY_ERROR ∷ []
-    fails = ap (reply_events q.id v.plan v.arrival) here ∙ ap (λ (b : Bool). if b then events.Fail q.id PARITY_ERROR ∷ [] else Rattle.bus_due.specs.bus_dialogue.specs.Events.arrival_run_events v.arrival q.id) struck
+    fails : reply_events q.id v.plan v.arrival (phase_of (bus_of k)) ≡ Event.Fail q.id PARITY_ERROR ∷ []
+    fails = ap (reply_events q.id v.plan v.arrival) here ∙ ap (λ (b : Bool). if b then Event.Fail q.id PARITY_ERROR ∷ [] else Rattle.bus_due.specs.bus_dialogue.specs.Events.arrival_run_events v.arrival q.id) struck
 
-pub data_out_recovers : (s : ScenarioValue) (p : List Row) (row : Row) (n : Connection) (q : Process) → Left s p row n q → Struck s p phases.DataOut
-    → RecoversUnless (is_spent s (run_state s p) n q) (Recovers s p row q (one_message to_initiator.RestorePointers) nexts.GoOn) (FailsWith s p row q PARITY_ERROR)
+pub data_out_recovers : (s : ScenarioValue) (p : List Row) (row : Row) (n : Connection) (q : Process) → Left s p row n q → Struck s p Phase.DataOut
+    → RecoversUnless (is_spent s (run_state s p) n q) (Recovers s p row q (one_message MsgIn.RestorePointers) Next.GoOn) (FailsWith s p row q PARITY_ERROR)
 data_out_recovers s p row n q h e = (
-  λ z. repeats_row s p row n q (one_message to_initiator.RestorePointers) nexts.GoOn (not t.in_hold) h (leaves ∙ recovers_so v.def t (one_message to_initiator.RestorePointers) nexts.GoOn (phase_entry phases.Status) z) none,
-  λ z. fails_row s p row n q PARITY_ERROR h (leaves ∙ gives_up_so v.def t (pointer_restoration nexts.GoOn) (phase_entry phases.Status) z) (open_if s p row n q h (placed_is s p row n q h phases.DataOut e.0).runs.reply) none fails,
+  λ z. repeats_row s p row n q (one_message MsgIn.RestorePointers) Next.GoOn (not t.in_hold) h (leaves ∙ recovers_so v.def t (one_message MsgIn.RestorePointers) Next.GoOn (phase_entry Phase.Status) z) none,
+  λ z. fails_row s p row n q PARITY_ERROR h (leaves ∙ gives_up_so v.def t (pointer_restoration Next.GoOn) (phase_entry Phase.Status) z) (open_if s p row n q h (placed_is s p row n q h Phase.DataOut e.0).runs.reply) none fails,
 )
   where
     k : RunState
@@ -356,22 +315,22 @@ data_out_recovers s p row n q h e = (
     t : Task
     t = task_here s k q
 
-    here : phase_of (bus_of k) ≡ phases.DataOut
-    here = phase_is s p row n q h phases.DataOut e.0
+    here : phase_of (bus_of k) ≡ Phase.DataOut
+    here = phase_is s p row n q h Phase.DataOut e.0
 
     struck : k.exchange.plan.struck ≡ true
-    struck = struck_plan_is s p row n q h phases.DataOut (inr refl) e
+    struck = struck_plan_is s p row n q h Phase.DataOut (inr refl) e
 
-    leaves : leaving s k n.target ≡ recovery v.def t (pointer_restoration nexts.GoOn) (phase_entry phases.Status)
+    leaves : leaving s k n.target ≡ recovery v.def t (pointer_restoration Next.GoOn) (phase_entry Phase.Status)
     leaves =
         h.end.leaves ∙ ap (phase_leaving v (bus_of k).atn) here
-        ∙ (λ i. with_task (task_is s p row n q h i) (λ x. if struck i then recovery v.def x (pointer_restoration nexts.GoOn) (phase_entry phases.Status) else Rattle.bus_due.specs.bus_dialogue.specs.NextPhase.after_run (Rattle.bus_due.specs.bus_dialogue.specs.Arrivals.policy_of v.def) x))
+        ∙ (λ i. with_task (task_is s p row n q h i) (λ x. if struck i then recovery v.def x (pointer_restoration Next.GoOn) (phase_entry Phase.Status) else Rattle.bus_due.specs.bus_dialogue.specs.NextPhase.after_run (Rattle.bus_due.specs.bus_dialogue.specs.Arrivals.policy_of v.def) x))
 
     none : arrival_events q.id v.plan v.arrival (phase_of (bus_of k)) ≡ []
     none = ap (arrival_events q.id v.plan v.arrival) here
 
-    fails : reply_events q.id v.plan v.arrival (phase_of (bus_of k)) ≡ events.Fail q.id PARITY_ERROR ∷ []
-    fails = ap (reply_events q.id v.plan v.arrival) here ∙ ap (λ (b : Bool). if b then events.Fail q.id PARITY_ERROR ∷ [] else events.Run q.id ∷ []) struck
+    fails : reply_events q.id v.plan v.arrival (phase_of (bus_of k)) ≡ Event.Fail q.id PARITY_ERROR ∷ []
+    fails = ap (reply_events q.id v.plan v.arrival) here ∙ ap (λ (b : Bool). if b then Event.Fail q.id PARITY_ERROR ∷ [] else Event.Run q.id ∷ []) struck
 
 -- ---- MESSAGE OUT after a phase to the initiator
 
@@ -379,19 +338,19 @@ data_out_recovers s p row n q h e = (
 asked_leaves : (s : ScenarioValue) (p : List Row) (row : Row) (n : Connection) (q : Process) → Left s p row n q → (cause : Cause) → IsAsked s p cause → leaving s (run_state s p) n.target ≡ message_out_leaving (serving_of s (run_state s p) n.target) cause
 asked_leaves s p row n q h cause e =
     let k : RunState = run_state s p in
-    h.end.leaves ∙ ap (phase_leaving (serving_of s k n.target) (bus_of k).atn) (phase_is s p row n q h phases.MessageOut e.0) ∙ ap (message_out_leaving (serving_of s k n.target)) e.1
+    h.end.leaves ∙ ap (phase_leaving (serving_of s k n.target) (bus_of k).atn) (phase_is s p row n q h Phase.MessageOut e.0) ∙ ap (message_out_leaving (serving_of s k n.target)) e.1
 
 asked_none : (s : ScenarioValue) (p : List Row) (row : Row) (n : Connection) (q : Process) → Left s p row n q → (cause : Cause) → IsAsked s p cause
     → arrival_events q.id (serving_of s (run_state s p) n.target).plan (serving_of s (run_state s p) n.target).arrival (phase_of (bus_of (run_state s p))) ≡ []
-asked_none s p row n q h cause e = ap (arrival_events q.id (serving_of s (run_state s p) n.target).plan (serving_of s (run_state s p) n.target).arrival) (phase_is s p row n q h phases.MessageOut e.0)
+asked_none s p row n q h cause e = ap (arrival_events q.id (serving_of s (run_state s p) n.target).plan (serving_of s (run_state s p) n.target).arrival) (phase_is s p row n q h Phase.MessageOut e.0)
 
 -- No abort came in it.
 asked_lost : (s : ScenarioValue) (p : List Row) (row : Row) (n : Connection) (q : Process) → Obeys s → Left s p row n q → (cause : Cause) → IsAsked s p cause
-    → connection_end_events n (run_state s p).exchange.plan (phase_of (bus_of (run_state s p))) (Some q.id) ≡ events.Lost q.id ∷ []
+    → connection_end_events n (run_state s p).exchange.plan (phase_of (bus_of (run_state s p))) (Some q.id) ≡ Event.Lost q.id ∷ []
 asked_lost s p row n q o h cause e =
     let k : RunState = run_state s p in
     let pl : IsPlain s p k = run_state_plain s p h.end.was.stood.standing.devices in
-    let here = phase_is s p row n q h phases.MessageOut e.0 in
+    let here = phase_is s p row n q h Phase.MessageOut e.0 in
     let speaks = h.end.was.stood.books.speaks n (pl.connection ∙ h.leaving_row.stands) (ap (λ (x : LineSet). x.rst) pl.bus ∙ h.leaving_row.calm) in
     let heard : IsHeard s k = is_heard s k n (units_are s (obeys_fits s o)) speaks h.leaving_row.begun h.end.known h.end.over here in
     let own : process_of s q.id ≡ Some q = ap (process_item s) (sym (id_served s p row n q h)) ∙ h.served in
@@ -399,11 +358,11 @@ asked_lost s p row n q o h cause e =
     ap (λ (x : Phase). connection_end_events n k.exchange.plan x (Some q.id)) here
     ∙ ap (λ (x : Option Rattle.bus_due.specs.bus_base.specs.declared.AbortKind.AbortKind). after_opening_events n k.exchange.plan.said x (Some q.id)) none
 
-pub data_in_recovers : (s : ScenarioValue) (p : List Row) (row : Row) (n : Connection) (q : Process) → Left s p row n q → IsAsked s p causes.InData
-    → RecoversUnless (is_spent s (run_state s p) n q) (Recovers s p row q (one_message to_initiator.RestorePointers) nexts.GoOn) (FailsWith s p row q INITIATOR_DETECTED_ERROR)
+pub data_in_recovers : (s : ScenarioValue) (p : List Row) (row : Row) (n : Connection) (q : Process) → Left s p row n q → IsAsked s p Cause.InData
+    → RecoversUnless (is_spent s (run_state s p) n q) (Recovers s p row q (one_message MsgIn.RestorePointers) Next.GoOn) (FailsWith s p row q INITIATOR_DETECTED_ERROR)
 data_in_recovers s p row n q h e = (
-  λ z. repeats_row s p row n q (one_message to_initiator.RestorePointers) nexts.GoOn (not t.in_hold) h (leaves ∙ recovers_so v.def t (one_message to_initiator.RestorePointers) nexts.GoOn (phase_entry phases.Status) z) (asked_none s p row n q h causes.InData e),
-  λ z. fails_row s p row n q INITIATOR_DETECTED_ERROR h (leaves ∙ gives_up_so v.def t (pointer_restoration nexts.GoOn) (phase_entry phases.Status) z) (open_if s p row n q h placed.runs.reply) (asked_none s p row n q h causes.InData e) fails,
+  λ z. repeats_row s p row n q (one_message MsgIn.RestorePointers) Next.GoOn (not t.in_hold) h (leaves ∙ recovers_so v.def t (one_message MsgIn.RestorePointers) Next.GoOn (phase_entry Phase.Status) z) (asked_none s p row n q h Cause.InData e),
+  λ z. fails_row s p row n q INITIATOR_DETECTED_ERROR h (leaves ∙ gives_up_so v.def t (pointer_restoration Next.GoOn) (phase_entry Phase.Status) z) (open_if s p row n q h placed.runs.reply) (asked_none s p row n q h Cause.InData e) fails,
 )
   where
     k : RunState
@@ -415,23 +374,23 @@ data_in_recovers s p row n q h e = (
     t : Task
     t = task_here s k q
 
-    here : phase_of (bus_of k) ≡ phases.MessageOut
-    here = phase_is s p row n q h phases.MessageOut e.0
+    here : phase_of (bus_of k) ≡ Phase.MessageOut
+    here = phase_is s p row n q h Phase.MessageOut e.0
 
-    placed : PlacedAsked h.end.was.places.array q k.exchange.plan causes.InData
-    placed = subst (PlacedAsked h.end.was.places.array q k.exchange.plan) e.1 (placed_is s p row n q h phases.MessageOut e.0)
+    placed : PlacedAsked h.end.was.places.array q k.exchange.plan Cause.InData
+    placed = subst (PlacedAsked h.end.was.places.array q k.exchange.plan) e.1 (placed_is s p row n q h Phase.MessageOut e.0)
 
-    leaves : leaving s k n.target ≡ recovery v.def t (pointer_restoration nexts.GoOn) (phase_entry phases.Status)
-    leaves = asked_leaves s p row n q h causes.InData e ∙ (λ i. with_task (task_is s p row n q h i) (λ x. recovery v.def x (pointer_restoration nexts.GoOn) (phase_entry phases.Status)))
+    leaves : leaving s k n.target ≡ recovery v.def t (pointer_restoration Next.GoOn) (phase_entry Phase.Status)
+    leaves = asked_leaves s p row n q h Cause.InData e ∙ (λ i. with_task (task_is s p row n q h i) (λ x. recovery v.def x (pointer_restoration Next.GoOn) (phase_entry Phase.Status)))
 
-    fails : reply_events q.id v.plan v.arrival (phase_of (bus_of k)) ≡ events.Fail q.id INITIATOR_DETECTED_ERROR ∷ []
+    fails : reply_events q.id v.plan v.arrival (phase_of (bus_of k)) ≡ Event.Fail q.id INITIATOR_DETECTED_ERROR ∷ []
     fails = ap (reply_events q.id v.plan v.arrival) here ∙ ap (λ (x : Cause). detected_events x q.id) e.1
 
-pub status_recovers : (s : ScenarioValue) (p : List Row) (row : Row) (n : Connection) (q : Process) → Obeys s → Left s p row n q → IsAsked s p causes.InStatus
-    → RecoversUnless (is_spent s (run_state s p) n q) (Recovers s p row q (one_message to_initiator.RestorePointers) nexts.Status) (IsLost s p row q)
+pub status_recovers : (s : ScenarioValue) (p : List Row) (row : Row) (n : Connection) (q : Process) → Obeys s → Left s p row n q → IsAsked s p Cause.InStatus
+    → RecoversUnless (is_spent s (run_state s p) n q) (Recovers s p row q (one_message MsgIn.RestorePointers) Next.Status) (IsLost s p row q)
 status_recovers s p row n q o h e = (
-  λ z. repeats_row s p row n q (one_message to_initiator.RestorePointers) nexts.Status (not t.in_hold) h (leaves ∙ recovers_so v.def t (one_message to_initiator.RestorePointers) nexts.Status bus_free z) (asked_none s p row n q h causes.InStatus e),
-  λ z. lost_row s p row n q h (leaves ∙ gives_up_so v.def t (pointer_restoration nexts.Status) bus_free z) (asked_lost s p row n q o h causes.InStatus e),
+  λ z. repeats_row s p row n q (one_message MsgIn.RestorePointers) Next.Status (not t.in_hold) h (leaves ∙ recovers_so v.def t (one_message MsgIn.RestorePointers) Next.Status bus_free z) (asked_none s p row n q h Cause.InStatus e),
+  λ z. lost_row s p row n q h (leaves ∙ gives_up_so v.def t (pointer_restoration Next.Status) bus_free z) (asked_lost s p row n q o h Cause.InStatus e),
 )
   where
     k : RunState
@@ -443,21 +402,21 @@ status_recovers s p row n q o h e = (
     t : Task
     t = task_here s k q
 
-    leaves : leaving s k n.target ≡ recovery v.def t (pointer_restoration nexts.Status) bus_free
-    leaves = asked_leaves s p row n q h causes.InStatus e ∙ (λ i. with_task (task_is s p row n q h i) (λ x. recovery v.def x (pointer_restoration nexts.Status) bus_free))
+    leaves : leaving s k n.target ≡ recovery v.def t (pointer_restoration Next.Status) bus_free
+    leaves = asked_leaves s p row n q h Cause.InStatus e ∙ (λ i. with_task (task_is s p row n q h i) (λ x. recovery v.def x (pointer_restoration Next.Status) bus_free))
 
 -- A refused message: the initiator answers no request of the target.
-refused_leaves : (s : ScenarioValue) (p : List Row) (row : Row) (n : Connection) (q : Process) → Left s p row n q → IsAsked s p causes.InMessage → (run_state s p).exchange.plan.said.offer ≡ None
+refused_leaves : (s : ScenarioValue) (p : List Row) (row : Row) (n : Connection) (q : Process) → Left s p row n q → IsAsked s p Cause.InMessage → (run_state s p).exchange.plan.said.offer ≡ None
     → (b : Bool) → is_naming (run_state s p).exchange.plan.messages.first ≡ b
     → leaving s (run_state s p) n.target
     ≡ (if b then message_repetition (run_state s p).exchange.plan else recovery (serving_of s (run_state s p) n.target).def (task_here s (run_state s p) q) (message_repetition (run_state s p).exchange.plan) bus_free)
 refused_leaves s p row n q h e none b name =
     let k : RunState = run_state s p in
     let v : Serving = serving_of s k n.target in
-    asked_leaves s p row n q h causes.InMessage e
-    ∙ (λ i. if is_some (none i) then phase_entry phases.Command else if name i then message_repetition v.plan else with_task (task_is s p row n q h i) (λ x. recovery v.def x (message_repetition v.plan) bus_free))
+    asked_leaves s p row n q h Cause.InMessage e
+    ∙ (λ i. if is_some (none i) then phase_entry Phase.Command else if name i then message_repetition v.plan else with_task (task_is s p row n q h i) (λ x. recovery v.def x (message_repetition v.plan) bus_free))
 
-pub message_recovers : (s : ScenarioValue) (p : List Row) (row : Row) (n : Connection) (q : Process) → Obeys s → Left s p row n q → IsAsked s p causes.InMessage → (run_state s p).exchange.plan.said.offer ≡ None
+pub message_recovers : (s : ScenarioValue) (p : List Row) (row : Row) (n : Connection) (q : Process) → Obeys s → Left s p row n q → IsAsked s p Cause.InMessage → (run_state s p).exchange.plan.said.offer ≡ None
     → is_naming (run_state s p).exchange.plan.messages.first ≡ false
     → RecoversUnless (is_spent s (run_state s p) n q) (Recovers s p row q (run_state s p).exchange.plan.messages (run_state s p).exchange.plan.next) (IsLost s p row q)
 message_recovers s p row n q o h e none name =
@@ -465,26 +424,26 @@ message_recovers s p row n q o h e none name =
     let v : Serving = serving_of s k n.target in
     let t : Task = task_here s k q in
     let leaves = refused_leaves s p row n q h e none false name in (
-      λ z. repeats_row s p row n q k.exchange.plan.messages k.exchange.plan.next (not t.in_hold) h (leaves ∙ recovers_so v.def t k.exchange.plan.messages k.exchange.plan.next bus_free z) (asked_none s p row n q h causes.InMessage e),
-      λ z. lost_row s p row n q h (leaves ∙ gives_up_so v.def t (message_repetition k.exchange.plan) bus_free z) (asked_lost s p row n q o h causes.InMessage e),
+      λ z. repeats_row s p row n q k.exchange.plan.messages k.exchange.plan.next (not t.in_hold) h (leaves ∙ recovers_so v.def t k.exchange.plan.messages k.exchange.plan.next bus_free z) (asked_none s p row n q h Cause.InMessage e),
+      λ z. lost_row s p row n q h (leaves ∙ gives_up_so v.def t (message_repetition k.exchange.plan) bus_free z) (asked_lost s p row n q o h Cause.InMessage e),
     )
 
 -- The names of a reselected process without limit.
-pub names_repeat : (s : ScenarioValue) (p : List Row) (row : Row) (n : Connection) (q : Process) → Left s p row n q → IsAsked s p causes.InMessage → (run_state s p).exchange.plan.said.offer ≡ None
+pub names_repeat : (s : ScenarioValue) (p : List Row) (row : Row) (n : Connection) (q : Process) → Left s p row n q → IsAsked s p Cause.InMessage → (run_state s p).exchange.plan.said.offer ≡ None
     → is_naming (run_state s p).exchange.plan.messages.first ≡ true
     → Repeats s p row q (run_state s p).exchange.plan.messages (run_state s p).exchange.plan.next false
 names_repeat s p row n q h e none name =
     let k : RunState = run_state s p in
-    repeats_row s p row n q k.exchange.plan.messages k.exchange.plan.next false h (refused_leaves s p row n q h e none true name) (asked_none s p row n q h causes.InMessage e)
+    repeats_row s p row n q k.exchange.plan.messages k.exchange.plan.next false h (refused_leaves s p row n q h e none true name) (asked_none s p row n q h Cause.InMessage e)
 
 -- ---- MESSAGE OUT is left
 
 -- Whatever its target serves.
-pub taken_all : (s : ScenarioValue) (p : List Row) (row : Row) (n : Connection) → Obeys s → PhaseEnd s p row n → IsLeaving s p row n → phase_of (bus p) ≡ phases.MessageOut → HasTakenAll (run_state s p)
+pub taken_all : (s : ScenarioValue) (p : List Row) (row : Row) (n : Connection) → Obeys s → PhaseEnd s p row n → IsLeaving s p row n → phase_of (bus p) ≡ Phase.MessageOut → HasTakenAll (run_state s p)
 taken_all s p row n o end w e =
     let k : RunState = run_state s p in
     let pl : IsPlain s p k = run_state_plain s p end.was.stood.standing.devices in
-    let here : phase_of (bus_of k) ≡ phases.MessageOut = ap phase_of pl.bus ∙ e in
+    let here : phase_of (bus_of k) ≡ Phase.MessageOut = ap phase_of pl.bus ∙ e in
     let speaks = end.was.stood.books.speaks n (pl.connection ∙ w.stands) (ap (λ (x : LineSet). x.rst) pl.bus ∙ w.calm) in
     let heard : IsHeard s k = is_heard s k n (units_are s (obeys_fits s o)) speaks w.begun end.known end.over here in
     record { last = heard.last; unstruck = out_unstruck s k n here end.over }

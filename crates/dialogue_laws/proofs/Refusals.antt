@@ -1,77 +1,35 @@
 -- MESSAGE OUT that follows a phase to the initiator in which a byte was struck is left with the complaint heard (6.6.10, 6.6.13): it is
 -- not the answer to a request of the target (6.6.21).
-use Rattle.std.proofs.Common.{inl, ◌≡◌, ◌<◌, Bool, true, false, not, ◌&&◌, ◌||◌, ◌∙◌, List, [], ◌∷◌, Option, Some, None, refl, sym, ap, subst}
-use Rattle.std.specs.Prelude.{if◌then◌else◌, is_none, is_some}
-use Rattle.bus_due.specs.bus_base.proofs.Tests.{wrong'}
-use Rattle.bus_due.specs.bus_trace.specs.Changes.{change_of}
-use Rattle.bus_due.specs.bus_trace.specs.LineSet.{LineSet}
-use Rattle.bus_due.specs.bus_trace.specs.Phases.{changes_phase, is_message_in, is_message_out}
-use Rattle.bus_due.specs.bus_trace.specs.Terms.{connection, is_fault, receiver_in}
-use Rattle.bus_due.specs.bus_trace.specs.Trace.{bus}
-use Rattle.bus_due.specs.bus_trace.specs.declared.Row.{Row}
-use Rattle.bus_due.specs.bus_trace.specs.declared.agreements.Agreement.{Agreement}
-use Rattle.bus_due.specs.bus_trace.specs.declared.changes.Change.{Change}
-use Rattle.bus_due.specs.bus_trace.specs.declared.connection.Connection.{Connection}
-use Rattle.bus_due.specs.bus_lines.specs.Handshakes.{Handshakes}
-use Rattle.bus_due.specs.msg_grammar.specs.declared.message.MsgIn.{MsgIn}
-use Rattle.bus_due.specs.msg_grammar.specs.declared.message.MsgOut.{MsgOut}
-use Rattle.bus_due.specs.scenario.specs.declared.value.HostDef.{HostDef}
-use Rattle.bus_due.specs.scenario.specs.Value.{ScenarioValue}
-use Rattle.bus_due.specs.scenario.specs.Writing.{Obeys}
-use Rattle.bus_due.specs.disk_array.specs.Processes.{Process}
-use Rattle.bus_due.specs.bus_story.specs.BusState.{RowReading, row_reading}
-use Rattle.bus_due.specs.bus_dialogue.specs.Exchange.{Exchange, Speech, plan_after_message, speech_after_byte, speech_after_request, struck_plan}
-use Rattle.bus_due.specs.bus_dialogue.specs.Hearing.{begun, begun_after}
-use Rattle.bus_due.specs.bus_dialogue.specs.NextPhase.{phase_of}
-use Rattle.bus_due.specs.bus_dialogue.specs.Planning.{cause_after}
-use Rattle.bus_due.specs.bus_dialogue.specs.Words.{answer_bytes, detected_error, parity_error}
-use Rattle.bus_due.specs.bus_dialogue.specs.declared.exchange.Cause.{Cause}
-use Rattle.bus_due.specs.bus_dialogue.specs.declared.exchange.Cause.TheVariants as causes
-use Rattle.bus_due.specs.bus_dialogue.specs.declared.exchange.Phase.{Phase}
-use Rattle.bus_due.specs.bus_dialogue.specs.declared.exchange.Phase.TheVariants as phases
-use Rattle.bus_due.specs.bus_dialogue.specs.declared.exchange.Plan.{Plan}
-use Rattle.bus_due.specs.bus_dialogue.specs.declared.exchange.Said.{Said}
-use Rattle.bus_due.specs.Defs.{host_of}
-use Rattle.bus_due.specs.Next.{IsPrompt}
-use Rattle.bus_due.specs.Plain.{IsPlain}
-use Rattle.bus_due.specs.RunState.{RunState, bus_of}
-use Rattle.bus_due.specs.RunSteps.{run_state, run_state_after}
-use Rattle.bus_due.proofs.Plains.{run_state_plain}
-use Rattle.progress_laws.specs.bus_books.specs.WrongParity.{is_complaint, is_refusing, is_struck_phase}
-use Rattle.progress_laws.specs.bus_books.specs.Hearing.{is_out_phase}
-use Rattle.progress_laws.specs.bus_books.specs.Rows.{reading_in}
-use Rattle.progress_laws.specs.bus_books.proofs.InConnection.{InConnection, in_connection}
-use Rattle.progress_laws.specs.bus_laws.proofs.Apart.{change_plain}
-use Rattle.progress_laws.specs.bus_laws.proofs.Prompt.{least_is}
-use Rattle.progress_laws.specs.link_laws.specs.LinkStages.{LinkStage, when_offering, when_pulsing, when_selected, when_settling, when_shaking, when_turning}
-use Rattle.progress_laws.specs.trace_laws.specs.Tells.{IsLeaving}
-use Rattle.progress_laws.specs.trace_laws.proofs.ConnectionRows.{GoingRow, RowKindOf, begins_now, connection_row, goes_now, going_row, row_kind, stage_of_connection}
-use Rattle.progress_laws.specs.trace_laws.proofs.Impossible.{none_some}
-use Rattle.progress_laws.specs.trace_laws.proofs.InstructedTurns.{out_is}
-use Rattle.progress_laws.specs.trace_laws.proofs.OfferLeavings.{all_said, parity_said}
-use Rattle.progress_laws.specs.trace_laws.proofs.PhaseLines.{in_phase, out_phase}
-use Rattle.progress_laws.specs.trace_laws.proofs.RunCountFacts.{or_left}
-use Rattle.progress_laws.specs.trace_laws.proofs.Whole.{Whole, standing_next, whole}
-use Rattle.dialogue_laws.proofs.PhaseEnds.{phase_end, words_by}
-use Rattle.dialogue_laws.proofs.RecoveryRows.{Left, phase_is, taken_all}
-use Rattle.dialogue_laws.proofs.StruckPhases.{is_talk, struck_attends}
-use Rattle.dialogue_laws.specs.Recoveries.{IsWithin, phase_if, present_phase}
+use Rattle.dialogue_laws.proofs
+use proofs.Names.{inl, ◌≡◌, ◌<◌, Bool, true, false, not, ◌&&◌, ◌||◌, ◌∙◌, List, [], ◌∷◌, Option, Some, None, refl, sym}
+use proofs.Names.{ap, subst, if◌then◌else◌, is_none, is_some, wrong', change_of, LineSet, changes_phase, is_message_in}
+use proofs.Names.{is_message_out, connection, is_fault, receiver_in, bus, Row, Agreement, Change, Connection}
+use proofs.Names.{Handshakes, MsgIn, MsgOut, ScenarioValue, Obeys, HostDef, Process, RowReading, row_reading, Exchange}
+use proofs.Names.{Speech, plan_after_message, speech_after_byte, speech_after_request, struck_plan, begun, begun_after}
+use proofs.Names.{phase_of, cause_after, answer_bytes, detected_error, parity_error, Cause, Phase, Plan, Said}
+use proofs.Names.{run_state_plain, host_of, IsPrompt, IsPlain, RunState, bus_of, run_state, run_state_after}
+use proofs.Names.{InConnection, in_connection, is_out_phase, reading_in, is_complaint, is_refusing, is_struck_phase}
+use proofs.Names.{change_plain, least_is, LinkStage, when_offering, when_pulsing, when_selected, when_settling}
+use proofs.Names.{when_shaking, when_turning, none_some, in_phase, out_phase, out_is, GoingRow, RowKindOf, begins_now}
+use proofs.Names.{connection_row, goes_now, going_row, row_kind, stage_of_connection, all_said, parity_said, or_left}
+use proofs.{Names.{Whole, standing_next, whole, IsLeaving, IsWithin, phase_if, present_phase}, PhaseEnds.{phase_end}}
+use proofs.{PhaseEnds.{words_by}, RecoveryRows.{Left, phase_is, taken_all}, StruckPhases.{is_talk, struck_attends}}
 
 -- The initiator has a complaint to say.
 abbrev Refuses : Exchange → Cause → Type 0
-Refuses x causes.Selected = false ≡ true
-Refuses x causes.InMessage = x.speech.words ≡ parity_error
-Refuses x causes.InData = true ≡ true
-Refuses x causes.InStatus = true ≡ true
+Refuses x Cause.Selected = false ≡ true
+Refuses x Cause.InMessage = x.speech.words ≡ parity_error
+Refuses x Cause.InData = true ≡ true
+Refuses x Cause.InStatus = true ≡ true
 
 abbrev RefusalFacts : ScenarioValue → List Row → Type 0
 RefusalFacts s p = (n : Connection) → connection p ≡ Some n → (bus p).rst ≡ false → begun p ≡ true → is_refusing s p ≡ true → Refuses (run_state s p).exchange (run_state s p).exchange.plan.cause
 
 refuses_as : (x y : Exchange) (cause : Cause) → y.speech.words ≡ x.speech.words → Refuses x cause → Refuses y cause
-refuses_as x y causes.Selected e h = h
-refuses_as x y causes.InMessage e h = e ∙ h
-refuses_as x y causes.InData e h = h
-refuses_as x y causes.InStatus e h = h
+refuses_as x y Cause.Selected e h = h
+refuses_as x y Cause.InMessage e h = e ∙ h
+refuses_as x y Cause.InData e h = h
+refuses_as x y Cause.InStatus e h = h
 
 -- ---- the phase stays
 
@@ -130,7 +88,7 @@ begun_with_io s p n (when_pulsing i req ack atn x y h a) io = h.phase.begun_is
 begins_refusing : (x : Exchange) (h : Option HostDef) (b : LineSet) (struck : Bool) (asked : Agreement) → x.plan.cause ≡ cause_after b → x.speech.words ≡ words_by h b struck asked → (is_message_in b ≡ true → struck ≡ true) → Refuses x x.plan.cause
 begins_refusing x h b struck asked cause words told = subst (λ (y : Cause). Refuses x y) (sym cause) (go (is_message_in b) refl b.cd)
   where
-    go : (m : Bool) → is_message_in b ≡ m → (c : Bool) → Refuses x (if m then causes.InMessage else if c then causes.InStatus else causes.InData)
+    go : (m : Bool) → is_message_in b ≡ m → (c : Bool) → Refuses x (if m then Cause.InMessage else if c then Cause.InStatus else Cause.InData)
     go true e c = words ∙ (λ i. if not (e i) then detected_error else if told e i then parity_error else answer_bytes h asked)
     go false e true = refl
     go false e false = refl
@@ -187,7 +145,7 @@ refusal_next s p row o prompt was facts n after calm b here = by (row_kind s p r
           leaves = inl (ap changes_phase change ∙ ep);
         }
 
-        present : present_phase q ≡ Some phases.MessageOut
+        present : present_phase q ≡ Some Phase.MessageOut
         present = ap (λ (x : Option Connection). phase_if x (bus q)) after ∙ ap (λ (x : Phase). Some x) (out_phase c.after begins.2)
 
         says : ((run_state s q).exchange.plan.cause ≡ cause_after (bus_of k)) × ((run_state s q).exchange.speech.words ≡ words_by (host_of s n.initiator) (bus_of k) k.handshakes.struck k.exchange.speech.asked)
@@ -231,13 +189,13 @@ refusals s (row ∷ p) o prompt = refusal_next s p row o prompt (whole s p o pro
 -- ---- MESSAGE OUT is left
 
 complains : (x : Exchange) (cause : Cause) → x.plan.cause ≡ cause → Refuses x cause → (x.speech.words ≡ parity_error → x.plan.said.offer ≡ None) → is_complaint x.plan cause ≡ true
-complains x causes.Selected e h f = wrong' h
-complains x causes.InMessage e h f = ap (λ (a : Option Agreement). is_none a) (f h)
-complains x causes.InData e h f = refl
-complains x causes.InStatus e h f = refl
+complains x Cause.Selected e h f = wrong' h
+complains x Cause.InMessage e h f = ap (λ (a : Option Agreement). is_none a) (f h)
+complains x Cause.InData e h f = refl
+complains x Cause.InStatus e h f = refl
 
 -- The target has heard the complaint.
-pub refused_out : (s : ScenarioValue) (p : List Row) (row : Row) (n : Connection) (q : Process) → Obeys s → IsPrompt s (row ∷ p) → Left s p row n q → phase_of (bus p) ≡ phases.MessageOut → is_refusing s p ≡ true → is_complaint (run_state s p).exchange.plan (run_state s p).exchange.plan.cause ≡ true
+pub refused_out : (s : ScenarioValue) (p : List Row) (row : Row) (n : Connection) (q : Process) → Obeys s → IsPrompt s (row ∷ p) → Left s p row n q → phase_of (bus p) ≡ Phase.MessageOut → is_refusing s p ≡ true → is_complaint (run_state s p).exchange.plan (run_state s p).exchange.plan.cause ≡ true
 refused_out s p row n q o prompt h e refusing = complains k.exchange k.exchange.plan.cause refl (refusals s p o prompt.0 n h.leaving_row.stands h.leaving_row.calm (sym pl.begun ∙ h.leaving_row.begun) refusing) unasked
   where
     k : RunState
@@ -247,7 +205,7 @@ refused_out s p row n q o prompt h e refusing = complains k.exchange k.exchange.
     pl = run_state_plain s p h.end.was.stood.standing.devices
 
     out : is_message_out (bus_of k) ≡ true
-    out = out_is (bus_of k) h.end.known ∙ ap is_out_phase (phase_is s p row n q h phases.MessageOut e)
+    out = out_is (bus_of k) h.end.known ∙ ap is_out_phase (phase_is s p row n q h Phase.MessageOut e)
 
     -- of MESSAGE PARITY ERROR alone no request is heard
     unasked : k.exchange.speech.words ≡ parity_error → k.exchange.plan.said.offer ≡ None

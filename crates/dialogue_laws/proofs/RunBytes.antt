@@ -1,43 +1,11 @@
 -- As a data run is done all its bytes have crossed, and no more.
-use Rattle.std.proofs.Common.{inl, inr, ℕ, ◌≡◌, ◌≤◌, ◌⊎◌, Bool, true, false, ◌∙◌, List, ◌∷◌, Some, refl, sym, ap, subst, arith}
-use Rattle.std.specs.Prelude.{nat_lt}
-use Rattle.std.proofs.lemmas.Bool.{leb-true, ltb-false}
-use Rattle.bus_due.specs.bus_trace.specs.LineSet.{LineSet}
-use Rattle.bus_due.specs.bus_trace.specs.Phases.{is_data}
-use Rattle.bus_due.specs.bus_trace.specs.Trace.{bus}
-use Rattle.bus_due.specs.bus_trace.specs.declared.Row.{Row}
-use Rattle.bus_due.specs.bus_trace.specs.declared.connection.Connection.{Connection}
-use Rattle.bus_due.specs.bus_lines.specs.Handshakes.{Handshakes, handshakes}
-use Rattle.bus_due.specs.scenario.specs.Value.{ScenarioValue}
-use Rattle.bus_due.specs.scenario.specs.Writing.{Obeys}
-use Rattle.bus_due.specs.disk_array.specs.Processes.{Process}
-use Rattle.bus_due.specs.bus_dialogue.specs.Arrivals.{policy_of}
-use Rattle.bus_due.specs.bus_dialogue.specs.DataRuns.{run_length}
-use Rattle.bus_due.specs.bus_dialogue.specs.Ends.{follows_by}
-use Rattle.bus_due.specs.bus_dialogue.specs.NextPhase.{phase_of}
-use Rattle.bus_due.specs.bus_dialogue.specs.PhaseBytes.{follows_in, run_length_if}
-use Rattle.bus_due.specs.bus_dialogue.specs.declared.exchange.Phase.{Phase}
-use Rattle.bus_due.specs.bus_dialogue.specs.declared.exchange.Phase.TheVariants as phases
-use Rattle.bus_due.specs.bus_dialogue.specs.declared.exchange.Task.{Task}
-use Rattle.bus_due.specs.Defs.{target_def_of}
-use Rattle.bus_due.specs.Next.{IsPrompt}
-use Rattle.bus_due.specs.Plain.{IsPlain}
-use Rattle.bus_due.specs.RunState.{RunState, bus_of}
-use Rattle.bus_due.specs.RunSteps.{run_state}
-use Rattle.bus_due.specs.Sights.{pace_of, serving_of}
-use Rattle.bus_due.specs.Tasks.{is_writing}
-use Rattle.bus_due.proofs.Plains.{run_state_plain}
-use Rattle.progress_laws.specs.bus_books.specs.WrongParity.{is_struck_phase}
-use Rattle.progress_laws.specs.link_laws.specs.Pulses.{run_count}
-use Rattle.progress_laws.specs.trace_laws.proofs.PhaseLines.{data_in_lines}
-use Rattle.progress_laws.specs.trace_laws.proofs.RunFacts.{task_here}
-use Rattle.progress_laws.specs.trace_laws.proofs.Whole.{steps}
-use Rattle.right_laws.proofs.DataOffers.{is_data_in}
-use Rattle.right_laws.proofs.ReadBooks.{read_books}
-use Rattle.dialogue_laws.specs.Recoveries.{present_phase}
-use Rattle.dialogue_laws.specs.Runs.{policy_at}
-use Rattle.dialogue_laws.proofs.RecoveryRows.{Left, phase_is, task_is}
-use Rattle.dialogue_laws.proofs.RunRows.{unstruck}
+use Rattle.dialogue_laws.proofs
+use proofs.Names.{inl, inr, ℕ, ◌≡◌, ◌≤◌, ◌⊎◌, Bool, true, false, ◌∙◌, List, ◌∷◌, Some, refl, sym, ap, subst, arith}
+use proofs.Names.{leb-true, ltb-false, nat_lt, LineSet, is_data, bus, Row, Connection, Handshakes, handshakes}
+use proofs.Names.{ScenarioValue, Obeys, Process, policy_of, run_length, follows_by, phase_of, follows_in, run_length_if}
+use proofs.Names.{Phase, Task, run_state_plain, target_def_of, IsPrompt, IsPlain, RunState, bus_of, run_state, pace_of}
+use proofs.Names.{serving_of, is_writing, is_struck_phase, run_count, data_in_lines, task_here, steps, read_books}
+use proofs.{Names.{is_data_in, present_phase, policy_at}, RecoveryRows.{Left, phase_is, task_is}, RunRows.{unstruck}}
 
 just : (a b : ℕ) → a ≤ b → b ≤ a → a ≡ b
 just a b h k = omega (arith, h, k)
@@ -64,7 +32,7 @@ length_is : (s : ScenarioValue) (p : List Row) (row : Row) (n : Connection) (q :
 length_is s p row n q h = ap (run_length_if (policy_at s n)) (task_is s p row n q h)
 
 pub length_out : (s : ScenarioValue) (p : List Row) (row : Row) (n : Connection) (q : Process) (next : Phase) → Obeys s → IsPrompt s (row ∷ p) → Left s p row n q → present_phase (row ∷ p) ≡ Some next
-    → phase_of (bus p) ≡ phases.DataOut → is_struck_phase s p ≡ false → (handshakes p).answers ≡ run_length (policy_at s n) (task_here s (run_state s p) q)
+    → phase_of (bus p) ≡ Phase.DataOut → is_struck_phase s p ≡ false → (handshakes p).answers ≡ run_length (policy_at s n) (task_here s (run_state s p) q)
 length_out s p row n q next o prompt h to phase struck =
     just (handshakes p).answers (run_length (policy_at s n) t) (subst (λ (x : ℕ). (handshakes p).answers ≤ x) (length_is s p row n q h) counts.within)
     (subst (λ (x : ℕ). run_length (policy_at s n) t ≤ x) (ap (λ (x : Handshakes). x.answers) pl.handshakes)
@@ -90,11 +58,11 @@ length_out s p row n q next o prompt h to phase struck =
     on = h.end.stands next to
 
     whole : Rattle.progress_laws.specs.trace_laws.specs.WriteFacts.IsAnsweredWhole s k q t
-    whole = (steps s p row o prompt h.end.was).writes.answered n q t h.leaving_row.stands h.leaving_row.calm h.leaving_row.calm_after on.0 begun_is on.1 (phase_is s p row n q h phases.DataOut phase) (unstruck s p struck) h.served (task_is s p row n q h)
+    whole = (steps s p row o prompt h.end.was).writes.answered n q t h.leaving_row.stands h.leaving_row.calm h.leaving_row.calm_after on.0 begun_is on.1 (phase_is s p row n q h Phase.DataOut phase) (unstruck s p struck) h.served (task_is s p row n q h)
 
 -- In DATA IN the target asks for all of them, and leaves the phase once they are taken.
 pub length_in : (s : ScenarioValue) (p : List Row) (row : Row) (n : Connection) (q : Process) → Obeys s → IsPrompt s (row ∷ p) → Left s p row n q
-    → phase_of (bus p) ≡ phases.DataIn → (handshakes p).requests ≡ run_length (policy_at s n) (task_here s (run_state s p) q)
+    → phase_of (bus p) ≡ Phase.DataIn → (handshakes p).requests ≡ run_length (policy_at s n) (task_here s (run_state s p) q)
 length_in s p row n q o prompt h phase =
     just (handshakes p).requests (run_length (policy_at s n) t) (subst (λ (x : ℕ). (handshakes p).requests ≤ x) (length_is s p row n q h) few)
     (subst (λ (x : ℕ). run_length (policy_at s n) t ≤ x) (ap (λ (x : Handshakes). x.requests) pl.handshakes) (subst (λ (x : ℕ). x ≤ k.handshakes.requests) (ap (run_length_if (policy_at s n)) (task_is s p row n q h)) (ltb-false k.handshakes.requests (run_count s p n) all)))
@@ -117,7 +85,7 @@ length_in s p row n q o prompt h phase =
     -- of a phase with pulses or without
     by : (b : Bool) → follows_by (serving_of s k n.target) b (bus_of k) k.handshakes ≡ nat_lt k.handshakes.requests (run_count s p n)
     by true = refl
-    by false = ap (follows_in (serving_of s k n.target) k.handshakes (bus_of k).atn) (phase_is s p row n q h phases.DataIn phase)
+    by false = ap (follows_in (serving_of s k n.target) k.handshakes (bus_of k).atn) (phase_is s p row n q h Phase.DataIn phase)
 
     all : nat_lt k.handshakes.requests (run_count s p n) ≡ false
     all = sym (by (pace_of s k n.target).pulsed) ∙ h.end.over.follows

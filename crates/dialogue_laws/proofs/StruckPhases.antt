@@ -1,60 +1,30 @@
 -- STATUS and MESSAGE IN in which a byte was struck are left with ATN true (6.6.10, 6.6.13): that byte was the last, and with its ACK the
 -- initiator raises ATN.
-use Rattle.std.proofs.Common.{inl, inr, ℕ, ◌≡◌, ◌⊎◌, ◌<◌, Bool, true, false, not, ◌&&◌, ◌||◌, ◌∙◌, List, [], ◌∷◌, Option, Some, None, refl, sym, ap, subst}
-use Rattle.std.specs.Prelude.{if◌then◌else◌, is_some}
-use Rattle.std.proofs.lemmas.Bool.{eqb-true}
-use Rattle.bus_due.specs.bus_base.proofs.Tests.{or_false, or_true, wrong, wrong'}
-use Rattle.bus_due.specs.bus_trace.proofs.OneRow.{bus-fault}
-use Rattle.bus_due.specs.bus_trace.specs.Changes.{change_of, rises}
-use Rattle.bus_due.specs.bus_trace.specs.LineSet.{LineSet}
-use Rattle.bus_due.specs.bus_trace.specs.Phases.{changes_phase}
-use Rattle.bus_due.specs.bus_trace.specs.Terms.{connection, connection_after, is_fault, receiver, receiver_in, receiver_of}
-use Rattle.bus_due.specs.bus_trace.specs.Trace.{bus}
-use Rattle.bus_due.specs.bus_trace.specs.declared.Kind.{Kind}
-use Rattle.bus_due.specs.bus_trace.specs.declared.Kind.TheVariants.{Drives, Fault}
-use Rattle.bus_due.specs.bus_trace.specs.declared.Row.{Row}
-use Rattle.bus_due.specs.bus_trace.specs.declared.changes.Change.{Change}
-use Rattle.bus_due.specs.bus_trace.specs.declared.connection.Connection.{Connection}
-use Rattle.bus_due.specs.bus_lines.specs.Handshakes.{Handshakes, answered_if, asked_if, handshakes, handshakes_after, no_handshakes, strikes, strikes_if}
-use Rattle.bus_due.specs.scenario.specs.Value.{ScenarioValue}
-use Rattle.bus_due.specs.scenario.specs.Writing.{Obeys}
-use Rattle.bus_due.specs.bus_story.specs.BusState.{RowReading, row_reading}
-use Rattle.bus_due.specs.bus_dialogue.specs.Hearing.{begun, begun_after}
-use Rattle.bus_due.specs.bus_dialogue.specs.NextPhase.{phase_of}
-use Rattle.bus_due.specs.bus_dialogue.specs.declared.exchange.Phase.{Phase}
-use Rattle.bus_due.specs.bus_dialogue.specs.declared.exchange.Phase.TheVariants as phases
-use Rattle.bus_due.specs.Next.{IsPrompt}
-use Rattle.bus_due.specs.Plain.{IsPlain}
-use Rattle.bus_due.specs.RunSteps.{run_state}
-use Rattle.bus_due.proofs.Plains.{run_state_plain}
-use Rattle.progress_laws.specs.bus_books.specs.Rows.{RowKind, crosses, still, strikes as fault_strikes, turns}
-use Rattle.progress_laws.specs.bus_books.specs.WrongParity.{is_struck_phase}
-use Rattle.progress_laws.specs.bus_laws.proofs.Apart.{change_plain}
-use Rattle.progress_laws.specs.bus_laws.proofs.Prompt.{least_is}
-use Rattle.progress_laws.specs.trace_laws.specs.ItemTalks.{awaits}
-use Rattle.progress_laws.specs.trace_laws.specs.Tells.{IsLeaving}
-use Rattle.progress_laws.specs.trace_laws.proofs.ConnectionRows.{RowKindOf, begins_now, connection_row, goes_now, going_row, row_kind, stage_of_connection}
-use Rattle.progress_laws.specs.trace_laws.proofs.FailureFaults.{fault_receives}
-use Rattle.progress_laws.specs.trace_laws.proofs.Impossible.{none_some}
-use Rattle.progress_laws.specs.trace_laws.proofs.Joint.{link_phase}
-use Rattle.progress_laws.specs.trace_laws.proofs.LinkRows.{LinkRow, is_unasked}
-use Rattle.progress_laws.specs.trace_laws.proofs.RunCountFacts.{or_left, unasked_low}
-use Rattle.progress_laws.specs.trace_laws.proofs.UndoneAnswers.{same_phase_of}
-use Rattle.progress_laws.specs.trace_laws.proofs.Whole.{Whole, standing_next, whole}
-use Rattle.dialogue_laws.proofs.StruckRows.{Stays, owes, struck_row}
+use Rattle.dialogue_laws.proofs
+use proofs.Names.{inl, inr, ℕ, ◌≡◌, ◌⊎◌, ◌<◌, Bool, true, false, not, ◌&&◌, ◌||◌, ◌∙◌, List, [], ◌∷◌, Option, Some}
+use proofs.Names.{None, refl, sym, ap, subst, eqb-true, if◌then◌else◌, is_some, or_false, or_true, wrong, wrong'}
+use proofs.Names.{bus-fault, change_of, rises, LineSet, changes_phase, connection, connection_after, is_fault, receiver}
+use proofs.Names.{receiver_in, receiver_of, bus, Kind, Drives, Fault, Row, Change, Connection, Handshakes, answered_if}
+use proofs.Names.{asked_if, handshakes, handshakes_after, no_handshakes, strikes_if, ScenarioValue, Obeys, RowReading}
+use proofs.Names.{row_reading, begun, begun_after, phase_of, Phase, run_state_plain, IsPrompt, IsPlain, run_state}
+use proofs.Names.{RowKind, crosses, still, strikes as fault_strikes, turns, is_struck_phase, change_plain, least_is}
+use proofs.Names.{none_some, fault_receives, RowKindOf, begins_now, connection_row, goes_now, going_row, row_kind}
+use proofs.Names.{stage_of_connection, link_phase, LinkRow, is_unasked, or_left, unasked_low, same_phase_of, Whole}
+use proofs.{Names.{standing_next, whole, awaits, IsLeaving}, StruckRows.{Stays, owes, struck_row}}
+use Rattle.bus_due.specs.bus_lines.specs.Handshakes.{strikes}
 
 -- ---- STATUS, or MESSAGE IN
 
 abbrev pub is_talk : Phase → Bool
-is_talk phases.Status = true
-is_talk phases.MessageIn = true
+is_talk Phase.Status = true
+is_talk Phase.MessageIn = true
 is_talk _ = false
 
 -- C/D and I/O are true in it.
 talk_lines : (b : LineSet) → (b.msg ≡ true → b.cd ≡ true) → is_talk (phase_of b) ≡ true → (b.cd ≡ true) × (b.io ≡ true)
 talk_lines b known e = go b.msg b.cd b.io known e
   where
-    go : (m c i : Bool) → (m ≡ true → c ≡ true) → is_talk (if m then (if i then phases.MessageIn else phases.MessageOut) else if c then (if i then phases.Status else phases.Command) else if i then phases.DataIn else phases.DataOut) ≡ true → (c ≡ true) × (i ≡ true)
+    go : (m c i : Bool) → (m ≡ true → c ≡ true) → is_talk (if m then (if i then Phase.MessageIn else Phase.MessageOut) else if c then (if i then Phase.Status else Phase.Command) else if i then Phase.DataIn else Phase.DataOut) ≡ true → (c ≡ true) × (i ≡ true)
     go true c true k f = (k refl, refl)
     go true c false k f = wrong' f
     go false true true k f = (refl, refl)

@@ -1,27 +1,11 @@
 -- In COMMAND and DATA OUT the target knows that a fault row stands in the phase.
-use Rattle.std.proofs.Common.{◌≡◌, Bool, true, false, not, ◌&&◌, ◌||◌, ◌∙◌, List, [], ◌∷◌, Option, Some, None, refl, sym, ap}
-use Rattle.std.specs.Prelude.{ℕ, if◌then◌else◌, is_some}
-use Rattle.bus_due.specs.bus_base.proofs.Tests.{wrong, wrong'}
-use Rattle.bus_due.specs.bus_trace.specs.LineSet.{LineSet}
-use Rattle.bus_due.specs.bus_trace.specs.Phases.{changes_phase, is_message_out}
-use Rattle.bus_due.specs.bus_trace.specs.Terms.{is_fault, receiver_in, receiver_of}
-use Rattle.bus_due.specs.bus_trace.specs.declared.Row.{Row}
-use Rattle.bus_due.specs.bus_trace.specs.declared.changes.Change.{Change}
-use Rattle.bus_due.specs.bus_trace.specs.declared.connection.Connection.{Connection}
-use Rattle.bus_due.specs.scenario.specs.Value.{ScenarioValue}
-use Rattle.bus_due.specs.bus_story.specs.BusState.{RowReading, row_reading}
-use Rattle.bus_due.specs.bus_dialogue.specs.declared.exchange.Hearing.{Hearing}
-use Rattle.bus_due.specs.bus_dialogue.specs.declared.exchange.Leaving.{Leaving}
-use Rattle.bus_due.specs.bus_dialogue.specs.declared.exchange.Plan.{Plan}
-use Rattle.bus_due.specs.bus_dialogue.specs.Exchange.{struck_plan}
-use Rattle.bus_due.specs.bus_dialogue.specs.Planning.{plan_after, plan_in_phase, plan_with_byte}
-use Rattle.bus_due.specs.RunState.{RunState, bus_of}
-use Rattle.bus_due.specs.RunSteps.{exchange_after, leaving_of, run_state}
-use Rattle.bus_due.specs.Sights.{hearing_of}
-use Rattle.progress_laws.specs.bus_books.specs.Rows.{RowKind, crosses, still, strikes, turns}
-use Rattle.progress_laws.specs.bus_books.specs.Traces.{AreRowsOf, RowOf, apart as row_apart, begins, goes_on, ends, under_reset}
-use Rattle.progress_laws.specs.bus_books.specs.WrongParity.{is_struck_phase}
-use Rattle.progress_laws.specs.bus_books.proofs.InConnection.{SamePhase, same_phase_is}
+use Rattle.dialogue_laws.proofs
+use proofs.Names.{◌≡◌, Bool, true, false, not, ◌&&◌, ◌||◌, ◌∙◌, List, [], ◌∷◌, Option, Some, None, refl, sym, ap, ℕ}
+use proofs.Names.{if◌then◌else◌, is_some, wrong, wrong', LineSet, changes_phase, is_message_out, is_fault, receiver_in}
+use proofs.Names.{receiver_of, Row, Change, Connection, ScenarioValue, RowReading, row_reading, struck_plan, plan_after}
+use proofs.Names.{plan_in_phase, plan_with_byte, Hearing, Leaving, Plan, RunState, bus_of, exchange_after, leaving_of}
+use proofs.Names.{run_state, hearing_of, SamePhase, same_phase_is, RowKind, crosses, still, strikes, turns, AreRowsOf}
+use proofs.Names.{RowOf, apart as row_apart, begins, goes_on, ends, under_reset, is_struck_phase}
 
 -- Bytes to the target that are none of a message.
 abbrev pub TakesBytes : LineSet → Type 0

@@ -1,39 +1,17 @@
 -- A row of STATUS or MESSAGE IN after its byte was struck: REQ does not rise again, and ATN is true, or the byte waits for the ACK with
 -- which the initiator raises it (6.1.5.1, 6.2.1, 6.6.10, 6.6.13).
-use Rattle.std.proofs.Common.{inl, inr, ℕ, ◌≡◌, ◌⊎◌, Bool, true, false, not, ◌&&◌, ◌||◌, ◌==◌, ◌∙◌, List, [], ◌∷◌, length, Option, Some, None, refl, sym, ap, subst}
-use Rattle.std.specs.Prelude.{if◌then◌else◌, nat_lt}
-use Rattle.bus_due.specs.bus_base.proofs.Tests.{or_false, wrong'}
-use Rattle.bus_due.specs.bus_trace.proofs.Sets.{same_self}
-use Rattle.bus_due.specs.bus_trace.specs.Changes.{change_of, rises}
-use Rattle.bus_due.specs.bus_trace.specs.LineSet.{LineSet}
-use Rattle.bus_due.specs.bus_trace.specs.Phases.{changes_phase}
-use Rattle.bus_due.specs.bus_trace.specs.Terms.{call, connection, connection_after, is_fault}
-use Rattle.bus_due.specs.bus_trace.specs.Trace.{bus, drives, last_time}
-use Rattle.bus_due.specs.bus_trace.specs.declared.Row.{Row}
-use Rattle.bus_due.specs.bus_trace.specs.declared.changes.Change.{Change}
-use Rattle.bus_due.specs.bus_trace.specs.declared.connection.Connection.{Connection}
-use Rattle.bus_due.specs.bus_lines.specs.Handshakes.{Handshakes, answered_if, asked_if, handshakes, handshakes_after, handshakes_on, no_handshakes, strikes_if}
-use Rattle.bus_due.specs.scenario.specs.Value.{ScenarioValue}
-use Rattle.bus_due.specs.bus_dialogue.specs.Exchange.{bytes_of_messages}
-use Rattle.bus_due.specs.bus_dialogue.specs.NextPhase.{Serving, phase_leaving, phase_lines, phase_of}
-use Rattle.bus_due.specs.bus_dialogue.specs.PhaseBytes.{lines_by}
-use Rattle.bus_due.specs.bus_dialogue.specs.declared.exchange.Leaving.{Leaving}
-use Rattle.bus_due.specs.bus_dialogue.specs.declared.exchange.Phase.{Phase}
-use Rattle.bus_due.specs.RunSteps.{run_state}
-use Rattle.bus_due.specs.Sights.{serving_at}
-use Rattle.progress_laws.specs.bus_laws.proofs.Rows.{fault_change}
-use Rattle.progress_laws.specs.bus_laws.specs.Ends.{EndLines, Linked, connected_bus, initiator_side, target_side}
-use Rattle.progress_laws.specs.bus_laws.specs.Rows.{change_to, row_of_fault, row_of_lines}
-use Rattle.progress_laws.specs.link_laws.proofs.EndDues.{answering_with, offering_with}
-use Rattle.progress_laws.specs.link_laws.proofs.Moves.{initiator_moves, no_rise, phase_same, target_moves}
+use Rattle.dialogue_laws.proofs
+use proofs.Names.{inl, inr, ℕ, ◌≡◌, ◌⊎◌, Bool, true, false, not, ◌&&◌, ◌||◌, ◌∙◌, List, [], ◌∷◌, length, Option, Some}
+use proofs.Names.{None, refl, sym, ap, subst, ◌==◌, if◌then◌else◌, nat_lt, or_false, wrong', same_self, change_of}
+use proofs.Names.{rises, LineSet, changes_phase, call, connection, connection_after, is_fault, bus, drives, last_time}
+use proofs.Names.{Row, Change, Connection, Handshakes, answered_if, asked_if, handshakes, handshakes_after}
+use proofs.Names.{handshakes_on, no_handshakes, strikes_if, ScenarioValue, bytes_of_messages, Serving, phase_leaving}
+use proofs.Names.{phase_lines, phase_of, lines_by, Leaving, Phase, run_state, serving_at, fault_change, EndLines}
+use proofs.Names.{Linked, connected_bus, initiator_side, target_side, change_to, row_of_fault, row_of_lines}
+use proofs.Names.{answering_with, offering_with, initiator_moves, no_rise, phase_same, target_moves, none_some}
+use proofs.Names.{lines_are, turn, LinkRow, is_unasked, freed_connection, awaits}
 use Rattle.progress_laws.specs.link_laws.specs.Phases.{ends}
-use Rattle.progress_laws.specs.trace_laws.specs.ItemTalks.{awaits}
-use Rattle.progress_laws.specs.trace_laws.proofs.AttentionRows.{lines_are}
-use Rattle.progress_laws.specs.trace_laws.proofs.Impossible.{none_some}
-use Rattle.progress_laws.specs.trace_laws.proofs.Kept.{turn}
-use Rattle.progress_laws.specs.trace_laws.proofs.LinkRows as rows
-use Rattle.progress_laws.specs.trace_laws.proofs.LinkRows.{LinkRow, is_unasked}
-use Rattle.progress_laws.specs.trace_laws.proofs.Turns.{freed_connection}
+use Rattle.progress_laws.specs.trace_laws.proofs.Lines.Rows as rows
 
 -- ---- a byte that was struck was asked for
 

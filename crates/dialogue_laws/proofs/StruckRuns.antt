@@ -1,59 +1,19 @@
 -- DATA IN in which a byte was struck is left with ATN true (6.6.10): the process fails exactly where ATN is true, or a struck byte waits for
 -- the ACK with which the initiator raises it; and that stays.
-use Rattle.std.proofs.Common.{inl, inr, ℕ, ◌≡◌, ◌⊎◌, ◌<◌, Bool, true, false, not, ◌&&◌, ◌||◌, ◌∙◌, List, [], ◌∷◌, Option, Some, None, refl, sym, ap, subst}
-use Rattle.std.specs.Prelude.{is_some}
-use Rattle.std.proofs.lemmas.Option.{same_Some}
-use Rattle.bus_due.specs.bus_base.proofs.Tests.{or_true, wrong, wrong'}
-use Rattle.bus_due.specs.bus_base.specs.declared.ProcId.{ProcId}
-use Rattle.bus_due.specs.bus_trace.specs.Changes.{change_of}
-use Rattle.bus_due.specs.bus_trace.specs.LineSet.{LineSet}
-use Rattle.bus_due.specs.bus_trace.specs.Phases.{changes_phase}
-use Rattle.bus_due.specs.bus_trace.specs.Terms.{connection, is_fault, receiver_in}
-use Rattle.bus_due.specs.bus_trace.specs.Trace.{bus}
-use Rattle.bus_due.specs.bus_trace.specs.declared.Row.{Row}
-use Rattle.bus_due.specs.bus_trace.specs.declared.changes.Change.{Change}
-use Rattle.bus_due.specs.bus_trace.specs.declared.connection.Connection.{Connection}
-use Rattle.bus_due.specs.bus_lines.specs.Handshakes.{Handshakes, first_of, handshakes, handshakes_after, strikes, strikes_if, strikes_last}
-use Rattle.bus_due.specs.bus_lines.specs.declared.handshakes.Request.{Request}
-use Rattle.bus_due.specs.cdb_codec.specs.declared.sense.TheConstants.{INITIATOR_DETECTED_ERROR}
-use Rattle.bus_due.specs.scenario.specs.Value.{ScenarioValue}
-use Rattle.bus_due.specs.scenario.specs.Writing.{Obeys}
-use Rattle.bus_due.specs.disk_array.specs.Processes.{Process}
-use Rattle.bus_due.specs.bus_story.specs.BusState.{RowReading, row_reading}
-use Rattle.bus_due.specs.bus_story.specs.Items.{Item, process}
-use Rattle.bus_due.specs.bus_story.specs.Links.{Link}
-use Rattle.bus_due.specs.bus_dialogue.specs.Hearing.{begun, begun_after}
-use Rattle.bus_due.specs.bus_dialogue.specs.NextPhase.{phase_of}
-use Rattle.bus_due.specs.bus_dialogue.specs.declared.exchange.Phase.TheVariants as phases
-use Rattle.bus_due.specs.Next.{IsPrompt}
-use Rattle.bus_due.specs.Plain.{IsPlain}
-use Rattle.bus_due.specs.RunState.{RunState, bus_of, carried_here}
-use Rattle.bus_due.specs.RunSteps.{run_state}
-use Rattle.bus_due.proofs.Plains.{run_state_plain}
-use Rattle.progress_laws.specs.bus_books.specs.Knowing.{Knows}
-use Rattle.progress_laws.specs.bus_books.specs.Rows.{IsRowIn, RowKind, crosses, still, strikes as fault_strikes, turns}
-use Rattle.progress_laws.specs.bus_books.specs.WrongParity.{is_struck_phase}
-use Rattle.progress_laws.specs.bus_books.proofs.InConnection.{in_connection}
-use Rattle.progress_laws.specs.bus_laws.proofs.Apart.{change_plain}
-use Rattle.progress_laws.specs.bus_laws.proofs.Prompt.{least_is}
-use Rattle.progress_laws.specs.trace_laws.specs.Complaints.{any_struck}
-use Rattle.progress_laws.specs.trace_laws.specs.DataPointers.{is_marked}
-use Rattle.progress_laws.specs.trace_laws.specs.Named.{Named, known, refused, said}
-use Rattle.progress_laws.specs.trace_laws.specs.SentFailures.{SentTalk}
-use Rattle.progress_laws.specs.trace_laws.specs.Tells.{code_if}
-use Rattle.progress_laws.specs.trace_laws.proofs.ConnectionRows.{GoingRow, RowKindOf, begins_now, connection_row, goes_now, going_row, row_kind}
-use Rattle.progress_laws.specs.trace_laws.proofs.FailureBytes.{SameFail, still_fails}
-use Rattle.progress_laws.specs.trace_laws.proofs.FailureCrossings.{in_none, out_none, quiet_same}
-use Rattle.progress_laws.specs.trace_laws.proofs.FailureFaults.{fault_receives}
-use Rattle.progress_laws.specs.trace_laws.proofs.Impossible.{none_some}
-use Rattle.progress_laws.specs.trace_laws.proofs.LinkRows.{LinkRow}
-use Rattle.progress_laws.specs.trace_laws.proofs.PhaseLines.{data_in_lines, not_message_in, not_message_out}
-use Rattle.progress_laws.specs.trace_laws.proofs.RunCountFacts.{or_left}
-use Rattle.progress_laws.specs.trace_laws.proofs.UndoneAnswers.{same_phase_of}
-use Rattle.progress_laws.specs.trace_laws.proofs.UndoneFacts.{undo_asks}
-use Rattle.progress_laws.specs.trace_laws.proofs.Whole.{Whole, standing_next, whole}
-use Rattle.dialogue_laws.proofs.ComplaintRows.{data_in_attends}
-use Rattle.dialogue_laws.proofs.RecoveryRows.{Left, id_served}
+use Rattle.dialogue_laws.proofs
+use proofs.Names.{inl, inr, ℕ, ◌≡◌, ◌⊎◌, ◌<◌, Bool, true, false, not, ◌&&◌, ◌||◌, ◌∙◌, List, [], ◌∷◌, Option, Some}
+use proofs.Names.{None, refl, sym, ap, subst, same_Some, is_some, or_true, wrong, wrong', ProcId, change_of, LineSet}
+use proofs.Names.{changes_phase, connection, is_fault, receiver_in, bus, Row, Change, Connection, Handshakes, first_of}
+use proofs.Names.{handshakes, handshakes_after, strikes_if, strikes_last, Request, INITIATOR_DETECTED_ERROR}
+use proofs.Names.{ScenarioValue, Obeys, Process, RowReading, row_reading, Item, process, Link, begun, begun_after}
+use proofs.Names.{phase_of, Phase, run_state_plain, IsPrompt, IsPlain, RunState, bus_of, carried_here, run_state}
+use proofs.Names.{in_connection, Knows, IsRowIn, RowKind, crosses, still, strikes as fault_strikes, turns}
+use proofs.Names.{is_struck_phase, change_plain, least_is, none_some, data_in_lines, not_message_in, not_message_out}
+use proofs.Names.{SameFail, still_fails, in_none, out_none, quiet_same, fault_receives, GoingRow, RowKindOf, begins_now}
+use proofs.Names.{connection_row, goes_now, going_row, row_kind, LinkRow, or_left, same_phase_of, undo_asks, Whole}
+use proofs.Names.{standing_next, whole, any_struck, is_marked, Named, known, refused, said, SentTalk, code_if}
+use proofs.{ComplaintRows.{data_in_attends}, RecoveryRows.{Left, id_served}}
+use Rattle.bus_due.specs.bus_lines.specs.Handshakes.{strikes}
 
 -- ATN is true, or a struck byte waits for its ACK.
 abbrev owes : List Row → Bool
@@ -61,7 +21,7 @@ owes p = (bus p).atn || any_struck (handshakes p).waiting
 
 abbrev RunFacts : ScenarioValue → List Row → Type 0
 RunFacts s p =
-    (n : Connection) (id : ProcId) → connection p ≡ Some n → (bus p).rst ≡ false → begun p ≡ true → phase_of (bus p) ≡ phases.DataIn → (run_state s p).served ≡ Some (process id)
+    (n : Connection) (id : ProcId) → connection p ≡ Some n → (bus p).rst ≡ false → begun p ≡ true → phase_of (bus p) ≡ Phase.DataIn → (run_state s p).served ≡ Some (process id)
     → is_struck_phase s p ≡ true → owes p ≡ true
 
 -- The initiator knows the process.
@@ -129,7 +89,7 @@ run_next s p row o prompt was now facts n id after calm b here served struck = b
     goes : connection p ≡ Some n → (bus p).rst ≡ false → owes q ≡ true
     goes con off = on (is_fault row.kind) refl
       where
-        phase : phase_of (bus p) ≡ phases.DataIn
+        phase : phase_of (bus p) ≡ Phase.DataIn
         phase = sym (same_phase_of c ep) ∙ here
 
         started : begun p ≡ true
@@ -195,7 +155,7 @@ runs s [] o prompt = λ n id e off b here served struck. none_some n e
 runs s (row ∷ p) o prompt = run_next s p row o prompt (whole s p o prompt.0) (whole s (row ∷ p) o prompt) (runs s p o prompt.0)
 
 -- As DATA IN is left ATN is true.
-pub run_attends : (s : ScenarioValue) (p : List Row) (row : Row) (n : Connection) (q : Process) → Obeys s → IsPrompt s (row ∷ p) → Left s p row n q → phase_of (bus p) ≡ phases.DataIn → is_struck_phase s p ≡ true → (bus p).atn ≡ true
+pub run_attends : (s : ScenarioValue) (p : List Row) (row : Row) (n : Connection) (q : Process) → Obeys s → IsPrompt s (row ∷ p) → Left s p row n q → phase_of (bus p) ≡ Phase.DataIn → is_struck_phase s p ≡ true → (bus p).atn ≡ true
 run_attends s p row n q o prompt h e struck =
     has_code (bus p).atn INITIATOR_DETECTED_ERROR
     (sym (data_in_attends s p row n q o prompt h e)

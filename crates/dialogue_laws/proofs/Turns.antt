@@ -1,29 +1,10 @@
 -- How many rows of a run leave a phase as a test says, computed; the rows are given the oldest first.
-use Rattle.std.specs.Prelude.{ℕ, ◌+◌, ◌==◌, Bool, true, false, not, ◌&&◌, ◌||◌, List, [], ◌∷◌, Option, Some, None, is_none, is_some, length, nat_lt}
-use Rattle.bus_due.specs.bus_trace.specs.declared.Row.{Row}
-use Rattle.bus_due.specs.bus_trace.specs.declared.connection.Connection.{Connection}
-use Rattle.bus_due.specs.bus_trace.specs.Phases.{changes_phase}
-use Rattle.bus_due.specs.scenario.specs.Value.{ScenarioValue}
-use Rattle.bus_due.specs.disk_array.specs.Processes.{Process}
-use Rattle.bus_due.specs.bus_story.specs.BusState.{RowReading, row_reading}
-use Rattle.bus_due.specs.bus_dialogue.specs.Exchange.{bytes_of_messages}
-use Rattle.bus_due.specs.bus_dialogue.specs.NextPhase.{phase_of}
-use Rattle.bus_due.specs.bus_dialogue.specs.PhaseBytes.{one_if}
-use Rattle.bus_due.specs.bus_dialogue.specs.Words.{is_naming}
-use Rattle.bus_due.specs.bus_dialogue.specs.declared.exchange.Arrival.{Arrival}
-use Rattle.bus_due.specs.bus_dialogue.specs.declared.exchange.Arrival.TheVariants as arrivals
-use Rattle.bus_due.specs.bus_dialogue.specs.declared.exchange.Cause.{Cause}
-use Rattle.bus_due.specs.bus_dialogue.specs.declared.exchange.Cause.TheVariants as causes
-use Rattle.bus_due.specs.bus_dialogue.specs.declared.exchange.Next.{Next}
-use Rattle.bus_due.specs.bus_dialogue.specs.declared.exchange.Next.TheVariants as nexts
-use Rattle.bus_due.specs.bus_dialogue.specs.declared.exchange.Phase.{Phase}
-use Rattle.bus_due.specs.bus_dialogue.specs.declared.exchange.Phase.TheVariants as phases
-use Rattle.bus_due.specs.RunState.{RunState, bus_of, process_served}
-use Rattle.bus_due.specs.RunSteps.{run_state_after}
-use Rattle.bus_due.specs.Tasks.{arrival_of}
-use Rattle.progress_laws.specs.bus_books.specs.WrongParity.{is_refusal_after, is_struck_after}
-use Rattle.dialogue_laws.specs.Recoveries.{is_spent}
-use Rattle.dialogue_laws.specs.Runs.{all_runs, has_data_left, policy_at, runs_of}
+use Rattle.dialogue_laws.proofs
+use proofs.Names.{ℕ, ◌+◌, Bool, true, false, not, ◌&&◌, ◌||◌, List, [], ◌∷◌, Option, Some, None, length, ◌==◌, is_none}
+use proofs.Names.{is_some, nat_lt, changes_phase, Row, Connection, ScenarioValue, Process, RowReading, row_reading}
+use proofs.Names.{bytes_of_messages, phase_of, one_if, is_naming, Arrival, Cause, Next, Phase, RunState, bus_of}
+use proofs.Names.{process_served, run_state_after, arrival_of, is_refusal_after, is_struck_after, is_spent, all_runs}
+use proofs.Names.{has_data_left, policy_at, runs_of}
 
 abbrev pub Test : Type 0
 Test = ScenarioValue → RunState → Connection → Process → Bool
@@ -61,12 +42,12 @@ refused_turns_from test s k struck refusing (row ∷ rows) =
 -- ---- tests
 
 abbrev number : Phase → ℕ
-number phases.DataOut = 0
-number phases.DataIn = 1
-number phases.Command = 2
-number phases.Status = 3
-number phases.MessageOut = 4
-number phases.MessageIn = 5
+number Phase.DataOut = 0
+number Phase.DataIn = 1
+number Phase.Command = 2
+number Phase.Status = 3
+number Phase.MessageOut = 4
+number Phase.MessageIn = 5
 
 abbrev is_in : Phase → RunState → Bool
 is_in phase k = number (phase_of (bus_of k)) == number phase
@@ -80,54 +61,54 @@ abbrev pub struck_in : Phase → Bool → Test
 struck_in phase spent s k n p = is_in phase k && k.exchange.plan.struck && same spent (is_spent s k n p)
 
 abbrev is_cause : Cause → Cause → Bool
-is_cause causes.Selected causes.Selected = true
-is_cause causes.InMessage causes.InMessage = true
-is_cause causes.InData causes.InData = true
-is_cause causes.InStatus causes.InStatus = true
+is_cause Cause.Selected Cause.Selected = true
+is_cause Cause.InMessage Cause.InMessage = true
+is_cause Cause.InData Cause.InData = true
+is_cause Cause.InStatus Cause.InStatus = true
 is_cause _ _ = false
 
 -- The initiator complains.
 abbrev pub complains_of : Cause → Bool → Test
 complains_of cause spent s k n p =
-    is_in phases.MessageOut k && is_cause cause k.exchange.plan.cause && is_none k.exchange.plan.said.offer && not (is_naming k.exchange.plan.messages.first)
+    is_in Phase.MessageOut k && is_cause cause k.exchange.plan.cause && is_none k.exchange.plan.said.offer && not (is_naming k.exchange.plan.messages.first)
     && same spent (is_spent s k n p)
 
 abbrev pub complains_of_names : Test
-complains_of_names s k n p = is_in phases.MessageOut k && is_cause causes.InMessage k.exchange.plan.cause && is_none k.exchange.plan.said.offer && is_naming k.exchange.plan.messages.first
+complains_of_names s k n p = is_in Phase.MessageOut k && is_cause Cause.InMessage k.exchange.plan.cause && is_none k.exchange.plan.said.offer && is_naming k.exchange.plan.messages.first
 
 abbrev pub run_done : Bool → Test
 run_done more s k n p =
-    ((is_in phases.DataIn k && not (bus_of k).atn) || (is_in phases.DataOut k && not k.exchange.plan.struck)) && same more (nat_lt (runs_of k p + 1) (all_runs s k n p))
+    ((is_in Phase.DataIn k && not (bus_of k).atn) || (is_in Phase.DataOut k && not k.exchange.plan.struck)) && same more (nat_lt (runs_of k p + 1) (all_runs s k n p))
 
 abbrev is_arrival : Arrival → Arrival → Bool
-is_arrival arrivals.Refused arrivals.Refused = true
-is_arrival arrivals.Queued arrivals.Queued = true
-is_arrival arrivals.Guest arrivals.Guest = true
-is_arrival arrivals.AtOnce arrivals.AtOnce = true
+is_arrival Arrival.Refused Arrival.Refused = true
+is_arrival Arrival.Queued Arrival.Queued = true
+is_arrival Arrival.Guest Arrival.Guest = true
+is_arrival Arrival.AtOnce Arrival.AtOnce = true
 is_arrival _ _ = false
 
 abbrev pub arrives_as : Arrival → Bool → Test
-arrives_as a more s k n p = is_in phases.Command k && not k.exchange.plan.struck && is_arrival a (arrival_of s k (policy_at s n)) && same more (has_data_left s k n p)
+arrives_as a more s k n p = is_in Phase.Command k && not k.exchange.plan.struck && is_arrival a (arrival_of s k (policy_at s n)) && same more (has_data_left s k n p)
 
 abbrev is_next : Next → Next → Bool
-is_next nexts.Command nexts.Command = true
-is_next nexts.Status nexts.Status = true
-is_next nexts.GoOn nexts.GoOn = true
-is_next nexts.FreeBus nexts.FreeBus = true
+is_next Next.Command Next.Command = true
+is_next Next.Status Next.Status = true
+is_next Next.GoOn Next.GoOn = true
+is_next Next.FreeBus Next.FreeBus = true
 is_next _ _ = false
 
 abbrev pub said : Next → Bool → Test
-said next more s k n p = is_in phases.MessageIn k && not (bus_of k).atn && is_next next k.exchange.plan.next && same more (has_data_left s k n p)
+said next more s k n p = is_in Phase.MessageIn k && not (bus_of k).atn && is_next next k.exchange.plan.next && same more (has_data_left s k n p)
 
 abbrev pub said_out : Test
-said_out s k n p = is_in phases.MessageOut k
+said_out s k n p = is_in Phase.MessageOut k
 
 abbrev pub data_given : Test
-data_given s k n p = is_in phases.DataIn k
+data_given s k n p = is_in Phase.DataIn k
 
 abbrev pub status_given : Test
-status_given s k n p = is_in phases.Status k
+status_given s k n p = is_in Phase.Status k
 
 -- Its last byte has crossed, or a byte is left.
 abbrev pub messages_given : Bool → Test
-messages_given more s k n p = is_in phases.MessageIn k && same more (nat_lt k.handshakes.requests (length (bytes_of_messages k.exchange.plan.messages)))
+messages_given more s k n p = is_in Phase.MessageIn k && same more (nat_lt k.handshakes.requests (length (bytes_of_messages k.exchange.plan.messages)))

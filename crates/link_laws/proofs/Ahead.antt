@@ -1,25 +1,17 @@
 -- In a connection nothing that is due lies in the past.
-use Rattle.std.proofs.Common.{ℕ, ◌≡◌, ◌≤◌, ◌+◌, Bool, true, false, ◌&&◌, ◌==◌, ◌∙◌, List, Option, Some, None, refl, sym, subst, arith}
-use Rattle.std.specs.Prelude.{if◌then◌else◌, max}
-use Rattle.std.proofs.lemmas.Option.{none-some}
-use Rattle.bus_due.specs.bus_trace.specs.LineSet.{LineSet}
-use Rattle.bus_due.specs.bus_trace.specs.declared.Row.{Row}
-use Rattle.bus_due.specs.bus_trace.specs.declared.connection.Connection.{Connection}
-use Rattle.bus_due.specs.bus_trace.specs.Trace.{last_time, line_times}
-use Rattle.bus_due.specs.scenario.specs.Value.{ScenarioValue}
-use Rattle.bus_due.specs.bus_reactions.specs.declared.due.Due.{Due}
-use Rattle.bus_due.specs.bus_reactions.specs.Reactions.{due_at}
-use Rattle.bus_due.specs.Plain.{AreOfDevices}
-use Rattle.bus_laws.specs.Reactions.{own_time, unreset_due}
-use Rattle.bus_laws.specs.Ends.{target_side}
-use Rattle.bus_laws.proofs.Dues.{is_at}
-use Rattle.link_laws.specs.Phases.{ends, Turning, Settling, Shaking}
-use Rattle.link_laws.specs.LinkStages.{LinkStage, when_selected, when_settling, when_turning, when_offering, when_shaking, when_pulsing}
-use Rattle.link_laws.specs.Pulses.{Pulsing, EndsAhead}
-use Rattle.link_laws.proofs.PulseAhead.{target_time_in, target_time_out, initiator_time_in, initiator_time_out}
-use Rattle.link_laws.proofs.EndDues.{target_plain, offering_with, ends_ahead}
-use Rattle.link_laws.proofs.StageDues.{selected_target, selected_initiator, settling_target, settling_initiator, handing_initiator, turning_target, turned_initiator, owing_initiator, offering_target, offering_initiator, answered_target, answered_initiator_in, answered_initiator_out, asking_target, asking_initiator_in, asking_initiator_out, giving_initiator_out, ending_target, ending_initiator_in, ending_initiator_out, ack_end_time, between_target, between_initiator_in, between_initiator_out}
-use Rattle.bus_due.specs.bus_base.proofs.Tests.{zero_of}
+use Rattle.link_laws.proofs
+use proofs.Names.{ℕ, ◌≡◌, ◌≤◌, ◌+◌, Bool, true, false, ◌&&◌, ◌==◌, ◌∙◌, List, Option, Some, None, refl, sym, subst}
+use proofs.Names.{arith, none-some, if◌then◌else◌, max, zero_of, LineSet, last_time, line_times, Row, Connection}
+use proofs.Names.{ScenarioValue, due_at, Due, AreOfDevices, is_at, target_side, own_time, unreset_due, LinkStage}
+use proofs.Names.{when_selected, when_settling, when_turning, when_offering, when_shaking, when_pulsing, ends, Turning}
+use proofs.{Names.{Settling, Shaking, Pulsing, EndsAhead}, EndDues.{target_plain, offering_with, ends_ahead}}
+use proofs.PulseAhead.{target_time_in, target_time_out, initiator_time_in, initiator_time_out}
+use proofs.StageDues.{selected_target, selected_initiator, settling_target, settling_initiator, handing_initiator}
+use proofs.StageDues.{turning_target, turned_initiator, owing_initiator, offering_target, offering_initiator}
+use proofs.StageDues.{answered_target, answered_initiator_in, answered_initiator_out, asking_target}
+use proofs.StageDues.{asking_initiator_in, asking_initiator_out, giving_initiator_out, ending_target}
+use proofs.StageDues.{ending_initiator_in, ending_initiator_out, ack_end_time, between_target, between_initiator_in}
+use proofs.StageDues.{between_initiator_out}
 
 pub at_time : (plain : Option Due) (time : ℕ) (l : LineSet) (x : Due) → plain ≡ due_at time l → plain ≡ Some x → x.time ≡ time
 at_time plain time l x e f = (is_at time l x (sym e ∙ f)).time_is

@@ -1,37 +1,15 @@
 -- The rows up to the first REQ of a phase, and those with which REQ rises.
-use Rattle.std.proofs.Common.{ℕ, ◌≡◌, ◌≤◌, ◌+◌, Bool, true, false, not, ◌&&◌, ◌||◌, ◌==◌, ◌∙◌, List, ◌∷◌, Some, None, refl, sym, ap, arith}
-use Rattle.std.specs.Prelude.{if◌then◌else◌, nat_lt}
-use Rattle.std.proofs.lemmas.Bool.Decides.{nat_tests}
-use Rattle.bus_due.specs.bus_base.specs.Faults.{counted_on}
-use Rattle.bus_due.specs.bus_trace.specs.LineSet.{data_of}
-use Rattle.bus_due.specs.bus_trace.specs.declared.Row.{Row}
-use Rattle.bus_due.specs.bus_trace.specs.declared.connection.Connection.{Connection}
-use Rattle.bus_due.specs.bus_trace.specs.declared.changes.Change.{Change}
-use Rattle.bus_due.specs.bus_trace.specs.Agreements.{times_of, times_or_slow, fast_times, slow_times}
-use Rattle.bus_due.specs.bus_trace.specs.Trace.{last_time, since, line_times, phase_time}
-use Rattle.bus_due.specs.bus_trace.specs.Changes.{implies}
-use Rattle.bus_due.specs.bus_phases.specs.declared.attention.Duty.{Duty}
-use Rattle.bus_due.specs.bus_phases.specs.declared.attention.Duty.TheVariants as duties
-use Rattle.bus_due.specs.bus_phases.specs.Phases.{duty, turned}
-use Rattle.bus_due.specs.bus_phases.specs.Dialogue.{dialogue}
-use Rattle.bus_due.specs.bus_rules.specs.Messages.{is_owed}
-use Rattle.bus_due.specs.bus_lines.specs.Handshakes.{Handshakes, handshakes}
-use Rattle.bus_due.specs.scenario.specs.Value.{ScenarioValue}
-use Rattle.bus_due.specs.bus_dialogue.specs.Ends.{is_pulsed_phase}
-use Rattle.bus_laws.specs.Rows.{change_to}
-use Rattle.bus_laws.specs.Stages.{CalmStanding}
-use Rattle.bus_laws.specs.Ends.{EndLines, initiator_side, target_side, connected_bus, Linked}
-use Rattle.bus_laws.proofs.Rows.{own_time_own}
-use Rattle.link_laws.specs.Books.{KeepsBooksIn}
-use Rattle.link_laws.specs.Phases.{ends, is_owed_out, InPhase, Turning}
-use Rattle.link_laws.specs.LinkStages.{when_turning, when_offering, when_shaking}
-use Rattle.link_laws.proofs.Moves.{initiator_moves, target_moves, initiator_in_phase, target_in_phase}
-use Rattle.link_laws.proofs.LinkSeen.{around, obeys_linked}
-use Rattle.link_laws.proofs.LinkObeys.{MayAsk, req_rises_in, req_rises_out, first_byte_obeys, byte_release_obeys}
-use Rattle.link_laws.proofs.Goes.{NextLinked, phase_goes, unpulsed_goes, turn_test, receives_if, data_by}
-use Rattle.link_laws.proofs.Shakes.{target_row, initiator_row}
-use Rattle.link_laws.proofs.Enters.{no_fall}
-use Rattle.std.proofs.lemmas.Bool.{eqb-true}
+use Rattle.link_laws.proofs
+use proofs.Names.{ℕ, ◌≡◌, ◌≤◌, ◌+◌, Bool, true, false, not, ◌&&◌, ◌||◌, ◌==◌, ◌∙◌, List, ◌∷◌, Some, None, refl, sym, ap}
+use proofs.Names.{arith, eqb-true, nat_tests, if◌then◌else◌, nat_lt, counted_on, times_of, times_or_slow, fast_times}
+use proofs.Names.{slow_times, implies, data_of, last_time, since, line_times, phase_time, Row, Change, Connection}
+use proofs.Names.{Handshakes, handshakes, dialogue, duty, turned, Duty, is_owed, ScenarioValue, is_pulsed_phase}
+use proofs.Names.{own_time_own, EndLines, initiator_side, target_side, connected_bus, Linked, change_to, CalmStanding}
+use proofs.Names.{KeepsBooksIn, when_turning, when_offering, when_shaking, ends, is_owed_out, InPhase, Turning}
+use proofs.{Enters.{no_fall}, Goes.{NextLinked, phase_goes, unpulsed_goes, turn_test, receives_if, data_by}}
+use proofs.{LinkObeys.{MayAsk, req_rises_in, req_rises_out, first_byte_obeys, byte_release_obeys}, LinkSeen.{around}}
+use proofs.{LinkSeen.{obeys_linked}, Moves.{initiator_moves, target_moves, initiator_in_phase, target_in_phase}}
+use proofs.Shakes.{target_row, initiator_row}
 
 -- ---- a byte of a data phase that was left
 
@@ -63,7 +41,7 @@ releases_byte s p n atn x msg cd t order soon some other h books =
         pulses_are = r.pulses_are ∙ h.pulses_are;
         receiver_is = r.receiver_is;
         turned = (λ i. r.io_is i == r.phase_is i) ∙ h.turned;
-        duty_is = ap (λ (d : Duty). is_owed_out d true) (r.duty_is.1 ∙ ap (λ (b : Bool). if b || false then duties.Nothing else duty p) (no_fall atn)) ∙ h.duty_is;
+        duty_is = ap (λ (d : Duty). is_owed_out d true) (r.duty_is.1 ∙ ap (λ (b : Bool). if b || false then Duty.Nothing else duty p) (no_fall atn)) ∙ h.duty_is;
         fresh = let w = r.phase_is in let u = eqb-true (line_times p).io (phase_time (line_times p)) h.turned in omega arith;
         owed = λ b. absurd cc;
       });
@@ -92,7 +70,7 @@ offers_byte s p n atn msg cd y t always order waited some h books =
         receiver_is = r.receiver_is;
         turned = (λ i. r.io_is i == r.phase_is i) ∙ h.turned;
         some = some;
-        duty_is = ap (λ (d : Duty). is_owed_out d true) (r.duty_is.1 ∙ ap (λ (b : Bool). if b || false then duties.Nothing else duty p) (no_fall atn)) ∙ h.duty_is;
+        duty_is = ap (λ (d : Duty). is_owed_out d true) (r.duty_is.1 ∙ ap (λ (b : Bool). if b || false then Duty.Nothing else duty p) (no_fall atn)) ∙ h.duty_is;
         waited = let w = r.io_is in omega arith;
         driven = let u = data_by s p row always order in let w = own_time_own p t n.target (target_side f) in omega arith;
         fresh = let w = own_time_own p t n.target (target_side f) in omega arith;

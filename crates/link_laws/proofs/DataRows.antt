@@ -1,40 +1,16 @@
 -- A row within a data phase tells no event; so the run that is moved stays the same, and what the target gives.
-use Rattle.std.proofs.Common.{ℕ, ◌≡◌, ◌<◌, Bool, false, not, ◌&&◌, ◌∙◌, List, [], ◌∷◌, Option, Some, None, refl, sym, ap}
-use Rattle.std.specs.Prelude.{◌+◌, if◌then◌else◌, is_some}
-use Rattle.bus_due.specs.bus_base.specs.declared.Event.{Event}
-use Rattle.bus_due.specs.bus_base.specs.declared.Event.TheVariants as events
-use Rattle.bus_due.specs.bus_trace.specs.declared.Row.{Row}
-use Rattle.bus_due.specs.bus_trace.specs.declared.changes.Change.{Change}
-use Rattle.bus_due.specs.bus_trace.specs.declared.connection.Connection.{Connection}
-use Rattle.bus_due.specs.bus_trace.specs.Changes.{change_of, rises, falls}
-use Rattle.bus_due.specs.bus_trace.specs.Phases.{changes_phase}
-use Rattle.bus_due.specs.bus_trace.specs.Terms.{connection, connection_after, is_fault, receiver_in, receiver_of}
-use Rattle.bus_due.specs.scenario.specs.Value.{ScenarioValue}
-use Rattle.bus_due.specs.scenario.specs.declared.value.Policy.{Policy}
-use Rattle.bus_due.specs.disk_array.specs.Processes.{Process}
+use Rattle.link_laws.proofs
+use proofs.Names.{ℕ, ◌≡◌, ◌<◌, Bool, false, not, ◌&&◌, ◌∙◌, List, [], ◌∷◌, Option, Some, None, refl, sym, ap, ◌+◌}
+use proofs.Names.{if◌then◌else◌, is_some, and_false, Event, change_of, rises, falls, changes_phase, connection}
+use proofs.Names.{connection_after, is_fault, receiver_in, receiver_of, Row, Change, Connection, ScenarioValue, Policy}
+use proofs.Names.{Process, RowReading, row_reading, carried_of, row_events_by, link_events, connection_events}
+use proofs.Names.{bus_free_events, phase_events, is_completion, is_complete, end_events, carried_if, Item, Link, Story}
+use proofs.Names.{policy_of, run_length, run_byte, run_length_if, data_byte, run_state_plain, keeps_wishes}
+use proofs.Names.{target_def_of, progress_in, AreOfDevices, RunState, or_start, process_served, process_item, item_of}
+use proofs.Names.{process_here, run_state, array_after_events, served_after, progress_after, progress_by_leaving}
+use proofs.Names.{leaving_of, sending_by, sending_of, task_if, task_with, reply_now, given_if, IsStill, Wishes}
+use proofs.Names.{change_plain, run_count, byte_in_run}
 use Rattle.bus_due.specs.disk_array.specs.ArrayHistory as Play
-use Rattle.bus_due.specs.bus_story.specs.BusState.{RowReading, row_reading}
-use Rattle.bus_due.specs.bus_story.specs.Items.{Item}
-use Rattle.bus_due.specs.bus_story.specs.Links.{Link}
-use Rattle.bus_due.specs.bus_story.specs.CarriedBytes.{carried_of}
-use Rattle.bus_due.specs.bus_story.specs.Story.{Story}
-use Rattle.bus_due.specs.bus_story.specs.HistoryEvents.{row_events_by, link_events, connection_events, bus_free_events, phase_events, is_completion, is_complete, end_events, carried_if}
-use Rattle.bus_due.specs.bus_dialogue.specs.Arrivals.{policy_of}
-use Rattle.bus_due.specs.bus_dialogue.specs.DataRuns.{run_length, run_byte}
-use Rattle.bus_due.specs.bus_dialogue.specs.PhaseBytes.{run_length_if, data_byte}
-use Rattle.bus_due.specs.Defs.{target_def_of}
-use Rattle.bus_due.specs.LastingState.{progress_in}
-use Rattle.bus_due.specs.RunState.{RunState, or_start, process_served, process_item, item_of, process_here}
-use Rattle.bus_due.specs.RunSteps.{run_state, array_after_events, served_after, progress_after, progress_by_leaving, leaving_of}
-use Rattle.bus_due.specs.Sights.{sending_by, sending_of}
-use Rattle.bus_due.specs.Tasks.{task_if, task_with, reply_now, given_if}
-use Rattle.bus_due.specs.Wishes.{IsStill, Wishes}
-use Rattle.bus_due.specs.Plain.{AreOfDevices}
-use Rattle.bus_due.proofs.Plains.{run_state_plain}
-use Rattle.bus_due.proofs.Stills.{keeps_wishes}
-use Rattle.link_laws.specs.Pulses.{run_count, byte_in_run}
-use Rattle.bus_laws.proofs.Apart.{change_plain}
-use Rattle.bus_due.specs.bus_base.proofs.Tests.{and_false}
 
 -- The row leaves the phase lines as they are, in a data phase of this connection.
 pub record DataRow (p : List Row) (row : Row) (n : Connection) (c : Change) : Type 0 where
@@ -76,7 +52,7 @@ no_events s p row n c h =
     let k = run_state s p in
     let d = row_reading k.story.bus_state row in
     let e = read_is s p row n c h in
-    ap (λ (q : Bool). if q then (if rises d.change.own.rst d.change.next.rst then events.Reset row.dev ∷ [] else []) else link_events s k.story k.story.link d) (ap (λ (x : Change). x.after.rst) e ∙ h.calm)
+    ap (λ (q : Bool). if q then (if rises d.change.own.rst d.change.next.rst then Event.Reset row.dev ∷ [] else []) else link_events s k.story k.story.link d) (ap (λ (x : Change). x.after.rst) e ∙ h.calm)
     ∙ tells_nothing s k.story k.story.link d n c (next_is s p row n c h) e h.phase h.in_data
 
 -- What the target serves, and how far it has come, stays.

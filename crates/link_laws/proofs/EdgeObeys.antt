@@ -1,18 +1,9 @@
 -- The rows with which MESSAGE OUT begins after a selection, and the bus becomes free, obey the rules by the wires.
-use Rattle.std.proofs.Common.{ℕ, ◌≡◌, ◌≢◌, ◌≤◌, Bool, true, false, Option, None, sym, arith}
-use Rattle.std.specs.Int.Bits.{or_zero_r}
-use Rattle.std.proofs.lemmas.Bool.Decides.{nat_tests}
-use Rattle.bus_due.specs.bus_trace.specs.LineSet.{none}
-use Rattle.bus_due.specs.bus_trace.specs.declared.connection.Connection.{Connection}
-use Rattle.bus_due.specs.bus_phases.specs.Phases.{no_pulses}
-use Rattle.bus_due.specs.bus_dialogue.specs.Ends.{is_pulsed_phase}
-use Rattle.bus_laws.specs.Rows.{change_to, row_of_lines}
-use Rattle.bus_laws.specs.Ends.{EndLines, target_side, connected_bus, ends_selected}
-use Rattle.link_laws.specs.Phases.{ends}
-use Rattle.link_laws.proofs.LinkSeen.{Around, seen_linked, wire_broken}
-use Rattle.link_laws.proofs.LinkObeys.{target_breaks}
-use Rattle.std.proofs.lemmas.Bool.{ne_eqb}
-use Rattle.bus_due.specs.bus_base.proofs.Tests.{eq_self}
+use Rattle.link_laws.proofs
+use proofs.Names.{ℕ, ◌≡◌, ◌≢◌, ◌≤◌, Bool, true, false, Option, None, sym, arith, ne_eqb, nat_tests, or_zero_r, eq_self}
+use proofs.Names.{none, Connection, no_pulses, is_pulsed_phase, EndLines, target_side, connected_bus, ends_selected}
+use proofs.{Names.{change_to, row_of_lines, ends}, LinkObeys.{target_breaks}, LinkSeen.{Around, seen_linked}}
+use proofs.LinkSeen.{wire_broken}
 
 pub opening_obeys : (v : Around) (n : Connection) (t : ℕ) → n.initiator ≢ n.target → v.last ≤ t → v.pulses ≡ no_pulses → target_breaks v n ends_selected (ends false false true 0 true true false false 0) t ≡ None
 opening_obeys v n t ne a p =

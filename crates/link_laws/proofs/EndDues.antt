@@ -1,51 +1,15 @@
 -- What is due of the two ends of a connection, and of no third device.
-use Rattle.std.proofs.Common.{inl, inr, ℕ, ◌≡◌, ◌≢◌, ◌≤◌, ◌<◌, Bool, true, false, ◌==◌, ◌∙◌, List, [], ◌∷◌, Option, Some, None, refl, sym, ap, arith}
-use Rattle.std.specs.Prelude.{if◌then◌else◌, is_some}
-use Rattle.std.proofs.lemmas.Bool.{cases_eq, ne_eqb}
-use Rattle.std.proofs.lemmas.Option.{same_Some, none-some}
-use Rattle.bus_due.specs.bus_trace.specs.LineSet.{LineSet}
-use Rattle.bus_due.specs.bus_trace.specs.declared.Row.{Row}
-use Rattle.bus_due.specs.bus_trace.specs.declared.Kind.TheVariants.{Fault}
-use Rattle.bus_due.specs.bus_trace.specs.Trace.{drives, last_time, line_times}
-use Rattle.bus_due.specs.bus_trace.specs.Changes.{change_of}
-use Rattle.bus_due.specs.bus_trace.specs.declared.changes.Change.{Change}
-use Rattle.bus_due.specs.bus_trace.specs.declared.selection.Call.{Call}
-use Rattle.bus_due.specs.bus_trace.specs.declared.connection.Connection.{Connection}
-use Rattle.bus_due.specs.bus_trace.specs.Terms.{call, connection, connection_after, receiver, receiver_in, receiver_of}
-use Rattle.bus_due.specs.bus_phases.specs.Dialogue.{dialogue}
-use Rattle.bus_due.specs.bus_rules.specs.Order.{is_of_device}
-use Rattle.bus_due.specs.bus_lines.specs.declared.stage.Stage.TheVariants.{InConnection}
-use Rattle.bus_due.specs.bus_lines.specs.Stage.{stage}
-use Rattle.bus_due.specs.bus_lines.specs.Handshakes.{handshakes}
-use Rattle.bus_due.specs.scenario.specs.Value.{ScenarioValue}
-use Rattle.bus_due.specs.bus_story.specs.Samples.{latency_of}
-use Rattle.bus_due.specs.bus_reactions.specs.declared.due.Due.{Due}
-use Rattle.bus_due.specs.bus_reactions.specs.declared.due.Myself.{Myself}
-use Rattle.bus_due.specs.bus_reactions.specs.declared.sight.Sight.{Sight}
-use Rattle.bus_due.specs.bus_reactions.specs.declared.ends.Pace.{Pace}
-use Rattle.bus_due.specs.bus_reactions.specs.declared.ends.Offering.{Offering}
-use Rattle.bus_due.specs.bus_reactions.specs.declared.ends.Answering.{Answering}
-use Rattle.bus_due.specs.bus_reactions.specs.Ends.{target_due, initiator_due, sample_due}
-use Rattle.bus_due.specs.bus_dialogue.specs.NextPhase.{phase_of}
-use Rattle.bus_due.specs.bus_dialogue.specs.Ends.{pace_by, offering_by, answering_by, is_pulsed_phase}
-use Rattle.bus_due.specs.bus_dialogue.specs.Hearing.{begun}
-use Rattle.bus_due.specs.Own.{Own, own_of}
-use Rattle.bus_due.specs.Defs.{host_of}
-use Rattle.bus_due.specs.RunState.{bus_of}
-use Rattle.bus_due.specs.RunSteps.{run_state}
-use Rattle.bus_due.specs.Sights.{sight_of, flip_of, serving_at, sending_of}
-use Rattle.bus_due.specs.Connected.{is_receiver, end_due, initiator_end_due, target_end_due}
-use Rattle.bus_due.specs.Due.{self_of, stage_due}
-use Rattle.bus_due.specs.Plain.{AreOfDevices, crossed, crossed_if}
-use Rattle.bus_due.specs.Least.{IsLeast}
-use Rattle.bus_due.proofs.Plains.{run_state_plain}
-use Rattle.bus_laws.specs.Reactions.{own_time, device_with, unreset_due, unreset_due_if}
-use Rattle.bus_laws.specs.Rows.{row_of_fault}
-use Rattle.bus_laws.specs.Ends.{EndLines, initiator_side, target_side, connected_bus, Linked}
-use Rattle.bus_laws.proofs.Rows.{stage_is}
-use Rattle.bus_laws.proofs.Dues.{is_there}
-use Rattle.bus_due.specs.bus_base.proofs.Tests.{eq_self}
-use Rattle.bus_due.proofs.Leasts.{some_eq}
+use Rattle.link_laws.proofs
+use proofs.Names.{inl, inr, ℕ, ◌≡◌, ◌≢◌, ◌≤◌, ◌<◌, Bool, true, false, ◌==◌, ◌∙◌, List, [], ◌∷◌, Option, Some, None}
+use proofs.Names.{refl, sym, ap, arith, cases_eq, ne_eqb, same_Some, none-some, if◌then◌else◌, is_some, eq_self}
+use proofs.Names.{change_of, LineSet, call, connection, connection_after, receiver, receiver_in, receiver_of, drives}
+use proofs.Names.{last_time, line_times, Fault, Row, Change, Connection, Call, handshakes, stage, InConnection}
+use proofs.Names.{dialogue, is_of_device, ScenarioValue, latency_of, target_due, initiator_due, sample_due, Due, Myself}
+use proofs.Names.{Answering, Offering, Pace, Sight, pace_by, offering_by, answering_by, is_pulsed_phase, begun}
+use proofs.Names.{phase_of, some_eq, run_state_plain, is_receiver, end_due, initiator_end_due, target_end_due, host_of}
+use proofs.Names.{self_of, stage_due, IsLeast, Own, own_of, AreOfDevices, crossed, crossed_if, bus_of, run_state}
+use proofs.Names.{sight_of, flip_of, serving_at, sending_of, is_there, stage_is, EndLines, initiator_side, target_side}
+use proofs.Names.{connected_bus, Linked, own_time, device_with, unreset_due, unreset_due_if, row_of_fault}
 
 -- ---- what the ends go by
 

@@ -1,36 +1,15 @@
 -- A row with which a phase begins, and those up to its first REQ.
-use Rattle.std.proofs.Common.{ℕ, ◌≡◌, ◌≤◌, ◌<◌, ◌+◌, Bool, true, false, not, ◌&&◌, ◌||◌, ◌==◌, ◌∙◌, List, ◌∷◌, Option, None, refl, sym, ap, arith}
-use Rattle.std.specs.Prelude.{if◌then◌else◌, max}
-use Rattle.std.proofs.lemmas.Bool.Decides.{nat_tests}
-use Rattle.bus_due.specs.bus_trace.specs.LineSet.{data_of, same}
-use Rattle.bus_due.specs.bus_trace.specs.declared.Row.{Row}
-use Rattle.bus_due.specs.bus_trace.specs.declared.line_times.LineTimes.{LineTimes}
-use Rattle.bus_due.specs.bus_trace.specs.declared.connection.Connection.{Connection}
-use Rattle.bus_due.specs.bus_trace.specs.declared.changes.Change.{Change}
-use Rattle.bus_due.specs.bus_trace.specs.Trace.{last_time, since, newer_line, line_times, phase_time}
-use Rattle.bus_due.specs.bus_trace.specs.Changes.{rises, falls, implies}
-use Rattle.bus_due.specs.bus_trace.specs.Phases.{changes_phase}
-use Rattle.bus_due.specs.bus_trace.specs.Terms.{receiver}
-use Rattle.bus_due.specs.bus_phases.specs.declared.attention.Duty.{Duty}
-use Rattle.bus_due.specs.bus_phases.specs.declared.attention.Duty.TheVariants as duties
-use Rattle.bus_due.specs.bus_phases.specs.Phases.{pulses, no_pulses, duty, duty_left, duty_if_held, turned, is_attention_held}
-use Rattle.bus_due.specs.bus_lines.specs.Handshakes.{handshakes, no_handshakes}
-use Rattle.bus_due.specs.scenario.specs.Value.{ScenarioValue}
-use Rattle.bus_due.specs.bus_dialogue.specs.Hearing.{begun}
-use Rattle.bus_laws.specs.Rows.{change_to}
-use Rattle.bus_laws.specs.Stages.{CalmStanding}
-use Rattle.bus_laws.specs.Ends.{EndLines, initiator_side, target_side, connected_bus, Linked, BeginsSelected, ends_selected}
-use Rattle.link_laws.specs.Books.{KeepsBooksIn}
-use Rattle.link_laws.specs.Phases.{ends, fits_duty, is_owed_out, InPhase, HasTurned, Settling, Turning}
-use Rattle.link_laws.specs.LinkStages.{when_settling}
-use Rattle.link_laws.proofs.Duties.{duty_at_phase}
-use Rattle.link_laws.proofs.Moves.{initiator_moves, target_moves, initiator_in_phase, terms_of}
-use Rattle.link_laws.proofs.LinkSeen.{around, obeys_linked}
-use Rattle.link_laws.proofs.LinkObeys.{same_phases, bsy_release_obeys}
-use Rattle.link_laws.proofs.EdgeObeys.{opening_obeys}
-use Rattle.link_laws.proofs.Goes.{NextLinked, phase_goes, turn_goes, data_by}
-use Rattle.link_laws.proofs.Shakes.{target_row, initiator_row}
-use Rattle.bus_due.specs.bus_base.proofs.Tests.{or_false, eq_self}
+use Rattle.link_laws.proofs
+use proofs.Names.{ℕ, ◌≡◌, ◌≤◌, ◌<◌, ◌+◌, Bool, true, false, not, ◌&&◌, ◌||◌, ◌==◌, ◌∙◌, List, ◌∷◌, Option, None, refl}
+use proofs.Names.{sym, ap, arith, nat_tests, if◌then◌else◌, max, or_false, eq_self, rises, falls, implies, data_of}
+use proofs.Names.{same, changes_phase, receiver, last_time, since, newer_line, line_times, phase_time, Row, Change}
+use proofs.Names.{Connection, LineTimes, handshakes, no_handshakes, pulses, no_pulses, duty, duty_left, duty_if_held}
+use proofs.Names.{turned, is_attention_held, Duty, ScenarioValue, begun, EndLines, initiator_side, target_side}
+use proofs.Names.{connected_bus, Linked, BeginsSelected, ends_selected, change_to, CalmStanding, KeepsBooksIn}
+use proofs.Names.{when_settling, ends, fits_duty, is_owed_out, InPhase, HasTurned, Settling, Turning}
+use proofs.{Duties.{duty_at_phase}, EdgeObeys.{opening_obeys}, Goes.{NextLinked, phase_goes, turn_goes, data_by}}
+use proofs.{LinkObeys.{same_phases, bsy_release_obeys}, LinkSeen.{around, obeys_linked}, Moves.{initiator_moves}}
+use proofs.{Moves.{target_moves, initiator_in_phase, terms_of}, Shakes.{target_row, initiator_row}}
 
 -- ---- a phase begins
 
@@ -85,7 +64,7 @@ enters s p n bsy atn x msg cd io y msg' cd' io' z t always order h differs =
       receiver_is = w.receiver_is ∙ none_both io;
       phase_is = ap phase_time w.times_are ∙ newest (same msg msg') (same cd cd') (same io io') v.msg v.cd v.io t differs (omega arith) (omega arith) (omega arith);
       io_is = ap (λ (u : LineTimes). u.io) w.times_are;
-      duty_is = w.duty_is ∙ (λ i. if no_fall atn i || false then duties.Nothing else if false && held then duty_if_held (duty p) (connected_bus e) else if ph i then duty_left (duty p) else duty p);
+      duty_is = w.duty_is ∙ (λ i. if no_fall atn i || false then Duty.Nothing else if false && held then duty_if_held (duty p) (connected_bus e) else if ph i then duty_left (duty p) else duty p);
       turned_is = w.turned_is;
     }
   where
@@ -227,5 +206,5 @@ hands_over s p n atn msg cd y t order soon h books =
       });
     }
   where
-    same_duty : {d : Duty} → d ≡ (if falls atn atn || false then duties.Nothing else duty p) → d ≡ duty p
-    same_duty e = e ∙ ap (λ (b : Bool). if b || false then duties.Nothing else duty p) (no_fall atn)
+    same_duty : {d : Duty} → d ≡ (if falls atn atn || false then Duty.Nothing else duty p) → d ≡ duty p
+    same_duty e = e ∙ ap (λ (b : Bool). if b || false then Duty.Nothing else duty p) (no_fall atn)

@@ -1,17 +1,8 @@
 -- A fault row of the end that received the byte of the row before it obeys the rules by the wires.
-use Rattle.std.proofs.Common.{ℕ, ◌≡◌, ◌≢◌, Bool, true, false, Option, None, sym, arith}
-use Rattle.std.specs.Int.RustNames.{bit_or}
-use Rattle.std.proofs.lemmas.Bool.Decides.{nat_tests}
-use Rattle.bus_due.specs.bus_trace.specs.declared.connection.Connection.{Connection}
-use Rattle.bus_due.specs.bus_rules.specs.Order.{is_of_device}
-use Rattle.bus_due.specs.bus_rules.specs.Rules.{keeps}
-use Rattle.bus_due.specs.bus_rules.proofs.First.{none_broken}
-use Rattle.bus_laws.specs.Rows.{change_to, row_of_fault}
-use Rattle.bus_laws.specs.Ends.{EndLines, initiator_side, target_side, connected_bus}
-use Rattle.link_laws.specs.Phases.{ends}
-use Rattle.link_laws.proofs.LinkSeen.{Around, seen_linked, wire_rules, wire_broken}
-use Rattle.std.proofs.lemmas.Bool.{ne_eqb}
-use Rattle.bus_due.specs.bus_base.proofs.Tests.{eq_self}
+use Rattle.link_laws.proofs
+use proofs.Names.{ℕ, ◌≡◌, ◌≢◌, Bool, true, false, Option, None, sym, arith, ne_eqb, nat_tests, bit_or, eq_self}
+use proofs.Names.{Connection, none_broken, is_of_device, keeps, EndLines, initiator_side, target_side, connected_bus}
+use proofs.{Names.{change_to, row_of_fault, ends}, LinkSeen.{Around, seen_linked, wire_rules, wire_broken}}
 
 abbrev pub fault_breaks_in : Around → Connection → EndLines → ℕ → ℕ → Option ℕ
 fault_breaks_in v n e bit t = wire_broken (seen_linked v (change_to (connected_bus e) (connected_bus e) (initiator_side e) (initiator_side e)) n e) (row_of_fault t n.initiator bit)

@@ -1,59 +1,21 @@
 -- A fault row in a connection changes nothing but what its receiver makes of the byte.
-use Rattle.std.proofs.Common.{ℕ, ◌≡◌, ◌<◌, ◌≤◌, ◌+◌, [], Bool, true, false, not, ◌&&◌, ◌||◌, ◌==◌, ◌∙◌, List, ◌∷◌, Option, Some, None, refl, sym, ap, subst, arith}
-use Rattle.std.specs.Prelude.{if◌then◌else◌, is_some}
-use Rattle.bus_due.specs.bus_trace.specs.LineSet.{LineSet, data_of}
-use Rattle.bus_due.specs.bus_trace.specs.declared.Row.{Row}
-use Rattle.bus_due.specs.bus_trace.specs.declared.line_times.LineTimes.{LineTimes}
-use Rattle.bus_due.specs.bus_trace.specs.declared.agreements.Agreement.{Agreement}
-use Rattle.bus_due.specs.bus_trace.specs.declared.connection.Connection.{Connection}
-use Rattle.bus_due.specs.bus_trace.specs.declared.changes.Change.{Change}
-use Rattle.bus_due.specs.bus_trace.specs.Trace.{drives, last_time, since, line_times, phase_time}
-use Rattle.bus_due.specs.bus_trace.specs.Phases.{changes_phase}
-use Rattle.bus_due.specs.bus_trace.specs.Terms.{receiver, receiver_in}
-use Rattle.bus_due.specs.bus_trace.proofs.OneRow.{drives-fault}
-use Rattle.bus_due.specs.bus_phases.specs.declared.attention.Duty.{Duty}
-use Rattle.bus_due.specs.bus_phases.specs.declared.attention.Duty.TheVariants as duties
-use Rattle.bus_due.specs.bus_phases.specs.declared.dialogue.Dialogue.{Dialogue}
-use Rattle.bus_due.specs.bus_phases.specs.Phases.{duty, duty_left, duty_if_held, turned, is_attention_held}
-use Rattle.bus_due.specs.bus_phases.specs.Dialogue.{dialogue, byte_crosses, phase_begins}
-use Rattle.bus_due.specs.bus_rules.specs.Order.{is_of_device}
-use Rattle.bus_due.specs.bus_lines.specs.Handshakes.{Handshakes, handshakes, strikes_if}
-use Rattle.bus_due.specs.scenario.specs.Value.{ScenarioValue}
-use Rattle.bus_due.specs.bus_dialogue.specs.Hearing.{begun}
-use Rattle.bus_due.specs.bus_dialogue.specs.Ends.{is_pulsed_phase}
-use Rattle.bus_laws.specs.Reactions.{own_time}
-use Rattle.bus_laws.specs.Rows.{row_of_fault, change_to}
-use Rattle.bus_laws.specs.Ends.{EndLines, initiator_side, target_side, connected_bus, Linked}
-use Rattle.bus_laws.proofs.Rows.{fault_change, stands_by, own_time_fault}
-use Rattle.link_laws.specs.Books.{KeepsBooksIn}
-use Rattle.link_laws.specs.Phases.{ends, fits_duty, InPhase, HasDriven, shaking_time, Shaking}
-use Rattle.link_laws.specs.LinkStages.{LinkStage, when_selected, when_settling, when_turning, when_offering, when_shaking}
-use Rattle.link_laws.proofs.Moves.{terms_after, same_line, no_rise}
-use Rattle.link_laws.proofs.LinkSeen.{around, obeys_linked}
-use Rattle.link_laws.proofs.FaultObeys.{fault_obeys_in, fault_obeys_out}
-use Rattle.link_laws.proofs.Goes.{NextLinked}
-use Rattle.std.specs.Prelude.{nat_lt, max}
-use Rattle.bus_due.specs.bus_trace.specs.declared.agreements.TransferTimes.{TransferTimes}
-use Rattle.bus_due.specs.bus_trace.specs.Agreements.{times_of}
-use Rattle.bus_due.specs.bus_trace.specs.Terms.{when}
-use Rattle.bus_due.specs.bus_trace.proofs.Sets.{same_self}
-use Rattle.bus_due.specs.bus_phases.specs.Phases.{pulses, no_pulses, count_after}
-use Rattle.bus_due.specs.bus_lines.specs.declared.handshakes.Request.{Request}
-use Rattle.bus_due.specs.bus_lines.specs.Handshakes.{strikes, strikes_last, first_of, time_of, room_by}
-use Rattle.bus_due.specs.bus_lines.proofs.Early.{struck_length, struck_same}
-use Rattle.bus_due.specs.bus_reactions.specs.Target.{bits_if}
-use Rattle.bus_due.specs.bus_dialogue.specs.Ends.{lag_by}
-use Rattle.bus_due.specs.Defs.{host_of}
-use Rattle.bus_due.specs.Own.{Own, own_of}
-use Rattle.bus_due.specs.Plain.{AreOfDevices}
-use Rattle.bus_laws.specs.Stages.{CalmStanding}
-use Rattle.bus_laws.proofs.Resets.{own_fault}
-use Rattle.link_laws.specs.LinkStages.{when_pulsing}
-use Rattle.link_laws.specs.Pulses.{times_here, offset_here, pulses_of, Reached, PulseFacts, Pulsing, HasDrivenPulsed, drives_by, EndsAhead, NoSooner, target_time, target_next, initiator_next, run_count, byte_in_run, given_here}
-use Rattle.link_laws.proofs.DataRows.{DataRow}
-use Rattle.link_laws.proofs.PulseRows.{target_next_is, initiator_next_is}
-use Rattle.link_laws.proofs.Enters.{no_fall}
-use Rattle.bus_due.specs.bus_base.proofs.Tests.{or_false, eq_self}
+use Rattle.link_laws.proofs
+use proofs.Names.{ℕ, ◌≡◌, ◌<◌, ◌≤◌, ◌+◌, [], Bool, true, false, not, ◌&&◌, ◌||◌, ◌==◌, ◌∙◌, List, ◌∷◌, Option, Some}
+use proofs.Names.{None, refl, sym, ap, subst, arith, if◌then◌else◌, is_some, nat_lt, max, or_false, eq_self}
+use proofs.Names.{drives-fault, same_self, times_of, LineSet, data_of, changes_phase, receiver, receiver_in, when}
+use proofs.Names.{drives, last_time, since, line_times, phase_time, Row, Agreement, TransferTimes, Change, Connection}
+use proofs.Names.{LineTimes, struck_length, struck_same, Handshakes, handshakes, strikes_if, strikes, strikes_last}
+use proofs.Names.{first_of, time_of, room_by, Request, dialogue, byte_crosses, phase_begins, duty, duty_left}
+use proofs.Names.{duty_if_held, turned, is_attention_held, pulses, no_pulses, count_after, Duty, Dialogue, is_of_device}
+use proofs.Names.{ScenarioValue, bits_if, is_pulsed_phase, lag_by, begun, host_of, Own, own_of, AreOfDevices, own_fault}
+use proofs.Names.{fault_change, stands_by, own_time_fault, EndLines, initiator_side, target_side, connected_bus, Linked}
+use proofs.Names.{own_time, row_of_fault, change_to, CalmStanding, KeepsBooksIn, LinkStage, when_selected}
+use proofs.Names.{when_settling, when_turning, when_offering, when_shaking, when_pulsing, ends, fits_duty, InPhase}
+use proofs.Names.{HasDriven, shaking_time, Shaking, times_here, offset_here, pulses_of, Reached, PulseFacts, Pulsing}
+use proofs.Names.{HasDrivenPulsed, drives_by, EndsAhead, NoSooner, target_time, target_next, initiator_next, run_count}
+use proofs.{Names.{byte_in_run, given_here}, DataRows.{DataRow}, Enters.{no_fall}, FaultObeys.{fault_obeys_in}}
+use proofs.{FaultObeys.{fault_obeys_out}, Goes.{NextLinked}, LinkSeen.{around, obeys_linked}, Moves.{terms_after}}
+use proofs.{Moves.{same_line, no_rise}, PulseRows.{target_next_is, initiator_next_is}}
 
 pub linked_fault : (p : List Row) (n : Connection) (e : EndLines) (t d bit : ℕ) → Linked p n e → Linked (row_of_fault t d bit ∷ p) n e
 linked_fault p n e t d bit h = record {
@@ -92,7 +54,7 @@ stays p n e t d bit h =
       times_are = w.times_are ∙ (λ i. record { bsy = v.bsy; sel = v.sel; cd = same_line e.cd v.cd t i; io = same_line e.io v.io t i; msg = same_line e.msg v.msg t i; req = same_line e.req v.req t i; ack = same_line e.ack v.ack t i; atn = same_line e.atn v.atn t i; rst = v.rst });
       data_is = w.data_is ∙ ap (λ (q : Bool). if q then since data_of p else t) (eq_self b.data_bits);
       begun_is = w.begun_is ∙ ap (λ (r : Bool). r || begun p) ph;
-      duty_is = w.duty_is ∙ (λ i. if no_fall e.atn i || no_rise e.req i then duties.Nothing else if no_fall e.ack i && held then duty_if_held (duty p) b else if ph i then duty_left (duty p) else duty p);
+      duty_is = w.duty_is ∙ (λ i. if no_fall e.atn i || no_rise e.req i then Duty.Nothing else if no_fall e.ack i && held then duty_if_held (duty p) b else if ph i then duty_left (duty p) else duty p);
       turned_is = w.turned_is ∙ ap (λ (r : Bool). turned p || r) (no_rise e.io) ∙ or_false (turned p);
       requests_are = ap (λ (k : Handshakes). k.requests) w.handshakes_are ∙ struck e.io;
       agreements_are = ap (λ (k : Dialogue). k.heard.now.agreement) w.dialogue_is ∙ (λ i. (if is_some (none_received i) then byte_crosses (dialogue p) c else if ph i then phase_begins (dialogue p) else dialogue p).heard.now.agreement);

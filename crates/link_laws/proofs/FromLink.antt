@@ -1,71 +1,36 @@
 -- The next row of a connection, resets apart: of either end, or a fault.
-use Rattle.std.proofs.Common.{◌⊎◌, inl, inr, ℕ, ◌≡◌, ◌≤◌, ◌<◌, ◌+◌, Bool, true, false, not, ◌&&◌, ◌||◌, ◌==◌, ◌∙◌, List, Some, refl, sym, ap, subst, arith}
-use Rattle.std.specs.Prelude.{if◌then◌else◌, max, nat_le, nat_lt}
-use Rattle.std.proofs.lemmas.Bool.Decides.{nat_tests}
-use Rattle.bus_due.specs.bus_trace.specs.LineSet.{LineSet, none, bit_value, parity_of}
+use Rattle.link_laws.proofs
+use proofs.Names.{◌⊎◌, inl, inr, ℕ, ◌≡◌, ◌≤◌, ◌<◌, ◌+◌, Bool, true, false, not, ◌&&◌, ◌||◌, ◌==◌, ◌∙◌, List, Some, refl}
+use proofs.Names.{sym, ap, subst, arith, None, length, eqb-true, le-leb, nat_tests, none-some, if◌then◌else◌, max}
+use proofs.Names.{nat_le, nat_lt, and_false, zero_of, implication_parts, times_of, implies, LineSet, none, bit_value}
+use proofs.Names.{parity_of, drives, last_time, line_times, phase_time, Drives, Row, Connection, handshakes}
+use proofs.Names.{no_handshakes, first_of, is_struck, dialogue, duty, pulses, no_pulses, Duty, is_owed, ScenarioValue}
+use proofs.Names.{latency_of, attends_by, due_at, byte_bits, bits_if, Due, is_pulsed_phase, begun, Serving, phase_of}
+use proofs.Names.{phase_leaving, Leaving, IsLeast, own_of, run_state, flip_of, serving_at, is_at, offset_is_byte}
+use proofs.Names.{EndLines, initiator_side, target_side, connected_bus, Linked, BeginsSelected, ends_selected, own_time}
+use proofs.Names.{unreset_due, row_of_lines, CalmStanding, HasShortLatencies, HasDevice, KeepsBooksIn, LinkStage}
+use proofs.Names.{when_selected, when_settling, when_turning, when_offering, when_shaking, when_pulsing, ends}
+use proofs.Names.{fits_duty, is_owed_out, OneSide, Settling, Turning, OfferingStage as Offering, Shaking, times_here}
+use proofs.{Names.{offset_here, run_count, next_bits}, Ahead.{never}, Asks.{hold_short, releases_byte, offers_byte}}
+use proofs.{Asks.{Asking, asks_in, asks_out}, Duties.{may_ask}, EndDues.{due_of, Mover, by_fault, by_initiator}}
+use proofs.EndDues.{by_target, mover_is, target_plain, initiator_plain, offering_with, answering_with, initiator_is}
+use proofs.{EndDues.{sampled_or, sampled_by, is_sampling}, Enters.{opens, hands_over}, Faults.{strikes_byte}}
+use proofs.{Goes.{NextLinked}, Leaves.{data_out_to_initiator}, PhaseEnds.{leaves_lines, AfterLink, goes_on, unasked}}
+use proofs.{PhaseEnds.{leaves_phase}, PulseDues.{pulsed_target_in, pulsed_target_out, pulsed_initiator_in}}
+use proofs.PulseDues.{pulsed_initiator_out, hold_end_time, pulse_time, leaving_time, ack_pulse_end_time, answer_time}
+use proofs.{PulseDues.{release_time, byte_driven_time, given_bits}, PulseEnds.{pulsed_leaves_in, pulsed_leaves_out}}
+use proofs.{PulseIn.{req_pulses_in, byte_changes_in, answers_pulse_in, ends_pulse_in}, PulseOut.{req_ends_out}}
+use proofs.PulseOut.{req_pulses_out, answers_pulse_out, ends_pulse_out, gives_pulsed_byte, releases_pulsed_byte}
+use proofs.{PulseOut.{no_attention}, PulseRows.{NextPulsing, PulseHere, req_ends_in}, PulseStarts.{starts_in}}
+use proofs.{PulseStarts.{starts_out}, RunLengths.{HasShortRuns}, Shakes.{target_row, initiator_row, takes_req_in}}
+use proofs.Shakes.{takes_req_out, ends_ack_in, ends_ack_out, answers_in, gives_byte, answers_out}
+use proofs.StageDues.{selected_target, selected_initiator, settling_target, settling_initiator, handing_initiator}
+use proofs.StageDues.{turning_target, turned_initiator, owing_initiator, offering_target, offering_initiator}
+use proofs.StageDues.{answered_target, answered_initiator_in, answered_initiator_out, asking_target}
+use proofs.StageDues.{asking_initiator_in, asking_initiator_out, giving_initiator_out, ending_target}
+use proofs.StageDues.{ending_initiator_in, ending_initiator_out, ack_end_time, between_target, between_initiator_in}
+use proofs.StageDues.{between_initiator_out}
 use lib.Count.{ones}
-use Rattle.bus_due.specs.bus_trace.specs.declared.Row.{Row}
-use Rattle.bus_due.specs.bus_trace.specs.declared.connection.Connection.{Connection}
-use Rattle.bus_due.specs.bus_trace.specs.Agreements.{times_of}
-use Rattle.bus_due.specs.bus_trace.specs.Changes.{implies}
-use Rattle.bus_due.specs.bus_trace.specs.Trace.{drives, last_time, line_times, phase_time}
-use Rattle.bus_due.specs.bus_phases.specs.declared.attention.Duty.{Duty}
-use Rattle.bus_due.specs.bus_phases.specs.declared.attention.Duty.TheVariants as duties
-use Rattle.bus_due.specs.bus_phases.specs.Phases.{duty}
-use Rattle.bus_due.specs.bus_phases.specs.Dialogue.{dialogue}
-use Rattle.bus_due.specs.bus_rules.specs.Messages.{is_owed}
-use Rattle.bus_due.specs.bus_lines.specs.Handshakes.{handshakes}
-use Rattle.bus_due.specs.scenario.specs.Value.{ScenarioValue}
-use Rattle.bus_due.specs.bus_story.specs.Samples.{latency_of}
-use Rattle.bus_due.specs.bus_reactions.specs.declared.due.Due.{Due}
-use Rattle.bus_due.specs.bus_reactions.specs.Reactions.{due_at}
-use Rattle.bus_due.specs.bus_reactions.specs.Target.{byte_bits, bits_if}
-use Rattle.bus_due.specs.bus_reactions.specs.Initiator.{attends_by}
-use Rattle.bus_due.specs.bus_dialogue.specs.Ends.{is_pulsed_phase}
-use Rattle.bus_due.specs.Own.{own_of}
-use Rattle.bus_due.specs.Sights.{flip_of}
-use Rattle.bus_due.specs.RunSteps.{run_state}
-use Rattle.bus_due.specs.bus_dialogue.specs.Hearing.{begun}
-use Rattle.bus_due.specs.bus_trace.specs.declared.Kind.TheVariants.{Drives}
-use Rattle.bus_due.specs.Least.{IsLeast}
-use Rattle.bus_laws.specs.Reactions.{own_time, unreset_due}
-use Rattle.bus_laws.specs.Rows.{row_of_lines}
-use Rattle.bus_laws.specs.Stages.{CalmStanding, HasShortLatencies, HasDevice}
-use Rattle.bus_laws.specs.Ends.{EndLines, initiator_side, target_side, connected_bus, Linked, BeginsSelected, ends_selected}
-use Rattle.bus_laws.proofs.Dues.{is_at}
-use Rattle.bus_laws.proofs.Periods.{offset_is_byte}
-use Rattle.link_laws.specs.Books.{KeepsBooksIn}
-use Rattle.link_laws.specs.Phases.{ends, fits_duty, is_owed_out, OneSide, Settling, Turning, Offering, Shaking}
-use Rattle.link_laws.specs.LinkStages.{LinkStage, when_selected, when_settling, when_turning, when_offering, when_shaking, when_pulsing}
-use Rattle.link_laws.proofs.Duties.{may_ask}
-use Rattle.link_laws.proofs.EndDues.{due_of, Mover, by_fault, by_initiator, by_target, mover_is, target_plain, initiator_plain, offering_with, answering_with, initiator_is, sampled_or, sampled_by, is_sampling}
-use Rattle.link_laws.proofs.StageDues.{selected_target, selected_initiator, settling_target, settling_initiator, handing_initiator, turning_target, turned_initiator, owing_initiator, offering_target, offering_initiator, answered_target, answered_initiator_in, answered_initiator_out, asking_target, asking_initiator_in, asking_initiator_out, giving_initiator_out, ending_target, ending_initiator_in, ending_initiator_out, ack_end_time, between_target, between_initiator_in, between_initiator_out}
-use Rattle.link_laws.proofs.Ahead.{never}
-use Rattle.std.proofs.Common.{None}
-use Rattle.link_laws.proofs.Goes.{NextLinked}
-use Rattle.link_laws.proofs.Shakes.{target_row, initiator_row, takes_req_in, takes_req_out, ends_ack_in, ends_ack_out, answers_in, gives_byte, answers_out}
-use Rattle.link_laws.proofs.Faults.{strikes_byte}
-use Rattle.link_laws.proofs.Enters.{opens, hands_over}
-use Rattle.link_laws.proofs.RunLengths.{HasShortRuns}
-use Rattle.link_laws.proofs.Asks.{hold_short, releases_byte, offers_byte, Asking, asks_in, asks_out}
-use Rattle.std.specs.Prelude.{length}
-use Rattle.bus_due.specs.bus_lines.specs.Handshakes.{no_handshakes, first_of, is_struck}
-use Rattle.bus_due.specs.bus_phases.specs.Phases.{pulses, no_pulses}
-use Rattle.bus_due.specs.bus_dialogue.specs.declared.exchange.Leaving.{Leaving}
-use Rattle.bus_due.specs.bus_dialogue.specs.NextPhase.{Serving, phase_of, phase_leaving}
-use Rattle.bus_due.specs.Sights.{serving_at}
-use Rattle.link_laws.specs.Pulses.{times_here, offset_here, run_count, next_bits}
-use Rattle.link_laws.proofs.Leaves.{data_out_to_initiator}
-use Rattle.link_laws.proofs.PulseDues.{pulsed_target_in, pulsed_target_out, pulsed_initiator_in, pulsed_initiator_out, hold_end_time, pulse_time, leaving_time, ack_pulse_end_time, answer_time, release_time, byte_driven_time, given_bits}
-use Rattle.link_laws.proofs.PulseRows.{NextPulsing, PulseHere, req_ends_in}
-use Rattle.link_laws.proofs.PulseIn.{req_pulses_in, byte_changes_in, answers_pulse_in, ends_pulse_in}
-use Rattle.link_laws.proofs.PulseOut.{req_ends_out, req_pulses_out, answers_pulse_out, ends_pulse_out, gives_pulsed_byte, releases_pulsed_byte, no_attention}
-use Rattle.link_laws.proofs.PulseStarts.{starts_in, starts_out}
-use Rattle.link_laws.proofs.PulseEnds.{pulsed_leaves_in, pulsed_leaves_out}
-use Rattle.link_laws.proofs.PhaseEnds.{leaves_lines, AfterLink, goes_on, unasked, leaves_phase}
-use Rattle.std.proofs.lemmas.Bool.{eqb-true, le-leb}
-use Rattle.std.proofs.lemmas.Option.{none-some}
-use Rattle.bus_due.specs.bus_base.proofs.Tests.{and_false, zero_of, implication_parts}
 
 -- What the next row is due to be, of the lines of one device.
 reacts : (s : ScenarioValue) (p : List Row) (n : Connection) (row : Row) (d time : ℕ) (l : LineSet) → row.dev ≡ d → due_at time l ≡ Some (due_of row) → KeepsBooksIn p row → (row.time ≡ time → KeepsBooksIn p (row_of_lines row.time d l) → AfterLink s p (row_of_lines row.time d l) n) → AfterLink s p row n
@@ -218,18 +183,18 @@ from_offering s p row n atn msg cd y always order h books (by_target lat lat_is 
 -- ---- byte by byte
 
 owed_out : (d : Duty) → is_owed_out d false ≡ true
-owed_out duties.Nothing = refl
-owed_out duties.Asked = refl
-owed_out duties.Owed = refl
+owed_out Duty.Nothing = refl
+owed_out Duty.Asked = refl
+owed_out Duty.Owed = refl
 
 -- MESSAGE OUT is not owed where a byte follows to the initiator.
 owed_in : (d : Duty) (atn msg cd : Bool) → fits_duty d atn msg ≡ true → (msg && not cd) ≡ false → ((msg && cd && atn) ≡ true → ⊥) → implies (is_owed d) (msg && cd && not true) ≡ true
-owed_in duties.Nothing atn msg cd f k stop = refl
-owed_in duties.Asked atn msg cd f k stop = refl
-owed_in duties.Owed true true true f k stop = absurd (stop refl)
-owed_in duties.Owed true true false f k stop = absurd cc
-owed_in duties.Owed true false cd f k stop = absurd cc
-owed_in duties.Owed false msg cd f k stop = absurd cc
+owed_in Duty.Nothing atn msg cd f k stop = refl
+owed_in Duty.Asked atn msg cd f k stop = refl
+owed_in Duty.Owed true true true f k stop = absurd (stop refl)
+owed_in Duty.Owed true true false f k stop = absurd cc
+owed_in Duty.Owed true false cd f k stop = absurd cc
+owed_in Duty.Owed false msg cd f k stop = absurd cc
 
 from_answered : (s : ScenarioValue) (p : List Row) (row : Row) (n : Connection) (msg cd io atn : Bool) (x y : ℕ) → CalmStanding s p → last_time p ≤ row.time → Shaking p n msg cd io true true atn x y → KeepsBooksIn p row → (lat : ℕ) → row.dev ≡ n.target → target_plain s p n true (ends false true atn x msg cd io true y) lat ≡ Some (due_of row) → AfterLink s p row n
 from_answered s p row n msg cd true atn x y always order h books lat same e =
@@ -370,9 +335,9 @@ pulses_react s p n row io req ack atn x y d time l same e h f =
     subst (λ w. AfterLink s p w n) (sym r) (goes_on (f z.time_is (subst (λ w. PulseHere s p w n io req ack atn x y) r h)))
 
 owed_data : (d : Duty) (atn : Bool) → fits_duty d atn false ≡ true → implies (is_owed d) false ≡ true
-owed_data duties.Nothing atn f = refl
-owed_data duties.Asked atn f = refl
-owed_data duties.Owed atn f = let w = sym f ∙ and_false atn in absurd cc
+owed_data Duty.Nothing atn f = refl
+owed_data Duty.Asked atn f = refl
+owed_data Duty.Owed atn f = let w = sym f ∙ and_false atn in absurd cc
 
 by_target_in : (s : ScenarioValue) (p : List Row) (row : Row) (n : Connection) (req ack atn : Bool) (y lat : ℕ) → latency_of s n.target ≡ Some lat → row.dev ≡ n.target → PulseHere s p row n true req ack atn 0 y → target_plain s p n true (ends false ack atn 0 false false true req y) lat ≡ Some (due_of row) → AfterLink s p row n
 by_target_in s p row n true ack atn y lat there same h e =

@@ -1,27 +1,10 @@
 -- What a row of an end leaves of a phase that goes on.
-use Rattle.std.proofs.Common.{ℕ, ◌≡◌, ◌≤◌, Bool, true, false, not, ◌&&◌, ◌||◌, ◌==◌, ◌∙◌, List, ◌∷◌, Option, Some, None, refl, sym, ap, arith}
-use Rattle.std.specs.Prelude.{if◌then◌else◌, nat_le, nat_lt}
-use Rattle.std.proofs.lemmas.Bool.Decides.{nat_tests}
-use Rattle.bus_due.specs.bus_trace.specs.LineSet.{data_of}
-use Rattle.bus_due.specs.bus_trace.specs.declared.Row.{Row}
-use Rattle.bus_due.specs.bus_trace.specs.declared.connection.Connection.{Connection}
-use Rattle.bus_due.specs.bus_trace.specs.declared.agreements.Agreement.{Agreement}
-use Rattle.bus_due.specs.bus_trace.specs.Trace.{last_time, since}
-use Rattle.bus_due.specs.bus_trace.specs.Changes.{rises, falls, implies}
-use Rattle.bus_due.specs.bus_trace.proofs.Ages.{since_le}
-use Rattle.bus_due.specs.bus_phases.specs.declared.attention.Duty.{Duty}
-use Rattle.bus_due.specs.bus_phases.specs.Phases.{duty}
-use Rattle.bus_due.specs.bus_phases.specs.Dialogue.{dialogue}
-use Rattle.bus_due.specs.bus_rules.specs.Order.{is_of_device}
-use Rattle.bus_due.specs.bus_rules.specs.Rules.{broken_rule}
-use Rattle.bus_due.specs.bus_dialogue.specs.Ends.{is_pulsed_phase}
-use Rattle.bus_due.specs.scenario.specs.Value.{ScenarioValue}
-use Rattle.bus_laws.specs.Stages.{CalmStanding}
-use Rattle.bus_laws.specs.Ends.{EndLines, connected_bus}
-use Rattle.link_laws.specs.Phases.{ends, fits_duty, InPhase, HasTurned}
-use Rattle.link_laws.specs.LinkStages.{LinkStage}
-use Rattle.link_laws.proofs.Duties.{duty_goes_on}
-use Rattle.link_laws.proofs.Moves.{InPhaseRow}
+use Rattle.link_laws.proofs
+use proofs.Names.{ℕ, ◌≡◌, ◌≤◌, Bool, true, false, not, ◌&&◌, ◌||◌, ◌==◌, ◌∙◌, List, ◌∷◌, Option, Some, None, refl, sym}
+use proofs.Names.{ap, arith, nat_tests, if◌then◌else◌, nat_le, nat_lt, since_le, rises, falls, implies, data_of}
+use proofs.Names.{last_time, since, Row, Agreement, Connection, dialogue, duty, Duty, is_of_device, broken_rule}
+use proofs.Names.{ScenarioValue, is_pulsed_phase, EndLines, connected_bus, CalmStanding, LinkStage, ends, fits_duty}
+use proofs.{Names.{InPhase, HasTurned}, Duties.{duty_goes_on}, Moves.{InPhaseRow}}
 
 -- What a row does with which the connection goes on.
 pub record NextLinked (s : ScenarioValue) (p : List Row) (row : Row) (n : Connection) : Type 0 where

@@ -1,3 +1,4 @@
+pub mod Names
 pub mod Moves
 pub mod LinkSeen
 pub mod Duties
@@ -8,6 +9,7 @@ pub mod StageDues
 pub mod Ahead
 pub mod Goes
 pub mod Shakes
+pub mod LeavingWays
 pub mod Leaves
 pub mod EdgeObeys
 pub mod Enters

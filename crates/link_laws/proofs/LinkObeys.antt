@@ -1,21 +1,9 @@
 -- Rows of a connection that obey the rules by the wires: byte by byte, and from phase to phase.
-use Rattle.std.proofs.Common.{ℕ, ◌≡◌, ◌≢◌, ◌≤◌, ◌+◌, Bool, true, false, not, Option, None, sym, arith}
-use Rattle.std.specs.Prelude.{◌==◌, ◌&&◌, nat_le}
-use Rattle.std.specs.Int.Bits.{or_zero_r, or_self}
-use Rattle.std.proofs.lemmas.Bool.Decides.{nat_tests}
-use Rattle.bus_due.specs.bus_trace.specs.LineSet.{same}
-use Rattle.bus_due.specs.bus_trace.specs.Trace.{phase_time}
-use Rattle.bus_due.specs.bus_trace.specs.Changes.{implies}
-use Rattle.bus_due.specs.bus_trace.specs.declared.connection.Connection.{Connection}
-use Rattle.bus_due.specs.bus_rules.specs.Messages.{is_owed}
-use Rattle.bus_due.specs.bus_dialogue.specs.Ends.{is_pulsed_phase}
-use Rattle.bus_laws.specs.Rows.{change_to, row_of_lines}
-use Rattle.bus_laws.specs.Ends.{EndLines, initiator_side, target_side, connected_bus}
-use Rattle.link_laws.specs.Phases.{ends}
-use Rattle.link_laws.proofs.LinkSeen.{Around, seen_linked, wire_broken}
-use Rattle.bus_due.specs.bus_phases.specs.Phases.{no_pulses}
-use Rattle.std.proofs.lemmas.Bool.{ne_eqb, true≢false}
-use Rattle.bus_due.specs.bus_base.proofs.Tests.{eq_self}
+use Rattle.link_laws.proofs
+use proofs.Names.{ℕ, ◌≡◌, ◌≢◌, ◌≤◌, ◌+◌, Bool, true, false, not, Option, None, sym, arith, ◌==◌, ◌&&◌, ne_eqb}
+use proofs.Names.{true≢false, nat_tests, or_zero_r, or_self, nat_le, eq_self, implies, same, phase_time, Connection}
+use proofs.Names.{no_pulses, is_owed, is_pulsed_phase, EndLines, initiator_side, target_side, connected_bus, change_to}
+use proofs.{Names.{row_of_lines, ends}, LinkSeen.{Around, seen_linked, wire_broken}}
 
 -- What a row of the target, or of the initiator, from these lines to those meets, and whether it obeys the rules by the wires.
 abbrev pub target_breaks : Around → Connection → EndLines → EndLines → ℕ → Option ℕ

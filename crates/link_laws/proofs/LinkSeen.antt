@@ -1,31 +1,12 @@
 -- What the rules see of a row in a connection, and which of them it obeys by the wires.
-use Rattle.std.proofs.Common.{ℕ, ◌≡◌, Bool, true, false, not, ◌&&◌, List, [], ◌∷◌, ◌∙◌, refl, sym, ap, Option, Some, None}
-use Rattle.std.specs.Prelude.{is_some, if◌then◌else◌}
-use Rattle.bus_due.specs.bus_trace.specs.LineSet.{LineSet, data_of}
-use Rattle.bus_due.specs.bus_trace.specs.declared.Row.{Row}
-use Rattle.bus_due.specs.bus_trace.specs.declared.line_times.LineTimes.{LineTimes}
-use Rattle.bus_due.specs.bus_trace.specs.declared.agreements.Agreement.{Agreement}
-use Rattle.bus_due.specs.bus_trace.specs.Trace.{drives, last_time, since, line_times}
-use Rattle.bus_due.specs.bus_trace.specs.declared.connection.Connection.{Connection}
-use Rattle.bus_due.specs.bus_trace.specs.declared.changes.Change.{Change}
-use Rattle.bus_due.specs.bus_trace.specs.Changes.{change_of, drives_data}
-use Rattle.bus_due.specs.bus_trace.specs.Terms.{raised, receiver}
-use Rattle.bus_due.specs.bus_phases.specs.declared.pulses.Pulses.{Pulses}
-use Rattle.bus_due.specs.bus_phases.specs.declared.attention.Duty.{Duty}
-use Rattle.bus_due.specs.bus_phases.specs.declared.spoken.CommandBytes.{CommandBytes}
-use Rattle.bus_due.specs.bus_phases.specs.declared.reading.Reading.{Reading}
-use Rattle.bus_due.specs.bus_phases.specs.Phases.{pulses, turned, duty}
-use Rattle.bus_due.specs.bus_phases.specs.Dialogue.{dialogue}
-use Rattle.bus_due.specs.bus_phases.specs.Half.{is_nil}
-use Rattle.bus_due.specs.bus_phases.specs.Reading.{reading_of}
-use Rattle.bus_due.specs.bus_rules.specs.declared.seen.Seen.{Seen}
-use Rattle.bus_due.specs.bus_rules.specs.Seen.{seen, seen_with, others_in_call, id_since, drives_bsy, initiator_of, initiator_data, target_data}
-use Rattle.bus_due.specs.bus_rules.specs.Rules.{keeps, first_broken, judged_rules, lowest_broken, broken_rule}
-use Rattle.bus_due.specs.bus_rules.specs.Transfer.{has_parity}
-use Rattle.bus_due.specs.bus_rules.specs.Messages.{keeps_messages, keeps_command}
-use Rattle.bus_due.specs.bus_rules.proofs.First.{none_broken, all_kept}
-use Rattle.bus_laws.specs.Ends.{EndLines, initiator_side, target_side, Linked}
-use Rattle.link_laws.specs.Books.{is_row_of_connection, KeepsBooksIn}
+use Rattle.link_laws.proofs
+use proofs.Names.{ℕ, ◌≡◌, Bool, true, false, not, ◌&&◌, List, [], ◌∷◌, ◌∙◌, refl, sym, ap, Option, Some, None, is_some}
+use proofs.Names.{if◌then◌else◌, change_of, drives_data, LineSet, data_of, raised, receiver, drives, last_time, since}
+use proofs.Names.{line_times, Row, Agreement, Change, Connection, LineTimes, dialogue, is_nil, pulses, turned, duty}
+use proofs.Names.{reading_of, Duty, Pulses, Reading, CommandBytes, none_broken, all_kept, keeps_messages, keeps_command}
+use proofs.Names.{keeps, first_broken, judged_rules, lowest_broken, broken_rule, seen, seen_with, others_in_call}
+use proofs.Names.{id_since, drives_bsy, initiator_of, initiator_data, target_data, has_parity, Seen, EndLines}
+use proofs.Names.{initiator_side, target_side, Linked, is_row_of_connection, KeepsBooksIn}
 
 -- What a row of a connection meets, but for what it changes and what the ends drive.
 pub record Around : Type 0 where

@@ -1,28 +1,15 @@
 -- A row of one end of a connection: what it leaves on the bus, and of the terms of the rules.
-use Rattle.std.proofs.Common.{ℕ, ◌≡◌, ◌≢◌, ◌<◌, ◌%◌, Bool, true, false, not, ◌&&◌, ◌||◌, List, ◌∷◌, ◌∙◌, refl, sym, ap, Some, None}
-use Rattle.std.specs.Prelude.{◌+◌, if◌then◌else◌, max, is_some, nat_le}
-use Rattle.bus_due.specs.bus_trace.specs.LineSet.{LineSet, none, union, data_of}
-use Rattle.bus_due.specs.bus_trace.specs.declared.Row.{Row}
-use Rattle.bus_due.specs.bus_trace.specs.declared.line_times.LineTimes.{LineTimes}
-use Rattle.bus_due.specs.bus_trace.specs.declared.connection.Connection.{Connection}
-use Rattle.bus_due.specs.bus_trace.specs.declared.changes.Change.{Change}
-use Rattle.bus_due.specs.bus_trace.specs.Changes.{change_of, rises, falls}
-use Rattle.bus_due.specs.bus_trace.specs.Phases.{changes_phase}
-use Rattle.bus_due.specs.bus_trace.specs.Terms.{connection, is_fault, receiver, receiver_in, receiver_of, when}
-use Rattle.bus_due.specs.bus_trace.specs.Trace.{drives, bus, since, newer, newer_line, line_times, times_after, phase_time}
-use Rattle.bus_due.specs.bus_trace.proofs.Buses.{bus_two}
-use Rattle.bus_due.specs.bus_trace.proofs.Sets.{same_self}
-use Rattle.bus_due.specs.bus_phases.specs.declared.attention.Duty.TheVariants as duties
-use Rattle.bus_due.specs.bus_phases.specs.declared.dialogue.Dialogue.{Dialogue}
-use Rattle.bus_due.specs.bus_phases.specs.Phases.{pulses, pulses_after, pulses_on, no_pulses, count_after, duty, duty_after, duty_if_held, duty_left, turned, turned_after, is_attention_held}
-use Rattle.bus_due.specs.bus_phases.specs.Dialogue.{dialogue, dialogue_after, dialogue_on, agreed, byte_out, byte_in, byte_crosses, phase_begins, heard_with_command}
-use Rattle.bus_due.specs.bus_lines.specs.Handshakes.{handshakes, handshakes_after, no_handshakes, answered_if, asked_if}
-use Rattle.bus_due.specs.bus_dialogue.specs.Hearing.{begun, begun_after}
-use Rattle.bus_laws.specs.Rows.{change_to, row_of_lines}
-use Rattle.bus_laws.specs.Ends.{EndLines, initiator_side, target_side, connected_bus, Linked}
-use Rattle.bus_laws.proofs.Rows.{change_is, stands_after, drives_own, drives_other}
-use Rattle.link_laws.specs.Phases.{ends}
-use Rattle.bus_due.specs.bus_base.proofs.Tests.{or_true, or_false}
+use Rattle.link_laws.proofs
+use proofs.Names.{ℕ, ◌≡◌, ◌≢◌, ◌<◌, ◌%◌, Bool, true, false, not, ◌&&◌, ◌||◌, List, ◌∷◌, ◌∙◌, refl, sym, ap, Some, None}
+use proofs.Names.{◌+◌, if◌then◌else◌, max, is_some, nat_le, or_true, or_false, bus_two, same_self, change_of, rises}
+use proofs.Names.{falls, LineSet, none, union, data_of, changes_phase, connection, is_fault, receiver, receiver_in}
+use proofs.Names.{receiver_of, when, drives, bus, since, newer, newer_line, line_times, times_after, phase_time, Row}
+use proofs.Names.{Change, Connection, LineTimes, handshakes, handshakes_after, no_handshakes, answered_if, asked_if}
+use proofs.Names.{dialogue, dialogue_after, dialogue_on, agreed, byte_out, byte_in, byte_crosses, phase_begins}
+use proofs.Names.{heard_with_command, pulses, pulses_after, pulses_on, no_pulses, count_after, duty, duty_after}
+use proofs.Names.{duty_if_held, duty_left, turned, turned_after, is_attention_held, Duty, Dialogue, begun, begun_after}
+use proofs.Names.{change_is, stands_after, drives_own, drives_other, EndLines, initiator_side, target_side}
+use proofs.Names.{connected_bus, Linked, change_to, row_of_lines, ends}
 
 pub both_sides : (e : EndLines) → union (initiator_side e) (target_side e) ≡ connected_bus e
 both_sides e = λ i. record (connected_bus e) { bsy = or_true e.bsy i; ack = or_false e.ack i; atn = or_false e.atn i }
@@ -142,7 +129,7 @@ pub record InPhaseRow (p q : List Row) (n : Connection) (e f : EndLines) (t : �
   pub begun_is : begun q ≡ begun p
   pub turned_is : turned q ≡ turned p
   pub handshakes_are : handshakes q ≡ answered_if (rises e.ack f.ack) t (asked_if (rises e.req f.req) t (handshakes p))
-  pub duty_is : (held : Bool) × (duty q ≡ (if falls e.atn f.atn || rises e.req f.req then duties.Nothing else if falls e.ack f.ack && (e.atn && f.atn && held) then duty_if_held (duty p) (connected_bus e) else duty p))
+  pub duty_is : (held : Bool) × (duty q ≡ (if falls e.atn f.atn || rises e.req f.req then Duty.Nothing else if falls e.ack f.ack && (e.atn && f.atn && held) then duty_if_held (duty p) (connected_bus e) else duty p))
   pub pulses_are : pulses q ≡ record { req = count_after (rises e.req f.req) (pulses p).req; ack = count_after (rises e.ack f.ack) (pulses p).ack; last_req = when (rises e.req f.req) t (pulses p).last_req; last_ack = when (rises e.ack f.ack) t (pulses p).last_ack }
   pub receiver_is : receiver q ≡ (if e.io then (if rises e.req f.req then Some n.initiator else None) else (if rises e.ack f.ack then Some n.target else None))
   pub agreement_is : e.msg ≡ false → e.cd ≡ false → (dialogue q).heard.now.agreement ≡ (dialogue p).heard.now.agreement
@@ -167,7 +154,7 @@ in_phase p t d n e bsy ack atn x req y o l z =
       begun_is = z.begun_is ∙ ap (λ (r : Bool). r || begun p) ph;
       turned_is = z.turned_is ∙ ap (λ (r : Bool). turned p || r) (no_rise e.io) ∙ or_false (turned p);
       handshakes_are = z.handshakes_are ∙ ap (λ (r : Bool). if r then no_handshakes else answered_if (rises e.ack ack) t (asked_if (rises e.req req) t (handshakes p))) ph;
-      duty_is = (nat_le (w.atn + 90) t, z.duty_is ∙ ap (λ (r : Bool). if falls e.atn atn || rises e.req req then duties.Nothing else if falls e.ack ack && held then duty_if_held (duty p) (connected_bus e) else if r then duty_left (duty p) else duty p) ph);
+      duty_is = (nat_le (w.atn + 90) t, z.duty_is ∙ ap (λ (r : Bool). if falls e.atn atn || rises e.req req then Duty.Nothing else if falls e.ack ack && held then duty_if_held (duty p) (connected_bus e) else if r then duty_left (duty p) else duty p) ph);
       pulses_are = z.pulses_are ∙ ap (λ (r : Bool). if r then no_pulses else pulses_on (pulses p) c t) ph;
       receiver_is = z.receiver_is;
       agreement_is = λ em ec. ap (λ (v : Dialogue). v.heard.now.agreement) z.dialogue_is ∙ agreement_in_data (dialogue p) n c em ec ph;

@@ -1,56 +1,19 @@
 -- The rows with which the target leaves a phase: to another one, or the bus (6.1.1, 6.1.5.1, 6.1.10).
-use Rattle.std.proofs.Common.{inl, inr, ℕ, ◌≡◌, ◌≤◌, ◌<◌, ◌+◌, Bool, true, false, not, ◌&&◌, ◌||◌, ◌==◌, ◌∙◌, List, ◌∷◌, Option, Some, None, refl, sym, ap, subst, arith}
-use Rattle.std.specs.Prelude.{if◌then◌else◌, nat_lt, length}
-use Rattle.bus_due.specs.bus_dialogue.specs.Exchange.{bytes_of_messages}
-use Rattle.std.proofs.lemmas.Bool.{cases_eq, and_parts, not-true}
-use Rattle.bus_due.specs.bus_trace.specs.LineSet.{LineSet, none}
-use Rattle.bus_due.specs.bus_trace.specs.declared.Row.{Row}
-use Rattle.bus_due.specs.bus_trace.specs.declared.connection.Connection.{Connection}
-use Rattle.bus_due.specs.bus_trace.specs.declared.changes.Change.{Change}
-use Rattle.bus_due.specs.bus_trace.specs.Changes.{change_of, implies}
-use Rattle.bus_due.specs.bus_trace.specs.Terms.{connection_after, free_since, connection}
-use Rattle.bus_due.specs.bus_trace.specs.Trace.{bus, drives, last_time, line_times, since_line}
-use Rattle.bus_due.specs.bus_trace.proofs.Buses.{bus_none}
-use Rattle.bus_due.specs.bus_phases.specs.Phases.{turned}
-use Rattle.bus_due.specs.bus_rules.specs.Rules.{broken_rule}
-use Rattle.bus_due.specs.bus_lines.specs.declared.stage.Stage.TheVariants.{OnFreeBus}
-use Rattle.bus_due.specs.bus_lines.specs.Stage.{stage}
-use Rattle.bus_due.specs.bus_lines.specs.Handshakes.{handshakes}
-use Rattle.bus_due.specs.scenario.specs.Value.{ScenarioValue}
-use Rattle.bus_due.specs.bus_story.specs.BusState.{row_reading}
-use Rattle.bus_due.specs.bus_story.specs.TraceHistory.{story_on_bus}
-use Rattle.bus_due.specs.bus_story.specs.HistoryEvents.{row_events_by}
-use Rattle.bus_due.specs.bus_dialogue.specs.declared.exchange.Leaving.{Leaving}
-use Rattle.bus_due.specs.bus_dialogue.specs.declared.exchange.Phase.{Phase}
-use Rattle.bus_due.specs.bus_dialogue.specs.declared.exchange.Phase.TheVariants as phases
-use Rattle.bus_due.specs.bus_dialogue.specs.NextPhase.{Serving, phase_of, phase_leaving}
-use Rattle.bus_due.specs.bus_dialogue.specs.PhaseBytes.{lines_by, follows_in, run_length_if}
-use Rattle.bus_due.specs.bus_dialogue.specs.Arrivals.{policy_of}
-use Rattle.bus_due.specs.RunSteps.{run_state}
-use Rattle.bus_due.specs.Sights.{serving_at}
-use Rattle.bus_due.specs.Wants.{want_time}
-use Rattle.bus_due.specs.Plain.{AreOfDevices}
-use Rattle.bus_due.proofs.Plains.{run_state_plain}
-use Rattle.bus_laws.specs.Reactions.{own_time}
-use Rattle.bus_laws.specs.Rows.{Stands, row_of_lines, change_to}
-use Rattle.bus_laws.specs.Stages.{CalmStanding, AreAhead, FreeBus}
-use Rattle.bus_laws.specs.Ends.{EndLines, initiator_side, target_side, connected_bus, Linked}
-use Rattle.bus_laws.proofs.Rows.{change_is, stands_after, stage_is, since_is, drives_own, drives_other}
-use Rattle.bus_laws.proofs.Dues.{is_there, is_entry, free_due_is}
-use Rattle.bus_laws.proofs.Apart.{change_plain}
-use Rattle.link_laws.specs.Books.{KeepsBooksIn}
-use Rattle.link_laws.specs.Phases.{ends, Shaking}
-use Rattle.link_laws.specs.LinkStages.{LinkStage, when_settling, when_turning}
-use Rattle.link_laws.proofs.Moves.{target_moves}
-use Rattle.link_laws.proofs.LinkSeen.{around, obeys_linked}
-use Rattle.link_laws.proofs.LinkObeys.{same_phases, phase_goes_on_in, phase_turns_out, phase_begins_out}
-use Rattle.link_laws.proofs.EdgeObeys.{freeing_in_obeys, freeing_out_obeys}
-use Rattle.link_laws.proofs.EndDues.{offering_with}
-use Rattle.link_laws.proofs.Goes.{NextLinked, turn_test}
-use Rattle.link_laws.proofs.Leaves.{may_leave, leaves_well}
-use Rattle.link_laws.proofs.Shakes.{target_row}
-use Rattle.link_laws.proofs.Enters.{settles_in, settles_out, turns_in}
-use Rattle.bus_due.specs.bus_story.proofs.StorySteps.{events_link}
+use Rattle.link_laws.proofs
+use proofs.Names.{inl, inr, ℕ, ◌≡◌, ◌≤◌, ◌<◌, ◌+◌, Bool, true, false, not, ◌&&◌, ◌||◌, ◌==◌, ◌∙◌, List, ◌∷◌, Option}
+use proofs.Names.{Some, None, refl, sym, ap, subst, arith, length, cases_eq, and_parts, not-true, if◌then◌else◌, nat_lt}
+use proofs.Names.{bus_none, change_of, implies, LineSet, none, connection_after, free_since, connection, bus, drives}
+use proofs.Names.{last_time, line_times, since_line, Row, Change, Connection, handshakes, stage, OnFreeBus, turned}
+use proofs.Names.{broken_rule, ScenarioValue, events_link, row_reading, row_events_by, story_on_bus, policy_of}
+use proofs.Names.{bytes_of_messages, Serving, phase_of, phase_leaving, lines_by, follows_in, run_length_if, Leaving}
+use proofs.Names.{Phase, run_state_plain, AreOfDevices, run_state, serving_at, want_time, change_plain, is_there}
+use proofs.Names.{is_entry, free_due_is, change_is, stands_after, stage_is, since_is, drives_own, drives_other}
+use proofs.Names.{EndLines, initiator_side, target_side, connected_bus, Linked, own_time, Stands, row_of_lines}
+use proofs.Names.{change_to, CalmStanding, AreAhead, FreeBus, KeepsBooksIn, LinkStage, when_settling, when_turning}
+use proofs.{Names.{ends, Shaking}, EdgeObeys.{freeing_in_obeys, freeing_out_obeys}, EndDues.{offering_with}}
+use proofs.{Enters.{settles_in, settles_out, turns_in}, Goes.{NextLinked, turn_test}, Leaves.{may_leave, leaves_well}}
+use proofs.{LinkObeys.{same_phases, phase_goes_on_in, phase_turns_out, phase_begins_out}, LinkSeen.{around}}
+use proofs.{LinkSeen.{obeys_linked}, Moves.{target_moves}, Shakes.{target_row}}
 
 -- What a row does with which the connection ends.
 pub record NextFree (s : ScenarioValue) (p : List Row) (row : Row) : Type 0 where
@@ -67,12 +30,12 @@ pub data AfterLink (s : ScenarioValue) (p : List Row) (row : Row) (n : Connectio
 
 -- The phase of these lines, and how it is left.
 pub leaves_lines : (v : Serving) (msg cd io atn : Bool) (x y : ℕ) → (msg && not cd) ≡ false → may_leave msg cd io atn (phase_leaving v atn (phase_of (connected_bus (ends false false atn x msg cd io false y)))).to ≡ true
-leaves_lines v true true true atn x y k = leaves_well v phases.MessageIn atn
-leaves_lines v true true false atn x y k = leaves_well v phases.MessageOut atn
-leaves_lines v false true true atn x y k = leaves_well v phases.Status atn
-leaves_lines v false true false atn x y k = leaves_well v phases.Command atn
-leaves_lines v false false true atn x y k = leaves_well v phases.DataIn atn
-leaves_lines v false false false atn x y k = leaves_well v phases.DataOut atn
+leaves_lines v true true true atn x y k = leaves_well v Phase.MessageIn atn
+leaves_lines v true true false atn x y k = leaves_well v Phase.MessageOut atn
+leaves_lines v false true true atn x y k = leaves_well v Phase.Status atn
+leaves_lines v false true false atn x y k = leaves_well v Phase.Command atn
+leaves_lines v false false true atn x y k = leaves_well v Phase.DataIn atn
+leaves_lines v false false false atn x y k = leaves_well v Phase.DataOut atn
 leaves_lines v true false io atn x y k = absurd cc
 
 -- ---- a phase to the initiator is left
@@ -192,22 +155,22 @@ leaves_in s p n atn msg cd y t v l None always order h k books = frees (no_atten
         let e : EndLines = ends false false false 0 msg cd true false y in
         let c : Change = change_to (connected_bus e) none (target_side e) none in
         frees_bus s p n msg cd true y t always order h.linked (obeys_linked p (row_of_lines t n.target none) n e c h.linked (freeing_change p n e t h.linked refl) refl books (freeing_in_obeys (around p n.target n c) n msg cd y t h.linked.apart order h.unpulsed))
-leaves_in s p n atn msg cd y t v l (Some phases.DataOut) always order h k books =
+leaves_in s p n atn msg cd y t v l (Some Phase.DataOut) always order h k books =
     let w = and_parts (not (same_phases msg cd true false false false)) (implies (true && atn) false) k in
     goes_on (in_to_out s p n atn msg cd y false false t always order h (not-true _ w.0) refl w.1 books)
-leaves_in s p n atn msg cd y t v l (Some phases.DataIn) always order h k books =
+leaves_in s p n atn msg cd y t v l (Some Phase.DataIn) always order h k books =
     let w = and_parts (not (same_phases msg cd true false false true)) (implies (true && atn) false) k in
     goes_on (in_to_in s p n atn msg cd y false false _ t always order h (not-true _ w.0) refl w.1 books)
-leaves_in s p n atn msg cd y t v l (Some phases.Command) always order h k books =
+leaves_in s p n atn msg cd y t v l (Some Phase.Command) always order h k books =
     let w = and_parts (not (same_phases msg cd true false true false)) (implies (true && atn) false) k in
     goes_on (in_to_out s p n atn msg cd y false true t always order h (not-true _ w.0) refl w.1 books)
-leaves_in s p n atn msg cd y t v l (Some phases.Status) always order h k books =
+leaves_in s p n atn msg cd y t v l (Some Phase.Status) always order h k books =
     let w = and_parts (not (same_phases msg cd true false true true)) (implies (true && atn) false) k in
     goes_on (in_to_in s p n atn msg cd y false true _ t always order h (not-true _ w.0) refl w.1 books)
-leaves_in s p n atn msg cd y t v l (Some phases.MessageOut) always order h k books =
+leaves_in s p n atn msg cd y t v l (Some Phase.MessageOut) always order h k books =
     let w = and_parts (not (same_phases msg cd true true true false)) (implies (true && atn) true) k in
     goes_on (in_to_out s p n atn msg cd y true true t always order h (not-true _ w.0) refl w.1 books)
-leaves_in s p n atn msg cd y t v l (Some phases.MessageIn) always order h k books =
+leaves_in s p n atn msg cd y t v l (Some Phase.MessageIn) always order h k books =
     let w = and_parts (not (same_phases msg cd true true true true)) (implies (true && atn) false) k in
     goes_on (in_to_in s p n atn msg cd y true true _ t always order h (not-true _ w.0) refl w.1 books)
 
@@ -217,12 +180,12 @@ leaves_out s p n msg cd t v l None always order h k books =
     let e : EndLines = ends false false false 0 msg cd false false 0 in
     let c : Change = change_to (connected_bus e) none (target_side e) none in
     frees (frees_bus s p n msg cd false 0 t always order h.linked (obeys_linked p (row_of_lines t n.target none) n e c h.linked (freeing_change p n e t h.linked refl) refl books (freeing_out_obeys (around p n.target n c) n msg cd t h.linked.apart order h.unpulsed)))
-leaves_out s p n msg cd t v l (Some phases.DataOut) always order h k books = goes_on (out_to s p n msg cd false false false t always order h (not-true _ (and_parts (not (same_phases msg cd false false false false)) true k).0) refl books)
-leaves_out s p n msg cd t v l (Some phases.DataIn) always order h k books = goes_on (out_to s p n msg cd false false true t always order h (not-true _ (and_parts (not (same_phases msg cd false false false true)) true k).0) refl books)
-leaves_out s p n msg cd t v l (Some phases.Command) always order h k books = goes_on (out_to s p n msg cd false true false t always order h (not-true _ (and_parts (not (same_phases msg cd false false true false)) true k).0) refl books)
-leaves_out s p n msg cd t v l (Some phases.Status) always order h k books = goes_on (out_to s p n msg cd false true true t always order h (not-true _ (and_parts (not (same_phases msg cd false false true true)) true k).0) refl books)
-leaves_out s p n msg cd t v l (Some phases.MessageOut) always order h k books = goes_on (out_to s p n msg cd true true false t always order h (not-true _ (and_parts (not (same_phases msg cd false true true false)) true k).0) refl books)
-leaves_out s p n msg cd t v l (Some phases.MessageIn) always order h k books = goes_on (out_to s p n msg cd true true true t always order h (not-true _ (and_parts (not (same_phases msg cd false true true true)) true k).0) refl books)
+leaves_out s p n msg cd t v l (Some Phase.DataOut) always order h k books = goes_on (out_to s p n msg cd false false false t always order h (not-true _ (and_parts (not (same_phases msg cd false false false false)) true k).0) refl books)
+leaves_out s p n msg cd t v l (Some Phase.DataIn) always order h k books = goes_on (out_to s p n msg cd false false true t always order h (not-true _ (and_parts (not (same_phases msg cd false false false true)) true k).0) refl books)
+leaves_out s p n msg cd t v l (Some Phase.Command) always order h k books = goes_on (out_to s p n msg cd false true false t always order h (not-true _ (and_parts (not (same_phases msg cd false false true false)) true k).0) refl books)
+leaves_out s p n msg cd t v l (Some Phase.Status) always order h k books = goes_on (out_to s p n msg cd false true true t always order h (not-true _ (and_parts (not (same_phases msg cd false false true true)) true k).0) refl books)
+leaves_out s p n msg cd t v l (Some Phase.MessageOut) always order h k books = goes_on (out_to s p n msg cd true true false t always order h (not-true _ (and_parts (not (same_phases msg cd false true true false)) true k).0) refl books)
+leaves_out s p n msg cd t v l (Some Phase.MessageIn) always order h k books = goes_on (out_to s p n msg cd true true true t always order h (not-true _ (and_parts (not (same_phases msg cd false true true true)) true k).0) refl books)
 
 -- Where no byte follows: ATN is false after bytes to the target.
 follows_is : (s : ScenarioValue) (p : List Row) (n : Connection) (msg cd io atn : Bool) (x y : ℕ) → Shaking p n msg cd io false false atn x y

@@ -1,32 +1,15 @@
 -- When the two ends of a data phase by pulses act next, by plain values.
-use Rattle.std.proofs.Common.{ℕ, ◌≡◌, ◌≤◌, ◌+◌, Bool, true, false, not, ◌||◌, ◌==◌, ◌∙◌, List, length, Option, Some, None, refl, sym, ap, subst, arith}
-use Rattle.std.specs.Prelude.{if◌then◌else◌, max, nat_lt}
-use Rattle.std.proofs.lemmas.Option.{same_Some, none-some}
-use Rattle.bus_due.specs.bus_trace.specs.LineSet.{LineSet, none}
-use Rattle.bus_due.specs.bus_trace.specs.declared.Row.{Row}
-use Rattle.bus_due.specs.bus_trace.specs.declared.Kind.TheVariants.{Drives}
-use Rattle.bus_due.specs.bus_trace.specs.declared.connection.Connection.{Connection}
-use Rattle.bus_due.specs.bus_trace.specs.Trace.{last_time, line_times}
-use Rattle.bus_due.specs.bus_lines.specs.Handshakes.{handshakes, first_of, is_struck}
-use Rattle.bus_due.specs.scenario.specs.Value.{ScenarioValue}
-use Rattle.bus_due.specs.bus_story.specs.Samples.{latency_of}
-use Rattle.bus_due.specs.bus_reactions.specs.declared.due.Due.{Due}
-use Rattle.bus_due.specs.bus_reactions.specs.Reactions.{due_at}
-use Rattle.bus_due.specs.bus_reactions.specs.Target.{byte_bits}
-use Rattle.bus_due.specs.bus_dialogue.specs.Sending.{byte_to_send}
-use Rattle.bus_due.specs.Least.{IsLeast}
-use Rattle.bus_due.specs.Plain.{AreOfDevices}
-use Rattle.bus_due.specs.RunSteps.{run_state}
-use Rattle.bus_due.specs.Sights.{flip_of, sending_of}
-use Rattle.bus_due.specs.bus_dialogue.specs.Hearing.{begun}
-use Rattle.bus_laws.specs.Reactions.{unreset_due}
-use Rattle.bus_laws.specs.Ends.{EndLines, initiator_side, target_side, Linked}
-use Rattle.bus_laws.proofs.Dues.{is_at}
-use Rattle.link_laws.specs.Phases.{ends}
-use Rattle.link_laws.specs.Pulses.{times_here, offset_here, run_count, next_bits, given_here, target_time, initiator_time, target_next_at, initiator_next_at}
-use Rattle.link_laws.proofs.EndDues.{offering_with, target_plain, initiator_plain, target_is, initiator_is, sampled_or, sampled_by, is_sampling}
-use Rattle.link_laws.proofs.PulseDues.{hold_end_time, pulse_time, leaving_time, ack_pulse_end_time, answer_time, release_time, byte_driven_time, target_choice, initiator_choice, given_bits, pulsed_target_in, pulsed_target_out, pulsed_initiator_in, pulsed_initiator_out}
-use Rattle.bus_due.specs.bus_base.proofs.Tests.{none_number}
+use Rattle.link_laws.proofs
+use proofs.Names.{ℕ, ◌≡◌, ◌≤◌, ◌+◌, Bool, true, false, not, ◌||◌, ◌==◌, ◌∙◌, List, length, Option, Some, None, refl}
+use proofs.Names.{sym, ap, subst, arith, same_Some, none-some, if◌then◌else◌, max, nat_lt, none_number, LineSet, none}
+use proofs.Names.{last_time, line_times, Drives, Row, Connection, handshakes, first_of, is_struck, ScenarioValue}
+use proofs.Names.{latency_of, due_at, byte_bits, Due, begun, byte_to_send, IsLeast, AreOfDevices, run_state, flip_of}
+use proofs.Names.{sending_of, is_at, EndLines, initiator_side, target_side, Linked, unreset_due, ends, times_here}
+use proofs.Names.{offset_here, run_count, next_bits, given_here, target_time, initiator_time, target_next_at}
+use proofs.{Names.{initiator_next_at}, EndDues.{offering_with, target_plain, initiator_plain, target_is, initiator_is}}
+use proofs.{EndDues.{sampled_or, sampled_by, is_sampling}, PulseDues.{hold_end_time, pulse_time, leaving_time}}
+use proofs.PulseDues.{ack_pulse_end_time, answer_time, release_time, byte_driven_time, target_choice, initiator_choice}
+use proofs.PulseDues.{given_bits, pulsed_target_in, pulsed_target_out, pulsed_initiator_in, pulsed_initiator_out}
 
 -- ---- these are the times of what is due
 

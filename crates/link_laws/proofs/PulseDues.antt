@@ -1,32 +1,13 @@
 -- What is due of the two ends of a data phase by pulses (6.1.5.2).
-use Rattle.std.proofs.Common.{ℕ, ◌≡◌, ◌+◌, Bool, true, false, not, ◌&&◌, ◌||◌, ◌==◌, ◌∙◌, List, Option, None, sym, ap}
-use Rattle.std.specs.Prelude.{if◌then◌else◌, max, length, nat_lt}
-use Rattle.bus_due.specs.bus_trace.specs.declared.Row.{Row}
-use Rattle.bus_due.specs.bus_trace.specs.declared.connection.Connection.{Connection}
-use Rattle.bus_due.specs.bus_trace.specs.Trace.{line_times}
-use Rattle.bus_due.specs.bus_lines.specs.Handshakes.{Handshakes, handshakes, first_of, time_of, is_struck, room_by}
-use Rattle.bus_due.specs.scenario.specs.Value.{ScenarioValue}
-use Rattle.bus_due.specs.bus_reactions.specs.declared.due.Due.{Due}
-use Rattle.bus_due.specs.bus_reactions.specs.declared.due.Myself.{Myself}
-use Rattle.bus_due.specs.bus_reactions.specs.declared.sight.Sight.{Sight}
-use Rattle.bus_due.specs.bus_reactions.specs.declared.ends.Pace.{Pace}
-use Rattle.bus_due.specs.bus_reactions.specs.declared.ends.Offering.{Offering}
-use Rattle.bus_due.specs.bus_reactions.specs.declared.ends.Answering.{Answering}
-use Rattle.bus_due.specs.bus_reactions.specs.Reactions.{due_at}
-use Rattle.bus_due.specs.bus_reactions.specs.Target.{first_req, target_pulse, target_handshake, req_pulse_end, byte_change, pulse_turn, byte_bits, bits_if}
-use Rattle.bus_due.specs.bus_reactions.specs.Initiator.{initiator_pulse, initiator_handshake, byte_release}
-use Rattle.bus_due.specs.bus_reactions.specs.Ends.{owes_release}
-use Rattle.bus_due.specs.bus_dialogue.specs.NextPhase.{phase_of}
-use Rattle.bus_due.specs.bus_dialogue.specs.Ends.{offering_by, lag_by}
-use Rattle.bus_due.specs.Defs.{host_of}
-use Rattle.bus_due.specs.Own.{own_of}
-use Rattle.bus_due.specs.RunSteps.{run_state}
-use Rattle.bus_due.specs.Sights.{serving_at}
-use Rattle.bus_laws.specs.Reactions.{own_time, device_with}
-use Rattle.bus_laws.specs.Ends.{EndLines, initiator_side, target_side, connected_bus}
-use Rattle.link_laws.specs.Phases.{ends}
-use Rattle.link_laws.specs.Pulses.{times_here, offset_here, run_count, next_bits}
-use Rattle.link_laws.proofs.EndDues.{sight_with, pace_with, offering_with, answering_with, target_plain, initiator_plain}
+use Rattle.link_laws.proofs
+use proofs.Names.{ℕ, ◌≡◌, ◌+◌, Bool, true, false, not, ◌&&◌, ◌||◌, ◌==◌, ◌∙◌, List, Option, None, sym, ap, length}
+use proofs.Names.{if◌then◌else◌, max, nat_lt, line_times, Row, Connection, Handshakes, handshakes, first_of, time_of}
+use proofs.Names.{is_struck, room_by, ScenarioValue, owes_release, initiator_pulse, initiator_handshake, byte_release}
+use proofs.Names.{due_at, first_req, target_pulse, target_handshake, req_pulse_end, byte_change, pulse_turn, byte_bits}
+use proofs.Names.{bits_if, Due, Myself, Answering, Offering, Pace, Sight, offering_by, lag_by, phase_of, host_of}
+use proofs.Names.{own_of, run_state, serving_at, EndLines, initiator_side, target_side, connected_bus, own_time}
+use proofs.{Names.{device_with, ends, times_here, offset_here, run_count, next_bits}, EndDues.{sight_with, pace_with}}
+use proofs.EndDues.{offering_with, answering_with, target_plain, initiator_plain}
 
 -- ---- the target: it ends its pulse, changes the byte, pulses again, or leaves the phase
 

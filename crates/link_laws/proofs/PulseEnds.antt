@@ -1,53 +1,18 @@
 -- The row with which the target leaves a data phase by pulses (6.1.5.2, 6.1.10).
-use Rattle.std.proofs.Common.{ℕ, ◌≡◌, ◌≤◌, ◌+◌, Bool, true, false, not, ◌&&◌, ◌==◌, ◌∙◌, List, ◌∷◌, length, Option, Some, None, refl, sym, ap, subst, arith}
-use Rattle.std.specs.Prelude.{if◌then◌else◌, is_some, max}
-use Rattle.std.proofs.lemmas.Bool.{and_parts, le-leb, eq-eqb}
-use Rattle.std.proofs.lemmas.Bool.Decides.{nat_tests}
-use Rattle.bus_due.specs.bus_trace.specs.LineSet.{LineSet, none, union}
-use Rattle.bus_due.specs.bus_trace.specs.declared.Row.{Row}
-use Rattle.bus_due.specs.bus_trace.specs.declared.agreements.Agreement.{Agreement}
-use Rattle.bus_due.specs.bus_trace.specs.declared.connection.Connection.{Connection}
-use Rattle.bus_due.specs.bus_trace.specs.declared.changes.Change.{Change}
-use Rattle.bus_due.specs.bus_trace.specs.Agreements.{times_of}
-use Rattle.bus_due.specs.bus_trace.specs.Changes.{falls, implies}
-use Rattle.bus_due.specs.bus_trace.specs.Phases.{changes_phase, is_data}
-use Rattle.bus_due.specs.bus_trace.specs.Trace.{bus, drives, last_time, line_times}
-use Rattle.bus_due.specs.bus_phases.specs.declared.dialogue.Dialogue.{Dialogue}
-use Rattle.bus_due.specs.bus_phases.specs.declared.pulses.Pulses.{Pulses}
-use Rattle.bus_due.specs.bus_phases.specs.Phases.{pulses, turned}
-use Rattle.bus_due.specs.bus_phases.specs.Dialogue.{dialogue, phase_begins}
-use Rattle.bus_due.specs.bus_rules.specs.Transfer.{is_after}
-use Rattle.bus_due.specs.bus_lines.specs.Handshakes.{handshakes}
-use Rattle.bus_due.specs.scenario.specs.Value.{ScenarioValue}
-use Rattle.bus_due.specs.bus_dialogue.specs.declared.exchange.Leaving.{Leaving}
-use Rattle.bus_due.specs.bus_dialogue.specs.declared.exchange.Phase.{Phase}
-use Rattle.bus_due.specs.bus_dialogue.specs.declared.exchange.Phase.TheVariants as phases
-use Rattle.bus_due.specs.bus_dialogue.specs.NextPhase.{Serving}
-use Rattle.bus_due.specs.bus_dialogue.specs.PhaseBytes.{lines_by}
-use Rattle.bus_due.specs.bus_dialogue.specs.Ends.{lag_by}
-use Rattle.bus_due.specs.Defs.{host_of}
-use Rattle.bus_due.specs.Own.{own_of}
-use Rattle.bus_laws.specs.Rows.{row_of_lines, change_to}
-use Rattle.bus_laws.specs.Stages.{CalmStanding}
-use Rattle.bus_laws.specs.Ends.{EndLines, initiator_side, target_side, connected_bus, Linked}
-use Rattle.bus_laws.proofs.Rows.{drives_own, drives_other}
-use Rattle.bus_due.specs.bus_trace.proofs.Buses.{bus_two}
-use Rattle.link_laws.specs.Books.{is_row_of_connection, KeepsBooksIn}
-use Rattle.link_laws.specs.Phases.{ends}
-use Rattle.link_laws.specs.LinkStages.{when_settling, when_turning}
-use Rattle.link_laws.specs.Pulses.{times_here, Pulsing, NoSooner, answers_at, drives_at, given_here}
-use Rattle.link_laws.proofs.Moves.{target_moves, terms_of}
-use Rattle.link_laws.proofs.LinkSeen.{around, obeys_linked}
-use Rattle.link_laws.proofs.LinkObeys.{same_phases}
-use Rattle.link_laws.proofs.Goes.{NextLinked, turn_test}
-use Rattle.link_laws.proofs.Shakes.{target_row}
-use Rattle.link_laws.proofs.Enters.{enters, settles_in, settles_out, begins_phase, not_owed}
-use Rattle.link_laws.proofs.Leaves.{may_leave, is_to_initiator}
-use Rattle.link_laws.proofs.PhaseEnds.{freeing_change}
-use Rattle.link_laws.proofs.PulseObeys.{pulsed_goes_on_in, pulsed_turns_out, pulsed_turns_in}
-use Rattle.link_laws.proofs.PulseSteps.{of_no_sooner}
-use Rattle.link_laws.proofs.PulseRows.{PulseHere, later_initiator_out, own_ack_other}
-use Rattle.bus_due.specs.bus_base.proofs.Tests.{eq_self, zero_of}
+use Rattle.link_laws.proofs
+use proofs.Names.{ℕ, ◌≡◌, ◌≤◌, ◌+◌, Bool, true, false, not, ◌&&◌, ◌==◌, ◌∙◌, List, ◌∷◌, length, Option, Some, None}
+use proofs.Names.{refl, sym, ap, subst, arith, and_parts, le-leb, eq-eqb, nat_tests, if◌then◌else◌, is_some, max}
+use proofs.Names.{eq_self, zero_of, bus_two, times_of, falls, implies, LineSet, none, union, changes_phase, is_data}
+use proofs.Names.{bus, drives, last_time, line_times, Row, Agreement, Change, Connection, handshakes, dialogue}
+use proofs.Names.{phase_begins, pulses, turned, Dialogue, Pulses, is_after, ScenarioValue, lag_by, Serving, lines_by}
+use proofs.Names.{Leaving, Phase, host_of, own_of, drives_own, drives_other, EndLines, initiator_side, target_side}
+use proofs.Names.{connected_bus, Linked, row_of_lines, change_to, CalmStanding, is_row_of_connection, KeepsBooksIn}
+use proofs.Names.{when_settling, when_turning, ends, times_here, Pulsing, NoSooner, answers_at, drives_at, given_here}
+use proofs.{Enters.{enters, settles_in, settles_out, begins_phase, not_owed}, Goes.{NextLinked, turn_test}}
+use proofs.{Leaves.{may_leave, is_to_initiator}, LinkObeys.{same_phases}, LinkSeen.{around, obeys_linked}}
+use proofs.{Moves.{target_moves, terms_of}, PhaseEnds.{freeing_change}, PulseObeys.{pulsed_goes_on_in}}
+use proofs.{PulseObeys.{pulsed_turns_out, pulsed_turns_in}, PulseRows.{PulseHere, later_initiator_out, own_ack_other}}
+use proofs.{PulseSteps.{of_no_sooner}, Shakes.{target_row}}
 
 some_of : (a b : ℕ) → a ≡ b → (a == 0) ≡ false → (b == 0) ≡ false
 some_of a b e f = grind (arith, nat_tests)
@@ -111,12 +76,12 @@ pulsed_leaves_in s p n atn y t v l o always order h idle held k books = go o k b
         freed : (q : Bool) → not (true && q) ≡ true → Linked p n (ends false false q 0 false false true false y) → NextLinked s p (row_of_lines t n.target none) n
         freed true k l = absurd cc
         freed false k l = let c = freeing_change p n (ends false false false 0 false false true false y) t l refl in absurd (not_freed p n false true 0 y t l books (ap (λ (w : Change). w.after.bsy) c) (ap (λ (w : Change). w.after.rst) c))
-    go (Some phases.DataOut) k books = let w = and_parts (not (same_phases false false true false false false)) (implies (true && atn) false) k in to_out false false refl refl w.1 books
-    go (Some phases.DataIn) k books = absurd cc
-    go (Some phases.Command) k books = let w = and_parts (not (same_phases false false true false true false)) (implies (true && atn) false) k in to_out false true refl refl w.1 books
-    go (Some phases.Status) k books = let w = and_parts (not (same_phases false false true false true true)) (implies (true && atn) false) k in to_in false true _ refl refl w.1 books
-    go (Some phases.MessageOut) k books = let w = and_parts (not (same_phases false false true true true false)) (implies (true && atn) true) k in to_out true true refl refl w.1 books
-    go (Some phases.MessageIn) k books = let w = and_parts (not (same_phases false false true true true true)) (implies (true && atn) false) k in to_in true true _ refl refl w.1 books
+    go (Some Phase.DataOut) k books = let w = and_parts (not (same_phases false false true false false false)) (implies (true && atn) false) k in to_out false false refl refl w.1 books
+    go (Some Phase.DataIn) k books = absurd cc
+    go (Some Phase.Command) k books = let w = and_parts (not (same_phases false false true false true false)) (implies (true && atn) false) k in to_out false true refl refl w.1 books
+    go (Some Phase.Status) k books = let w = and_parts (not (same_phases false false true false true true)) (implies (true && atn) false) k in to_in false true _ refl refl w.1 books
+    go (Some Phase.MessageOut) k books = let w = and_parts (not (same_phases false false true true true false)) (implies (true && atn) true) k in to_out true true refl refl w.1 books
+    go (Some Phase.MessageIn) k books = let w = and_parts (not (same_phases false false true true true true)) (implies (true && atn) false) k in to_in true true _ refl refl w.1 books
 
 -- From DATA OUT, the initiator driving its last byte still.
 to_initiator : (s : ScenarioValue) (p : List Row) (n : Connection) (x : ℕ) (msg' cd' : Bool) (t : ℕ) → (not msg' && not cd') ≡ false → same_phases false false false msg' cd' true ≡ false → (msg' && not cd') ≡ false → (length (handshakes p).waiting == 0) ≡ true → PulseHere s p (target_row t n (ends false false false x msg' cd' true false 0)) n false false false false x 0
@@ -179,9 +144,9 @@ pulsed_leaves_out s p n x t v l None idle k h = absurd (held x h)
   where
     held : (x : ℕ) → PulseHere s p (row_of_lines t n.target none) n false false false false x 0 → ⊥
     held x h = let low = still_drives p n x t h.pulsing.linked in not_freed p n false false x 0 t h.pulsing.linked h.books low.0 low.1
-pulsed_leaves_out s p n x t v l (Some phases.DataOut) idle k h = absurd cc
-pulsed_leaves_out s p n x t v l (Some phases.DataIn) idle k h = absurd cc
-pulsed_leaves_out s p n x t v l (Some phases.Command) idle k h = absurd cc
-pulsed_leaves_out s p n x t v l (Some phases.MessageOut) idle k h = absurd cc
-pulsed_leaves_out s p n x t v l (Some phases.Status) idle k h = to_initiator s p n x false true t refl refl refl idle h
-pulsed_leaves_out s p n x t v l (Some phases.MessageIn) idle k h = to_initiator s p n x true true t refl refl refl idle h
+pulsed_leaves_out s p n x t v l (Some Phase.DataOut) idle k h = absurd cc
+pulsed_leaves_out s p n x t v l (Some Phase.DataIn) idle k h = absurd cc
+pulsed_leaves_out s p n x t v l (Some Phase.Command) idle k h = absurd cc
+pulsed_leaves_out s p n x t v l (Some Phase.MessageOut) idle k h = absurd cc
+pulsed_leaves_out s p n x t v l (Some Phase.Status) idle k h = to_initiator s p n x false true t refl refl refl idle h
+pulsed_leaves_out s p n x t v l (Some Phase.MessageIn) idle k h = to_initiator s p n x true true t refl refl refl idle h

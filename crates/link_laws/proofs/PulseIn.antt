@@ -1,43 +1,21 @@
 -- The rows of a data phase by pulses to the initiator (6.1.5.2).
-use Rattle.std.proofs.Common.{◌⊎◌, inl, inr, ℕ, ◌≡◌, ◌≤◌, ◌<◌, ◌+◌, Bool, true, false, not, ◌&&◌, ◌||◌, ◌==◌, ◌∙◌, List, ◌∷◌, length, drop, Some, None, refl, sym, ap, subst, arith}
-use Rattle.std.specs.Prelude.{if◌then◌else◌, max, nat_le, nat_lt, is_some}
-use Rattle.std.proofs.lemmas.Bool.Decides.{nat_tests}
-use Rattle.bus_due.specs.bus_base.specs.Faults.{counted_on}
-use Rattle.bus_due.specs.bus_trace.specs.declared.Row.{Row}
-use Rattle.bus_due.specs.bus_trace.specs.declared.agreements.Agreement.{Agreement}
-use Rattle.bus_due.specs.bus_trace.specs.declared.agreements.TransferTimes.{TransferTimes}
-use Rattle.bus_due.specs.bus_trace.specs.declared.connection.Connection.{Connection}
-use Rattle.bus_due.specs.bus_trace.specs.declared.changes.Change.{Change}
-use Rattle.bus_due.specs.bus_trace.specs.Agreements.{times_of}
-use Rattle.bus_due.specs.bus_trace.specs.Changes.{implies}
-use Rattle.bus_due.specs.bus_trace.specs.Terms.{receiver}
-use Rattle.bus_due.specs.bus_trace.specs.Trace.{last_time, line_times}
-use Rattle.bus_due.specs.bus_phases.specs.declared.pulses.Pulses.{Pulses}
-use Rattle.bus_due.specs.bus_phases.specs.Phases.{pulses, count_after, duty, turned}
-use Rattle.bus_due.specs.bus_trace.specs.Terms.{when}
-use Rattle.bus_due.specs.bus_rules.specs.Messages.{is_owed}
-use Rattle.bus_due.specs.bus_rules.specs.Transfer.{is_after}
-use Rattle.bus_due.specs.bus_lines.specs.declared.handshakes.Request.{Request}
-use Rattle.bus_due.specs.bus_lines.specs.Handshakes.{Handshakes, handshakes, asked, answered, answered_if, asked_if, opened, first_of, time_of, room_by}
-use Rattle.bus_due.specs.bus_lines.proofs.Early.{push_length}
-use Rattle.bus_due.specs.scenario.specs.Value.{ScenarioValue}
-use Rattle.bus_due.specs.bus_story.specs.Samples.{latency_of}
-use Rattle.bus_due.specs.bus_dialogue.specs.Ends.{lag_by}
-use Rattle.bus_due.specs.Defs.{host_of}
-use Rattle.bus_due.specs.Own.{own_of}
-use Rattle.bus_laws.specs.Rows.{change_to}
-use Rattle.bus_laws.specs.Ends.{EndLines, initiator_side, target_side, connected_bus}
-use Rattle.link_laws.specs.Phases.{ends}
-use Rattle.link_laws.specs.Pulses.{times_here, offset_here, pulses_of, Reached, run_count, next_bits, given_here, target_next, initiator_next, answers_at, NoSooner}
-use Rattle.link_laws.proofs.Moves.{initiator_moves, target_moves, initiator_in_phase, target_in_phase, same_line, no_rise}
-use Rattle.link_laws.proofs.LinkSeen.{around, obeys_linked}
-use Rattle.link_laws.proofs.Goes.{turn_test, receives_if, data_by}
-use Rattle.link_laws.proofs.Shakes.{target_row, initiator_row, or_asks}
-use Rattle.link_laws.proofs.PulseObeys.{byte_change_obeys, req_pulse_in, MayAnswer, ack_pulse_in, ack_end_in}
-use Rattle.link_laws.proofs.PulseRows.{NextPulsing, PulseHere, later_target_in, later_initiator_in, data_row, target_next_is, initiator_next_is, own_ack_other, own_ack_own, pulsing_goes, fresh_next, same_latency, data_stands, room_same, room_now}
-use Rattle.link_laws.proofs.PulseSteps.{more_asked, req_rises_facts, ack_rises_facts, ack_falls_facts, still_facts, opened_is, first_stays, first_new, one_less, target_after, none_no_sooner, some_no_sooner, of_no_sooner}
-use Rattle.std.proofs.lemmas.Bool.{lt-ltb, ltb-true, le-leb}
-use Rattle.bus_due.specs.bus_base.proofs.Tests.{or_true}
+use Rattle.link_laws.proofs
+use proofs.Names.{◌⊎◌, inl, inr, ℕ, ◌≡◌, ◌≤◌, ◌<◌, ◌+◌, Bool, true, false, not, ◌&&◌, ◌||◌, ◌==◌, ◌∙◌, List, ◌∷◌}
+use proofs.Names.{length, drop, Some, None, refl, sym, ap, subst, arith, lt-ltb, ltb-true, le-leb, nat_tests}
+use proofs.Names.{if◌then◌else◌, max, nat_le, nat_lt, is_some, or_true, counted_on, times_of, implies, receiver, when}
+use proofs.Names.{last_time, line_times, Row, Agreement, TransferTimes, Change, Connection, push_length, Handshakes}
+use proofs.Names.{handshakes, asked, answered, answered_if, asked_if, opened, first_of, time_of, room_by, Request}
+use proofs.Names.{pulses, count_after, duty, turned, Pulses, is_owed, is_after, ScenarioValue, latency_of, lag_by}
+use proofs.Names.{host_of, own_of, EndLines, initiator_side, target_side, connected_bus, change_to, ends, times_here}
+use proofs.Names.{offset_here, pulses_of, Reached, run_count, next_bits, given_here, target_next, initiator_next}
+use proofs.{Names.{answers_at, NoSooner}, Goes.{turn_test, receives_if, data_by}, LinkSeen.{around, obeys_linked}}
+use proofs.Moves.{initiator_moves, target_moves, initiator_in_phase, target_in_phase, same_line, no_rise}
+use proofs.{PulseObeys.{byte_change_obeys, req_pulse_in, MayAnswer, ack_pulse_in, ack_end_in}, PulseRows.{NextPulsing}}
+use proofs.PulseRows.{PulseHere, later_target_in, later_initiator_in, data_row, target_next_is, initiator_next_is}
+use proofs.PulseRows.{own_ack_other, own_ack_own, pulsing_goes, fresh_next, same_latency, data_stands, room_same}
+use proofs.{PulseRows.{room_now}, PulseSteps.{more_asked, req_rises_facts, ack_rises_facts, ack_falls_facts}}
+use proofs.PulseSteps.{still_facts, opened_is, first_stays, first_new, one_less, target_after, none_no_sooner}
+use proofs.{PulseSteps.{some_no_sooner, of_no_sooner}, Shakes.{target_row, initiator_row, or_asks}}
 
 -- ---- REQ rises again
 

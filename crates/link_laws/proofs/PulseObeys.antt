@@ -1,18 +1,9 @@
 -- Rows of a data phase by pulses that obey the rules by the wires (6.1.5.2).
-use Rattle.std.proofs.Common.{ℕ, ◌≡◌, ◌≢◌, ◌≤◌, ◌+◌, Bool, true, false, not, None, sym, arith}
-use Rattle.std.specs.Prelude.{◌==◌, ◌||◌, nat_le, nat_lt, is_some}
-use Rattle.std.specs.Int.Bits.{or_zero_r, or_self}
-use Rattle.std.proofs.lemmas.Bool.Decides.{nat_tests}
-use Rattle.bus_due.specs.bus_trace.specs.Agreements.{times_of}
-use Rattle.bus_due.specs.bus_trace.specs.Changes.{implies}
-use Rattle.bus_due.specs.bus_trace.specs.declared.connection.Connection.{Connection}
-use Rattle.bus_due.specs.bus_rules.specs.Transfer.{is_after}
-use Rattle.link_laws.specs.Phases.{ends}
-use Rattle.link_laws.proofs.LinkSeen.{Around}
-use Rattle.link_laws.proofs.LinkObeys.{target_breaks, initiator_breaks, same_phases, MayAsk}
-use Rattle.link_laws.proofs.EdgeObeys.{frees_bus}
-use Rattle.std.proofs.lemmas.Bool.{ne_eqb, true≢false}
-use Rattle.bus_due.specs.bus_base.proofs.Tests.{eq_self}
+use Rattle.link_laws.proofs
+use proofs.Names.{ℕ, ◌≡◌, ◌≢◌, ◌≤◌, ◌+◌, Bool, true, false, not, None, sym, arith, ◌==◌, ◌||◌, ne_eqb, true≢false}
+use proofs.Names.{nat_tests, or_zero_r, or_self, nat_le, nat_lt, is_some, eq_self, times_of, implies, Connection}
+use proofs.{Names.{is_after, ends}, EdgeObeys.{frees_bus}, LinkObeys.{target_breaks, initiator_breaks, same_phases}}
+use proofs.{LinkObeys.{MayAsk}, LinkSeen.{Around}}
 
 -- REQ rises a period after the last pulse, a negation period after its end, and while there is room.
 pub record MayPulse (v : Around) (n : Connection) (io : Bool) (t : ℕ) : Type 0 where

@@ -1,51 +1,24 @@
 -- The rows of a data phase by pulses to the target (6.1.5.2).
-use Rattle.std.proofs.Common.{◌⊎◌, inl, inr, ℕ, ◌≡◌, ◌≤◌, ◌<◌, ◌+◌, Bool, true, false, not, ◌&&◌, ◌||◌, ◌==◌, ◌∙◌, List, [], ◌∷◌, length, drop, Option, Some, None, refl, sym, ap, subst, arith}
-use Rattle.std.specs.Prelude.{if◌then◌else◌, max, nat_le, nat_lt, is_some}
-use Rattle.std.specs.Int.RustNames.{bit_or}
-use Rattle.std.proofs.lemmas.Bool.Decides.{nat_tests}
-use Rattle.bus_due.specs.bus_base.specs.Faults.{counted_on}
-use Rattle.bus_due.specs.bus_trace.specs.LineSet.{LineSet, data_of}
-use Rattle.bus_due.specs.bus_trace.specs.declared.Row.{Row}
-use Rattle.bus_due.specs.bus_trace.specs.declared.agreements.TransferTimes.{TransferTimes}
-use Rattle.bus_due.specs.bus_trace.specs.declared.connection.Connection.{Connection}
-use Rattle.bus_due.specs.bus_trace.specs.declared.changes.Change.{Change}
-use Rattle.bus_due.specs.bus_trace.specs.Agreements.{times_of}
-use Rattle.bus_due.specs.bus_trace.specs.Changes.{implies}
-use Rattle.bus_due.specs.bus_trace.specs.Terms.{receiver, receiver_in}
-use Rattle.bus_due.specs.bus_trace.specs.Trace.{last_time, since, line_times}
-use Rattle.bus_due.specs.bus_phases.specs.declared.pulses.Pulses.{Pulses}
-use Rattle.bus_due.specs.bus_phases.specs.Phases.{pulses, count_after, duty}
-use Rattle.bus_due.specs.bus_trace.specs.Terms.{when}
-use Rattle.bus_due.specs.bus_phases.specs.Dialogue.{dialogue}
-use Rattle.bus_due.specs.bus_rules.specs.Messages.{is_owed}
-use Rattle.bus_due.specs.bus_rules.specs.Transfer.{is_after}
-use Rattle.bus_due.specs.bus_lines.specs.declared.handshakes.Request.{Request}
-use Rattle.bus_due.specs.bus_lines.specs.Handshakes.{Handshakes, handshakes, asked, answered, answered_if, asked_if, opened, first_of, time_of, room_by}
-use Rattle.bus_due.specs.scenario.specs.Value.{ScenarioValue}
-use Rattle.bus_due.specs.bus_story.specs.Samples.{latency_of}
-use Rattle.bus_due.specs.bus_dialogue.specs.Ends.{lag_by}
-use Rattle.bus_due.specs.Defs.{host_of}
-use Rattle.bus_due.specs.Own.{own_of}
-use Rattle.bus_due.specs.RunSteps.{run_state}
-use Rattle.bus_laws.specs.Rows.{row_of_lines, change_to}
-use Rattle.bus_laws.specs.Ends.{EndLines, initiator_side, target_side, connected_bus, Linked}
-use Rattle.link_laws.specs.Phases.{ends}
-use Rattle.bus_due.specs.bus_dialogue.specs.Sending.{Sending, byte_to_send}
-use Rattle.bus_due.specs.bus_reactions.specs.Target.{byte_bits}
-use Rattle.bus_due.specs.Sights.{sending_of}
-use Rattle.std.specs.Prelude.{slice_index_or}
-use Rattle.link_laws.specs.Pulses.{drives_by, times_here, offset_here, pulses_of, HasDrivenPulsed, run_count, next_bits, given_here, initiator_next, answers_at, drives_at, NoSooner}
-use Rattle.link_laws.proofs.Moves.{initiator_moves, target_moves, initiator_in_phase, target_in_phase, same_line, no_rise}
-use Rattle.link_laws.proofs.LinkSeen.{around, obeys_linked}
-use Rattle.link_laws.proofs.Goes.{receives_if, data_by}
-use Rattle.link_laws.proofs.Shakes.{target_row, initiator_row}
-use Rattle.link_laws.proofs.DataRows.{DataRow, data_still, sending_stays}
-use Rattle.link_laws.proofs.PulseObeys.{req_end_out, req_pulse_out, ack_pulse_out, ack_end_out, byte_driven_obeys}
-use Rattle.link_laws.proofs.PulseIn.{waits_more, oldest_stays, oldest_new, last_ack_test, answer_late, may_answer, answered_target, released_target, pulse_end_late}
-use Rattle.link_laws.proofs.PulseRows.{NextPulsing, PulseHere, later_target_out, later_initiator_out, data_row, target_next_is, initiator_next_is, own_ack_other, own_ack_own, pulsing_goes, fresh_next, same_latency, data_stands}
-use Rattle.link_laws.proofs.PulseSteps.{more_asked, req_falls_facts, req_rises_facts, ack_rises_facts, ack_falls_facts, still_facts, assertion_short, none_no_sooner, some_no_sooner}
-use Rattle.std.proofs.lemmas.Bool.{lt-ltb, ltb-true, le-leb}
-use Rattle.bus_due.specs.bus_base.proofs.Tests.{or_true}
+use Rattle.link_laws.proofs
+use proofs.Names.{◌⊎◌, inl, inr, ℕ, ◌≡◌, ◌≤◌, ◌<◌, ◌+◌, Bool, true, false, not, ◌&&◌, ◌||◌, ◌==◌, ◌∙◌, List, [], ◌∷◌}
+use proofs.Names.{length, drop, Option, Some, None, refl, sym, ap, subst, arith, lt-ltb, ltb-true, le-leb, nat_tests}
+use proofs.Names.{bit_or, if◌then◌else◌, max, nat_le, nat_lt, is_some, slice_index_or, or_true, counted_on, times_of}
+use proofs.Names.{implies, LineSet, data_of, receiver, receiver_in, when, last_time, since, line_times, Row}
+use proofs.Names.{TransferTimes, Change, Connection, Handshakes, handshakes, asked, answered, answered_if, asked_if}
+use proofs.Names.{opened, first_of, time_of, room_by, Request, dialogue, pulses, count_after, duty, Pulses, is_owed}
+use proofs.Names.{is_after, ScenarioValue, latency_of, byte_bits, lag_by, Sending, byte_to_send, host_of, own_of}
+use proofs.Names.{run_state, sending_of, EndLines, initiator_side, target_side, connected_bus, Linked, row_of_lines}
+use proofs.Names.{change_to, ends, drives_by, times_here, offset_here, pulses_of, HasDrivenPulsed, run_count, next_bits}
+use proofs.{Names.{given_here, initiator_next, answers_at, drives_at, NoSooner}, DataRows.{DataRow, data_still}}
+use proofs.{DataRows.{sending_stays}, Goes.{receives_if, data_by}, LinkSeen.{around, obeys_linked}}
+use proofs.Moves.{initiator_moves, target_moves, initiator_in_phase, target_in_phase, same_line, no_rise}
+use proofs.PulseIn.{waits_more, oldest_stays, oldest_new, last_ack_test, answer_late, may_answer, answered_target}
+use proofs.{PulseIn.{released_target, pulse_end_late}, PulseObeys.{req_end_out, req_pulse_out, ack_pulse_out}}
+use proofs.{PulseObeys.{ack_end_out, byte_driven_obeys}, PulseRows.{NextPulsing, PulseHere, later_target_out}}
+use proofs.PulseRows.{later_initiator_out, data_row, target_next_is, initiator_next_is, own_ack_other, own_ack_own}
+use proofs.{PulseRows.{pulsing_goes, fresh_next, same_latency, data_stands}, PulseSteps.{more_asked, req_falls_facts}}
+use proofs.PulseSteps.{req_rises_facts, ack_rises_facts, ack_falls_facts, still_facts, assertion_short, none_no_sooner}
+use proofs.{PulseSteps.{some_no_sooner}, Shakes.{target_row, initiator_row}}
 
 -- ---- what the initiator gives stays while no byte crosses
 

@@ -1,47 +1,20 @@
 -- The rows of a data phase by pulses (6.1.5.2).
-use Rattle.std.proofs.Common.{ℕ, ◌≡◌, ◌≢◌, ◌≤◌, ◌<◌, ◌+◌, ◌^◌, Bool, true, false, not, ◌&&◌, ◌||◌, ◌==◌, ◌∙◌, List, ◌∷◌, length, Option, Some, None, refl, sym, ap, subst, arith}
-use Rattle.std.specs.Prelude.{if◌then◌else◌, max, nat_lt, is_some}
-use Rattle.std.proofs.lemmas.Bool.Decides.{nat_tests}
-use Rattle.bus_due.specs.bus_trace.specs.LineSet.{LineSet, data_of}
-use Rattle.bus_due.specs.bus_trace.specs.declared.Row.{Row}
-use Rattle.bus_due.specs.bus_trace.specs.declared.agreements.Agreement.{Agreement}
-use Rattle.bus_due.specs.bus_trace.specs.declared.agreements.TransferTimes.{TransferTimes}
-use Rattle.bus_due.specs.bus_trace.specs.declared.connection.Connection.{Connection}
-use Rattle.bus_due.specs.bus_trace.specs.declared.changes.Change.{Change}
-use Rattle.bus_due.specs.bus_trace.specs.Agreements.{times_of}
-use Rattle.bus_due.specs.bus_trace.specs.Changes.{change_of, rises, implies}
-use Rattle.bus_due.specs.bus_trace.specs.Terms.{receiver}
-use Rattle.bus_due.specs.bus_trace.specs.Trace.{drives, last_time, since, line_times}
-use Rattle.bus_due.specs.bus_phases.specs.Phases.{pulses, count_after, turned}
-use Rattle.bus_due.specs.bus_trace.specs.Terms.{when}
-use Rattle.bus_due.specs.bus_phases.specs.Dialogue.{dialogue}
-use Rattle.bus_due.specs.bus_rules.specs.Order.{is_of_device}
-use Rattle.bus_due.specs.bus_rules.specs.Rules.{broken_rule}
-use Rattle.bus_due.specs.bus_lines.specs.Handshakes.{Handshakes, handshakes, answered, answered_if, or_now, or_zero, room_by}
-use Rattle.bus_due.specs.scenario.specs.Value.{ScenarioValue}
-use Rattle.bus_due.specs.bus_story.specs.Samples.{latency_of}
-use Rattle.bus_due.specs.bus_reactions.specs.Target.{bits_if}
-use Rattle.bus_due.specs.bus_dialogue.specs.Ends.{lag_by}
-use Rattle.bus_due.specs.Defs.{host_of}
-use Rattle.bus_due.specs.Least.{IsLeast}
-use Rattle.bus_due.specs.Own.{Own, own_of, own_after}
-use Rattle.bus_laws.specs.Reactions.{unreset_due}
-use Rattle.bus_laws.specs.Rows.{row_of_lines, change_to}
-use Rattle.bus_laws.specs.Stages.{CalmStanding}
-use Rattle.bus_laws.specs.Ends.{EndLines, target_side, connected_bus, Linked}
-use Rattle.bus_laws.proofs.Resets.{own_other}
-use Rattle.link_laws.specs.Books.{KeepsBooksIn}
-use Rattle.link_laws.specs.Phases.{ends, OneSide}
-use Rattle.link_laws.specs.Pulses.{times_here, offset_here, pulses_of, Reached, HasDrivenPulsed, PulseFacts, Pulsing, run_count, byte_in_run, next_bits, given_here, target_time, target_next, initiator_next, target_next_at, initiator_next_at, NoSooner, EndsAhead}
-use Rattle.link_laws.proofs.Moves.{InPhaseRow, target_moves, target_in_phase, phase_same, same_line, no_rise, Moves}
-use Rattle.link_laws.proofs.LinkSeen.{around, obeys_linked}
-use Rattle.link_laws.proofs.Goes.{phase_goes, turn_goes, turn_test, receives_if}
-use Rattle.link_laws.proofs.Shakes.{target_row}
-use Rattle.link_laws.proofs.DataRows.{DataRow, count_stays, bytes_stay}
-use Rattle.link_laws.proofs.PulseObeys.{req_end_in}
-use Rattle.link_laws.proofs.PulseSteps.{req_falls_facts, assertion_short, none_no_sooner, some_no_sooner}
-use Rattle.link_laws.proofs.PulseAhead.{ByPulses, target_due_in, target_due_out, initiator_due_in, initiator_due_out, row_by_target, row_by_initiator}
-use Rattle.bus_due.specs.bus_base.proofs.Tests.{eq_self}
+use Rattle.link_laws.proofs
+use proofs.Names.{ℕ, ◌≡◌, ◌≢◌, ◌≤◌, ◌<◌, ◌+◌, ◌^◌, Bool, true, false, not, ◌&&◌, ◌||◌, ◌==◌, ◌∙◌, List, ◌∷◌, length}
+use proofs.Names.{Option, Some, None, refl, sym, ap, subst, arith, nat_tests, if◌then◌else◌, max, nat_lt, is_some}
+use proofs.Names.{eq_self, times_of, change_of, rises, implies, LineSet, data_of, receiver, when, drives, last_time}
+use proofs.Names.{since, line_times, Row, Agreement, TransferTimes, Change, Connection, Handshakes, handshakes}
+use proofs.Names.{answered, answered_if, or_now, or_zero, room_by, dialogue, pulses, count_after, turned, is_of_device}
+use proofs.Names.{broken_rule, ScenarioValue, latency_of, bits_if, lag_by, host_of, IsLeast, Own, own_of, own_after}
+use proofs.Names.{own_other, EndLines, target_side, connected_bus, Linked, unreset_due, row_of_lines, change_to}
+use proofs.Names.{CalmStanding, KeepsBooksIn, ends, OneSide, times_here, offset_here, pulses_of, Reached}
+use proofs.Names.{HasDrivenPulsed, PulseFacts, Pulsing, run_count, byte_in_run, next_bits, given_here, target_time}
+use proofs.Names.{target_next, initiator_next, target_next_at, initiator_next_at, NoSooner, EndsAhead}
+use proofs.{DataRows.{DataRow, count_stays, bytes_stay}, Goes.{phase_goes, turn_goes, turn_test, receives_if}}
+use proofs.{LinkSeen.{around, obeys_linked}, Moves.{InPhaseRow, target_moves, target_in_phase, phase_same, same_line}}
+use proofs.{Moves.{no_rise, Moves}, PulseAhead.{ByPulses, target_due_in, target_due_out, initiator_due_in}}
+use proofs.{PulseAhead.{initiator_due_out, row_by_target, row_by_initiator}, PulseObeys.{req_end_in}}
+use proofs.{PulseSteps.{req_falls_facts, assertion_short, none_no_sooner, some_no_sooner}, Shakes.{target_row}}
 
 -- What a row does with which the pulses go on.
 pub record NextPulsing (s : ScenarioValue) (p : List Row) (row : Row) (n : Connection) (io req ack atn : Bool) (x y : ℕ) : Type 0 where

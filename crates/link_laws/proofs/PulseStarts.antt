@@ -1,37 +1,15 @@
 -- The first REQ of a data phase by pulses (6.1.5.2).
-use Rattle.std.proofs.Common.{ℕ, ◌≡◌, ◌≤◌, ◌<◌, ◌+◌, Bool, true, false, not, ◌&&◌, ◌||◌, ◌==◌, ◌∙◌, List, ◌∷◌, Option, Some, None, refl, sym, ap, subst, arith}
-use Rattle.std.specs.Prelude.{if◌then◌else◌, max, nat_le, nat_lt, is_some}
-use Rattle.std.proofs.lemmas.Bool.Decides.{nat_tests}
-use Rattle.bus_due.specs.bus_base.specs.Faults.{counted_on}
-use Rattle.bus_due.specs.bus_trace.specs.declared.Row.{Row}
-use Rattle.bus_due.specs.bus_trace.specs.declared.agreements.Agreement.{Agreement}
-use Rattle.bus_due.specs.bus_trace.specs.declared.connection.Connection.{Connection}
-use Rattle.bus_due.specs.bus_trace.specs.declared.changes.Change.{Change}
-use Rattle.bus_due.specs.bus_trace.specs.Agreements.{times_of, times_or_slow, fast_times, slow_times}
-use Rattle.bus_due.specs.bus_trace.specs.Terms.{receiver}
-use Rattle.bus_due.specs.bus_trace.specs.Trace.{last_time, line_times}
-use Rattle.bus_due.specs.bus_phases.specs.declared.pulses.Pulses.{Pulses}
-use Rattle.bus_due.specs.bus_phases.specs.Phases.{pulses, no_pulses, turned}
-use Rattle.bus_due.specs.bus_phases.specs.Dialogue.{dialogue}
-use Rattle.bus_due.specs.bus_rules.specs.Transfer.{is_after}
-use Rattle.bus_due.specs.bus_lines.specs.Handshakes.{Handshakes, handshakes, no_handshakes, asked}
-use Rattle.bus_due.specs.scenario.specs.Value.{ScenarioValue}
-use Rattle.bus_due.specs.bus_dialogue.specs.Ends.{lag_by}
-use Rattle.bus_due.specs.Defs.{host_of}
-use Rattle.bus_due.specs.Own.{own_of}
-use Rattle.bus_laws.specs.Rows.{change_to}
-use Rattle.bus_laws.specs.Ends.{EndLines, target_side, connected_bus}
-use Rattle.link_laws.specs.Books.{KeepsBooksIn}
-use Rattle.link_laws.specs.Phases.{ends}
-use Rattle.link_laws.specs.LinkStages.{when_pulsing}
-use Rattle.link_laws.specs.Pulses.{times_here, offset_here, pulses_of, PulseFacts, initiator_next, answers_at, drives_at, given_here, NoSooner}
-use Rattle.link_laws.proofs.Moves.{target_moves, target_in_phase}
-use Rattle.link_laws.proofs.LinkSeen.{around, obeys_linked}
-use Rattle.link_laws.proofs.Goes.{NextLinked, phase_goes, turn_test, receives_if, data_by}
-use Rattle.link_laws.proofs.Shakes.{target_row}
-use Rattle.link_laws.proofs.Asks.{Asking, may_ask_by}
-use Rattle.link_laws.proofs.PulseObeys.{MayPulse, req_pulse_in, req_pulse_out}
-use Rattle.link_laws.proofs.PulseSteps.{pulse_first, some_no_sooner}
+use Rattle.link_laws.proofs
+use proofs.Names.{ℕ, ◌≡◌, ◌≤◌, ◌<◌, ◌+◌, Bool, true, false, not, ◌&&◌, ◌||◌, ◌==◌, ◌∙◌, List, ◌∷◌, Option, Some, None}
+use proofs.Names.{refl, sym, ap, subst, arith, nat_tests, if◌then◌else◌, max, nat_le, nat_lt, is_some, counted_on}
+use proofs.Names.{times_of, times_or_slow, fast_times, slow_times, receiver, last_time, line_times, Row, Agreement}
+use proofs.Names.{Change, Connection, Handshakes, handshakes, no_handshakes, asked, dialogue, pulses, no_pulses, turned}
+use proofs.Names.{Pulses, is_after, ScenarioValue, lag_by, host_of, own_of, EndLines, target_side, connected_bus}
+use proofs.Names.{change_to, KeepsBooksIn, when_pulsing, ends, times_here, offset_here, pulses_of, PulseFacts}
+use proofs.{Names.{initiator_next, answers_at, drives_at, given_here, NoSooner}, Asks.{Asking, may_ask_by}}
+use proofs.{Goes.{NextLinked, phase_goes, turn_test, receives_if, data_by}, LinkSeen.{around, obeys_linked}}
+use proofs.{Moves.{target_moves, target_in_phase}, PulseObeys.{MayPulse, req_pulse_in, req_pulse_out}}
+use proofs.{PulseSteps.{pulse_first, some_no_sooner}, Shakes.{target_row}}
 
 set_up_short : (period : ℕ) → (times_of period).set_up ≤ 55
 set_up_short period = go (nat_lt period 25) (nat_lt period 50)

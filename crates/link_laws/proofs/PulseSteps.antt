@@ -1,15 +1,10 @@
 -- The pulses of a phase, from row to row.
-use Rattle.std.proofs.Common.{◌⊎◌, inl, inr, ℕ, ◌≡◌, ◌≤◌, ◌<◌, ◌+◌, ◌^◌, Bool, true, false, ◌==◌, ◌∙◌, List, [], ◌∷◌, ◌++◌, length, drop, Option, Some, None, refl, ap, subst, arith}
-use Rattle.std.specs.Prelude.{if◌then◌else◌, nat_lt}
-use Rattle.std.proofs.lemmas.Bool.{ltb-true}
-use Rattle.std.proofs.lemmas.Bool.Decides.{nat_tests}
-use Rattle.bus_due.specs.bus_base.specs.Faults.{counted_on}
-use Rattle.bus_due.specs.bus_trace.specs.Agreements.{times_of, times_or_slow, fast_times, slow_times}
-use Rattle.bus_due.specs.bus_lines.specs.declared.handshakes.Request.{Request}
-use Rattle.bus_due.specs.bus_lines.specs.Handshakes.{Handshakes, opened, asked, answered, no_handshakes, first_of, or_now}
-use Rattle.bus_due.specs.bus_lines.proofs.Early.{push_length}
-use Rattle.link_laws.specs.Pulses.{Reached, PulseFacts, target_time, NoSooner}
-use Rattle.bus_due.specs.bus_base.proofs.Tests.{next_some}
+use Rattle.link_laws.proofs
+use proofs.Names.{◌⊎◌, inl, inr, ℕ, ◌≡◌, ◌≤◌, ◌<◌, ◌+◌, ◌^◌, Bool, true, false, ◌==◌, ◌∙◌, List, [], ◌∷◌, ◌++◌, length}
+use proofs.Names.{drop, Option, Some, None, refl, ap, subst, arith, ltb-true, nat_tests, if◌then◌else◌, nat_lt}
+use proofs.Names.{next_some, counted_on, times_of, times_or_slow, fast_times, slow_times, push_length, Handshakes}
+use proofs.Names.{opened, asked, answered, no_handshakes, first_of, or_now, Request, Reached, PulseFacts, target_time}
+use proofs.Names.{NoSooner}
 
 pub count_more : (r : ℕ) → r + 1 < 2 ^ 64 → counted_on r ≡ r + 1
 count_more r h = grind (arith, nat_tests)

@@ -1,35 +1,15 @@
 -- The runs of data are far shorter than the counts of REQ and ACK reach, after any rows.
-use Rattle.std.proofs.Common.{ℕ, ◌≡◌, ◌≤◌, ◌+◌, ◌-◌, ◌*◌, ◌^◌, Bool, true, false, ◌&&◌, List, [], ◌∷◌, length, Option, Some, None, refl, arith}
-use Rattle.std.specs.Prelude.{if◌then◌else◌, min, nat_lt, ◌==◌}
-use Rattle.std.proofs.lemmas.Bool.{ltb-true}
-use Rattle.bus_due.specs.bus_base.specs.declared.Event.{Event}
-use Rattle.bus_due.specs.bus_trace.specs.declared.Row.{Row}
-use Rattle.bus_due.specs.bus_trace.specs.declared.connection.Connection.{Connection}
-use Rattle.bus_due.specs.cdb_codec.specs.declared.status.TheConstants.{GOOD}
-use Rattle.bus_due.specs.scenario.specs.Value.{ScenarioValue}
-use Rattle.bus_due.specs.scenario.specs.declared.value.Policy.{Policy}
-use Rattle.bus_due.specs.scenario.specs.declared.value.Policy.TheVariants as policies
+use Rattle.link_laws.proofs
+use proofs.Names.{ℕ, ◌≡◌, ◌≤◌, ◌+◌, ◌-◌, ◌*◌, ◌^◌, Bool, true, false, ◌&&◌, List, [], ◌∷◌, length, Option, Some, None}
+use proofs.Names.{refl, arith, ◌==◌, ltb-true, if◌then◌else◌, min, nat_lt, Event, Row, Connection, GOOD, ScenarioValue}
+use proofs.Names.{Policy, Reply, Process, Array, unit_state_at, nexus_of, row_reading, row_events_by, Item, process}
+use proofs.Names.{abort, policy_of, run_by, run_in, run_length, run_length_if, Task, target_def_of, progress_in}
+use proofs.Names.{RunState, or_start, array_of, process_item, process_served, carried_here, run_state}
+use proofs.Names.{array_after_events, is_writing, moved_count, reply_now, task_if, task_with, process_few, FitsBus}
+use proofs.{Names.{run_count}, UnitContents.{HasShortUnits, HasShortUnitsIf, gives_few, context_at_short, event_short}}
+use proofs.UnitContents.{start_short, settled_start_short}
 use Rattle.bus_due.specs.disk_array.specs.ArrayHistory as Play
-use Rattle.bus_due.specs.disk_array.specs.Execution.{Reply}
-use Rattle.bus_due.specs.disk_array.specs.Processes.{Process}
-use Rattle.bus_due.specs.disk_array.specs.Units.{Array, unit_state_at, nexus_of}
 use Rattle.bus_due.specs.disk_array.specs.Steps
-use Rattle.bus_due.specs.bus_story.specs.BusState.{row_reading}
-use Rattle.bus_due.specs.bus_story.specs.HistoryEvents.{row_events_by}
-use Rattle.bus_due.specs.bus_story.specs.Items.{Item, process, abort}
-use Rattle.bus_due.specs.bus_dialogue.specs.Arrivals.{policy_of}
-use Rattle.bus_due.specs.bus_dialogue.specs.DataRuns.{run_by, run_in, run_length}
-use Rattle.bus_due.specs.bus_dialogue.specs.PhaseBytes.{run_length_if}
-use Rattle.bus_due.specs.bus_dialogue.specs.declared.exchange.Task.{Task}
-use Rattle.bus_due.specs.Defs.{target_def_of}
-use Rattle.bus_due.specs.RunState.{RunState, or_start, array_of, process_item, process_served, carried_here}
-use Rattle.bus_due.specs.RunSteps.{run_state, array_after_events}
-use Rattle.bus_due.specs.LastingState.{progress_in}
-use Rattle.bus_due.specs.Tasks.{is_writing, moved_count, reply_now, task_if, task_with}
-use Rattle.bus_laws.specs.scsi_device.specs.Lines.{FitsBus}
-use Rattle.bus_laws.specs.scsi_device.proofs.SentBytes.{process_few}
-use Rattle.link_laws.specs.Pulses.{run_count}
-use Rattle.link_laws.proofs.UnitContents.{HasShortUnits, HasShortUnitsIf, gives_few, context_at_short, event_short, start_short, settled_start_short}
 
 -- No run has more than 2^43 bytes.
 abbrev pub HasShortRuns : ScenarioValue → Type 0
@@ -70,10 +50,10 @@ first_part step moved true false e = omega arith
 first_part step moved true true e = let less = ltb-true step moved e in omega (arith, less)
 
 part_of_all : (policy : Policy) (size moved n : ℕ) → (run_by policy size moved n).end - (run_by policy size moved n).start ≤ moved
-part_of_all policies.Never size moved n = omega arith
-part_of_all policies.Command size moved n = omega arith
-part_of_all (policies.Burst most) size moved n = cut (n * (most * size)) (most * size) moved
-part_of_all (policies.NoSave most) size moved n = first_part (most * size) moved (n == 0) (nat_lt (most * size) moved) refl
+part_of_all Policy.Never size moved n = omega arith
+part_of_all Policy.Command size moved n = omega arith
+part_of_all (Policy.Burst most) size moved n = cut (n * (most * size)) (most * size) moved
+part_of_all (Policy.NoSave most) size moved n = first_part (most * size) moved (n == 0) (nat_lt (most * size) moved) refl
 
 run_in_all : (policy : Policy) (blocks : Option ℕ) (size moved n : ℕ) → (run_in policy blocks size moved n).end - (run_in policy blocks size moved n).start ≤ moved
 run_in_all policy None size moved n = omega arith

@@ -1,27 +1,13 @@
 -- Byte by byte: the rows with which REQ and ACK rise and fall (6.1.5.1).
-use Rattle.std.proofs.Common.{ℕ, ◌≡◌, ◌≤◌, ◌+◌, Bool, true, false, ◌&&◌, ◌==◌, ◌∙◌, List, ◌∷◌, refl, sym, ap, subst, arith}
-use Rattle.std.specs.Prelude.{if◌then◌else◌, nat_le}
-use Rattle.bus_due.specs.bus_trace.specs.LineSet.{LineSet, data_of}
-use Rattle.bus_due.specs.bus_trace.specs.declared.Row.{Row}
-use Rattle.bus_due.specs.bus_trace.specs.declared.connection.Connection.{Connection}
-use Rattle.bus_due.specs.bus_trace.specs.Trace.{last_time, since, line_times}
-use Rattle.bus_due.specs.bus_trace.specs.Changes.{implies}
-use Rattle.bus_due.specs.bus_phases.specs.Phases.{turned}
-use Rattle.bus_due.specs.bus_lines.specs.Handshakes.{Handshakes}
-use Rattle.bus_due.specs.scenario.specs.Value.{ScenarioValue}
-use Rattle.bus_laws.specs.Reactions.{own_time}
-use Rattle.bus_laws.specs.Rows.{row_of_lines, change_to}
-use Rattle.bus_laws.specs.Stages.{CalmStanding}
-use Rattle.bus_laws.specs.Ends.{EndLines, initiator_side, target_side, connected_bus}
-use Rattle.bus_laws.proofs.Rows.{own_time_own, own_time_other}
-use Rattle.link_laws.specs.Books.{KeepsBooksIn}
-use Rattle.link_laws.specs.Phases.{ends, Shaking}
-use Rattle.link_laws.specs.LinkStages.{when_shaking}
-use Rattle.link_laws.proofs.Moves.{initiator_moves, target_moves, initiator_in_phase, target_in_phase}
-use Rattle.link_laws.proofs.LinkSeen.{around, obeys_linked}
-use Rattle.link_laws.proofs.LinkObeys.{req_falls_in, req_falls_out, ack_falls_in, ack_falls_out, ack_rises_in, byte_obeys, ack_rises_out}
-use Rattle.link_laws.proofs.Goes.{NextLinked, phase_goes, unpulsed_goes, turn_goes, turn_test, receives_if, data_by}
-use Rattle.bus_due.specs.bus_base.proofs.Tests.{eq_self}
+use Rattle.link_laws.proofs
+use proofs.Names.{ℕ, ◌≡◌, ◌≤◌, ◌+◌, Bool, true, false, ◌&&◌, ◌==◌, ◌∙◌, List, ◌∷◌, refl, sym, ap, subst, arith}
+use proofs.Names.{if◌then◌else◌, nat_le, eq_self, implies, LineSet, data_of, last_time, since, line_times, Row}
+use proofs.Names.{Connection, Handshakes, turned, ScenarioValue, own_time_own, own_time_other, EndLines, initiator_side}
+use proofs.Names.{target_side, connected_bus, own_time, row_of_lines, change_to, CalmStanding, KeepsBooksIn}
+use proofs.{Names.{when_shaking, ends, Shaking}, Goes.{NextLinked, phase_goes, unpulsed_goes, turn_goes, turn_test}}
+use proofs.{Goes.{receives_if, data_by}, LinkObeys.{req_falls_in, req_falls_out, ack_falls_in, ack_falls_out}}
+use proofs.{LinkObeys.{ack_rises_in, byte_obeys, ack_rises_out}, LinkSeen.{around, obeys_linked}}
+use proofs.Moves.{initiator_moves, target_moves, initiator_in_phase, target_in_phase}
 
 abbrev pub target_row : ℕ → Connection → EndLines → Row
 target_row t n f = row_of_lines t n.target (target_side f)

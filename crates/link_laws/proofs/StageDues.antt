@@ -1,28 +1,14 @@
 -- What is due of the two ends in each stage of a connection, and that nothing of it lies in the past.
-use Rattle.std.proofs.Common.{ℕ, ◌≡◌, ◌+◌, Bool, true, false, not, ◌&&◌, ◌||◌, ◌==◌, ◌∙◌, List, None, refl, ap}
-use Rattle.std.specs.Prelude.{if◌then◌else◌, max}
-use Rattle.bus_due.specs.bus_trace.specs.declared.Row.{Row}
-use Rattle.bus_due.specs.bus_trace.specs.Agreements.{times_of}
-use Rattle.bus_due.specs.bus_trace.specs.declared.connection.Connection.{Connection}
-use Rattle.bus_due.specs.bus_trace.specs.Trace.{line_times, phase_time}
-use Rattle.bus_due.specs.bus_phases.specs.Dialogue.{dialogue}
-use Rattle.bus_due.specs.bus_lines.specs.Handshakes.{Handshakes, handshakes, no_handshakes}
-use Rattle.bus_due.specs.scenario.specs.Value.{ScenarioValue}
-use Rattle.bus_due.specs.bus_reactions.specs.declared.due.Myself.{Myself}
-use Rattle.bus_due.specs.bus_reactions.specs.declared.sight.Sight.{Sight}
-use Rattle.bus_due.specs.bus_reactions.specs.declared.ends.Pace.{Pace}
-use Rattle.bus_due.specs.bus_reactions.specs.declared.ends.Offering.{Offering}
-use Rattle.bus_due.specs.bus_reactions.specs.declared.ends.Answering.{Answering}
-use Rattle.bus_due.specs.bus_reactions.specs.Reactions.{due_at}
-use Rattle.bus_due.specs.bus_reactions.specs.Target.{req_pulse_end, req_negation, first_req, first_byte, req_assertion, target_pulse, target_handshake, next_req, phase_end, byte_bits, bits_if}
-use Rattle.bus_due.specs.bus_reactions.specs.Initiator.{ack_pulse_end, ack_negation, received_byte_ack, initiator_byte, sent_byte_ack, initiator_pulse, initiator_handshake, byte_release, attends_by}
-use Rattle.bus_due.specs.bus_reactions.specs.Ends.{target_due, initiator_due, owes_release}
-use Rattle.bus_due.specs.Own.{own_of}
-use Rattle.bus_laws.specs.Reactions.{own_time, device_with}
-use Rattle.bus_laws.specs.Ends.{EndLines, initiator_side, target_side, connected_bus, ends_selected}
-use Rattle.link_laws.specs.Phases.{ends, Settling, Turning, Offering as OfferingStage, Shaking}
-use Rattle.link_laws.proofs.EndDues.{sight_with, pace_with, offering_with, answering_with, target_plain, initiator_plain}
-use Rattle.bus_due.specs.bus_base.proofs.Tests.{and_false}
+use Rattle.link_laws.proofs
+use proofs.Names.{ℕ, ◌≡◌, ◌+◌, Bool, true, false, not, ◌&&◌, ◌||◌, ◌==◌, ◌∙◌, List, None, refl, ap, if◌then◌else◌, max}
+use proofs.Names.{and_false, times_of, line_times, phase_time, Row, Connection, Handshakes, handshakes, no_handshakes}
+use proofs.Names.{dialogue, ScenarioValue, target_due, initiator_due, owes_release, ack_pulse_end, ack_negation}
+use proofs.Names.{received_byte_ack, initiator_byte, sent_byte_ack, initiator_pulse, initiator_handshake, byte_release}
+use proofs.Names.{attends_by, due_at, req_pulse_end, req_negation, first_req, first_byte, req_assertion, target_pulse}
+use proofs.Names.{target_handshake, next_req, phase_end, byte_bits, bits_if, Myself, Answering, Offering, Pace, Sight}
+use proofs.Names.{own_of, EndLines, initiator_side, target_side, connected_bus, ends_selected, own_time, device_with}
+use proofs.{Names.{ends, Settling, Turning, OfferingStage, Shaking}, EndDues.{sight_with, pace_with, offering_with}}
+use proofs.EndDues.{answering_with, target_plain, initiator_plain}
 
 -- ---- before REQ has risen
 

@@ -1,33 +1,18 @@
 -- Rows of prompt traces, connections and all.
-use Rattle.std.proofs.Common.{◌≡◌, ◌≤◌, Bool, true, false, not, ◌&&◌, ◌∙◌, List, [], ◌∷◌, None, refl, sym, ap, subst, arith}
-use Rattle.std.specs.Prelude.{is_some}
-use Rattle.std.proofs.lemmas.Bool.{and_parts}
-use Rattle.bus_due.specs.bus_trace.specs.LineSet.{LineSet, data_of}
-use Rattle.bus_due.specs.bus_trace.specs.declared.Row.{Row}
-use Rattle.bus_due.specs.bus_trace.specs.declared.connection.Connection.{Connection}
-use Rattle.bus_due.specs.bus_trace.specs.Trace.{bus, last_time, since, line_times, phase_time}
-use Rattle.bus_due.specs.bus_trace.specs.Terms.{connection}
-use Rattle.bus_due.specs.bus_trace.proofs.Ages.{since_le}
-use Rattle.bus_due.specs.bus_phases.specs.declared.attention.Duty.{Duty}
-use Rattle.bus_due.specs.scenario.specs.Value.{ScenarioValue}
-use Rattle.bus_due.specs.Next.{due, IsPrompt}
-use Rattle.bus_due.specs.Least.{IsLeast}
-use Rattle.bus_due.specs.Plain.{AreOfDevices}
-use Rattle.bus_laws.specs.Ends.{EndLines, Linked, BeginsConnection, by_selection, by_reselection}
-use Rattle.bus_laws.specs.Stages.{HasShortLatencies, BusStage, on_free_bus, in_arbitration, after_arbitration, with_both_ids, awaiting_answer, after_withdrawal, after_answer, after_takeover, in_reset, in_connection, Standing, NextRow, is_connected}
-use Rattle.bus_laws.proofs.Prompt.{least_is}
-use Rattle.bus_laws.proofs.ResetSteps.{raises}
-use Rattle.bus_laws.proofs.Together.{standing_first, stage_first, standing_after, standing_next, from_stage, ahead_with_resets, by_reset, by_calm, reset_or_calm}
-use Rattle.link_laws.specs.Books.{has_odd_byte, has_whole_messages, has_whole_command, frees_in_time, KeepsBooksIn, in_connections, have_odd_bytes, have_whole_messages, have_whole_commands, free_in_time}
-use Rattle.link_laws.specs.Phases.{fits_duty, is_owed_out}
-use Rattle.link_laws.specs.LinkStages.{LinkStage, when_selected, when_settling, when_turning, when_offering, when_shaking, when_pulsing, AnyStage, apart, linked, NextAny}
-use Rattle.link_laws.specs.LinkStages.{LinkStage, when_selected, when_settling, when_turning, when_offering, when_shaking}
-use Rattle.link_laws.proofs.Ahead.{stage_ahead}
-use Rattle.link_laws.proofs.Enters.{below_differs}
-use Rattle.link_laws.proofs.PhaseEnds.{AfterLink, goes_on, frees}
-use Rattle.link_laws.proofs.FromLink.{from_link}
-use Rattle.link_laws.proofs.RunLengths.{HasShortRuns}
-use Rattle.bus_due.specs.bus_base.proofs.Tests.{and_false, implied}
+use Rattle.link_laws.proofs
+use proofs.Names.{◌≡◌, ◌≤◌, Bool, true, false, not, ◌&&◌, ◌∙◌, List, [], ◌∷◌, None, refl, sym, ap, subst, arith}
+use proofs.Names.{and_parts, is_some, and_false, implied, since_le, LineSet, data_of, connection, bus, last_time, since}
+use proofs.Names.{line_times, phase_time, Row, Connection, Duty, ScenarioValue, IsLeast, due, IsPrompt, AreOfDevices}
+use proofs.Names.{least_is, raises, standing_first, stage_first, standing_after, standing_next, from_stage}
+use proofs.Names.{ahead_with_resets, by_reset, by_calm, reset_or_calm, EndLines, Linked, BeginsConnection, by_selection}
+use proofs.Names.{by_reselection, HasShortLatencies, BusStage, on_free_bus, in_arbitration, after_arbitration}
+use proofs.Names.{with_both_ids, awaiting_answer, after_withdrawal, after_answer, after_takeover, in_reset}
+use proofs.Names.{in_connection, Standing, NextRow, is_connected, has_odd_byte, has_whole_messages, has_whole_command}
+use proofs.Names.{frees_in_time, KeepsBooksIn, in_connections, have_odd_bytes, have_whole_messages, have_whole_commands}
+use proofs.Names.{free_in_time, LinkStage, when_selected, when_settling, when_turning, when_offering, when_shaking}
+use proofs.{Names.{when_pulsing, AnyStage, apart, linked, NextAny, fits_duty, is_owed_out}, Ahead.{stage_ahead}}
+use proofs.{Enters.{below_differs}, FromLink.{from_link}, PhaseEnds.{AfterLink, goes_on, frees}}
+use proofs.RunLengths.{HasShortRuns}
 
 -- ---- a connection begins
 

@@ -1,41 +1,22 @@
 -- What the logical units hold stays within the limits of a scenario, whatever events there are; so a command gives few bytes.
-use Rattle.std.proofs.Common.{ℕ, zero, suc, ◌≡◌, ◌≤◌, ◌+◌, ◌*◌, ◌-◌, ◌^◌, Bool, true, false, not, ◌&&◌, ◌||◌, List, [], ◌∷◌, ◌++◌, length, take, drop, Option, Some, None, Ok, Err, refl, arith}
-use Rattle.std.specs.Prelude.{if◌then◌else◌, min, nat_le, nat_lt, Result, ◌==◌, is_some, is_none}
-use Rattle.std.specs.List.{AllByRecursion}
-use Rattle.std.proofs.lemmas.Bool.{and_parts}
-use Rattle.std.proofs.lemmas.Bool.Decides.{nat_tests}
-use Rattle.std.proofs.lemmas.List.{length-append, length-replicate, length-take}
-use Rattle.bus_due.specs.bus_base.specs.declared.AbortKind.{AbortKind}
-use Rattle.bus_due.specs.bus_base.specs.declared.AbortKind.TheVariants as aborts
-use Rattle.bus_due.specs.bus_base.specs.declared.Event.{Event}
-use Rattle.bus_due.specs.bus_base.specs.declared.Event.TheVariants as events
-use Rattle.bus_due.specs.bus_base.specs.declared.ProcId.{ProcId}
-use Rattle.bus_due.specs.cdb_codec.specs.Blocks.{blocks_moved}
-use Rattle.bus_due.specs.cdb_codec.specs.Cdb.{command_of}
-use Rattle.bus_due.specs.cdb_codec.specs.Replies.{sense_data, inquiry_data, capacity_data}
-use Rattle.bus_due.specs.cdb_codec.specs.declared.Sense.{Sense}
-use Rattle.bus_due.specs.cdb_codec.specs.declared.command.CdbFault.{CdbFault}
-use Rattle.bus_due.specs.cdb_codec.specs.declared.command.CdbFault.TheVariants as faults
-use Rattle.bus_due.specs.cdb_codec.specs.declared.command.Command.{Command}
-use Rattle.bus_due.specs.cdb_codec.specs.declared.command.Command.TheVariants as commands
-use Rattle.bus_due.specs.cdb_codec.specs.declared.replies.TheConstants.{SENSE_LEN, INQUIRY_LEN}
-use Rattle.bus_due.specs.cdb_codec.specs.declared.sense.TheConstants.{ABORTED_COMMAND}
-use Rattle.bus_due.specs.cdb_codec.specs.declared.status.TheConstants.{GOOD, CHECK_CONDITION}
-use Rattle.bus_due.specs.scenario.specs.declared.value.FillDef.{FillDef}
-use Rattle.bus_due.specs.scenario.specs.declared.value.HostDef.{HostDef}
-use Rattle.bus_due.specs.scenario.specs.declared.value.UnitDef.{UnitDef}
-use Rattle.bus_due.specs.scenario.specs.Lookups.{unit_of}
-use Rattle.bus_due.specs.scenario.specs.Reasons.{is_block_in}
-use Rattle.bus_due.specs.scenario.specs.Value.{ScenarioValue}
+use Rattle.link_laws.proofs
+use proofs.Names.{ℕ, zero, suc, ◌≡◌, ◌≤◌, ◌+◌, ◌*◌, ◌-◌, ◌^◌, Bool, true, false, not, ◌&&◌, ◌||◌, List, [], ◌∷◌, ◌++◌}
+use proofs.Names.{length, take, drop, Option, Some, None, Ok, Err, refl, arith, ◌==◌, and_parts, nat_tests}
+use proofs.Names.{length-append, length-replicate, length-take, AllByRecursion, if◌then◌else◌, min, nat_le, nat_lt}
+use proofs.Names.{Result, is_some, is_none, AbortKind, Event, ProcId, blocks_moved, command_of, sense_data}
+use proofs.Names.{inquiry_data, capacity_data, Sense, CdbFault, Command, SENSE_LEN, INQUIRY_LEN, ABORTED_COMMAND, GOOD}
+use proofs.Names.{CHECK_CONDITION, unit_of, is_block_in, ScenarioValue, FillDef, HostDef, UnitDef, Contents}
+use proofs.Names.{no_contents, zero_block, touched_block, block_at, touched_with, with_block, bytes_at, with_bytes}
+use proofs.Names.{blank_contents, filled_contents, Reply, CommandContext, Execution, good, check_condition, queue_full}
+use proofs.Names.{sense_of, needs_unit, heeds_attention, range_of, is_good_range, returned_sense, reply_execution}
+use proofs.Names.{write_execution, command_execution, range_execution, cdb_execution, attention_execution, execution}
+use proofs.Names.{invalid_opcode, invalid_field, block_out_of_range, unit_not_supported, commands_cleared}
+use proofs.Names.{is_request_sense, choice, Process, process_of, RunningProcess, UnitState, Nexus, Array, unit_state_at}
+use proofs.Names.{with_unit, guest_at, with_current, has_no_current, is_held, units_after_choice, settled_array}
+use proofs.Names.{starting_array, starting_units, nexus_of, sense_of_nexus, senses_without, nexuses_without, unit_fits}
+use proofs.Names.{FitsBus, IsUnitLine}
 use Rattle.bus_due.specs.disk_array.specs.ArrayHistory as Play
-use Rattle.bus_due.specs.disk_array.specs.Contents.{Contents, no_contents, zero_block, touched_block, block_at, touched_with, with_block, bytes_at, with_bytes, blank_contents, filled_contents}
-use Rattle.bus_due.specs.disk_array.specs.Execution.{Reply, CommandContext, Execution, good, check_condition, queue_full, sense_of, needs_unit, heeds_attention, range_of, is_good_range, returned_sense, reply_execution, write_execution, command_execution, range_execution, cdb_execution, attention_execution, execution, invalid_opcode, invalid_field, block_out_of_range, unit_not_supported, commands_cleared, is_request_sense}
-use Rattle.bus_due.specs.disk_array.specs.Order.{choice}
-use Rattle.bus_due.specs.disk_array.specs.Processes.{Process, process_of}
 use Rattle.bus_due.specs.disk_array.specs.Steps
-use Rattle.bus_due.specs.disk_array.specs.Units.{RunningProcess, UnitState, Nexus, Array, unit_state_at, with_unit, guest_at, with_current, has_no_current, is_held, units_after_choice, settled_array, starting_array, starting_units, nexus_of, sense_of_nexus, senses_without, nexuses_without}
-use Rattle.bus_laws.specs.scsi_device.specs.Lines.{FitsBus, IsUnitLine}
-use Rattle.bus_laws.specs.scsi_device.proofs.FitLines.{unit_fits}
 
 -- ---- blocks: at most 2^32 of at most 2048 bytes
 
@@ -131,14 +112,14 @@ takes : (m : CommandContext) (room most : ℕ) (bytes : List ℕ) → HasShortBl
 takes m room most bytes h k = let few = taken_short (min room most) bytes in replies m (good (take (min room most) bytes)) h (omega (arith, few, k))
 
 gives : (m : CommandContext) (c : Command) (sent : List ℕ) → HasShortBlocks m.contents → is_good_range m.contents.count (range_of c) ≡ true → GivesFew (command_execution m c sent)
-gives m commands.TestUnitReady sent h e = replies m (good []) h (omega arith)
-gives m (commands.RequestSense room) sent h e = takes m room SENSE_LEN (sense_data (returned_sense m.present m.stored)) h (omega arith)
-gives m (commands.Read6 lba count) sent h e = reads m lba (blocks_moved (commands.Read6 lba count)) h e
-gives m (commands.Write6 lba count) sent h e = writes m lba (blocks_moved (commands.Write6 lba count)) sent h
-gives m (commands.Inquiry room) sent h e = takes m room INQUIRY_LEN (inquiry_data m.present) h (omega arith)
-gives m commands.ReadCapacity sent h e = replies m (good (capacity_data (m.contents.count - 1) m.contents.size)) h (omega arith)
-gives m (commands.Read10 lba count) sent h e = reads m lba count h e
-gives m (commands.Write10 lba count) sent h e = writes m lba count sent h
+gives m Command.TestUnitReady sent h e = replies m (good []) h (omega arith)
+gives m (Command.RequestSense room) sent h e = takes m room SENSE_LEN (sense_data (returned_sense m.present m.stored)) h (omega arith)
+gives m (Command.Read6 lba count) sent h e = reads m lba (blocks_moved (Command.Read6 lba count)) h e
+gives m (Command.Write6 lba count) sent h e = writes m lba (blocks_moved (Command.Write6 lba count)) sent h
+gives m (Command.Inquiry room) sent h e = takes m room INQUIRY_LEN (inquiry_data m.present) h (omega arith)
+gives m Command.ReadCapacity sent h e = replies m (good (capacity_data (m.contents.count - 1) m.contents.size)) h (omega arith)
+gives m (Command.Read10 lba count) sent h e = reads m lba count h e
+gives m (Command.Write10 lba count) sent h e = writes m lba count sent h
 
 in_range : (m : CommandContext) (c : Command) (sent : List ℕ) → HasShortBlocks m.contents → GivesFew (range_execution m c sent)
 in_range m c sent h = go (is_good_range m.contents.count (range_of c)) refl
@@ -149,9 +130,9 @@ in_range m c sent h = go (is_good_range m.contents.count (range_of c)) refl
 
 by_block : (m : CommandContext) (r : Result Command CdbFault) (sent : List ℕ) → HasShortBlocks m.contents → GivesFew (cdb_execution m r sent)
 by_block m (Ok c) sent h = in_range m c sent h
-by_block m (Err faults.Opcode) sent h = checks m invalid_opcode h
-by_block m (Err faults.Length) sent h = checks m invalid_field h
-by_block m (Err faults.Field) sent h = checks m invalid_field h
+by_block m (Err CdbFault.Opcode) sent h = checks m invalid_opcode h
+by_block m (Err CdbFault.Length) sent h = checks m invalid_field h
+by_block m (Err CdbFault.Field) sent h = checks m invalid_field h
 
 heeds : (m : CommandContext) (o : Option Sense) (cdb sent : List ℕ) → HasShortBlocks m.contents → GivesFew (attention_execution m o cdb sent)
 heeds m None cdb sent h = by_block m (command_of cdb) sent h
@@ -348,11 +329,11 @@ cleared by (q ∷ lost) a h = cleared by lost (if q.initiator == by then a else 
     go false false = h
 
 aborted : (s : ScenarioValue) (a : Array) (i t n : ℕ) (what : AbortKind) → HasShortUnits a → HasShortUnits (Steps.abort_step s a i t n what)
-aborted s a i t n aborts.All h = units_kept (λ p. p.initiator == i && Steps.is_of_unit p t n) a.units h
-aborted s a i t n (aborts.Tag tag) h = units_kept (λ p. p.initiator == i && Steps.is_of_unit p t n && Steps.has_tag p.tag tag) a.units h
-aborted s a i t n aborts.WholeQueue h =
+aborted s a i t n AbortKind.All h = units_kept (λ p. p.initiator == i && Steps.is_of_unit p t n) a.units h
+aborted s a i t n (AbortKind.Tag tag) h = units_kept (λ p. p.initiator == i && Steps.is_of_unit p t n && Steps.has_tag p.tag tag) a.units h
+aborted s a i t n AbortKind.WholeQueue h =
     cleared i (Steps.unit_processes (unit_state_at a.units t n)) (Steps.without_dropped a (λ p. Steps.is_of_unit p t n)) (units_kept (λ p. Steps.is_of_unit p t n) a.units h)
-aborted s a i t n aborts.Device h =
+aborted s a i t n AbortKind.Device h =
     of_units s.hosts a.units (λ u. u.target == t)
     (record (Steps.without_dropped a (λ p. p.target == t)) { senses = Steps.kept_senses (λ q. q.target == t) a.senses; holds = Steps.kept_nexuses (λ q. q.target == t) a.holds })
     (units_kept (λ p. p.target == t) a.units h)
@@ -363,14 +344,14 @@ resets s a h = of_units s.hosts a.units (λ u. true) (record (Steps.without_drop
 -- ---- any event
 
 by_event : (s : ScenarioValue) (a : Array) (event : Event) → HasShortUnits a → HasShortUnitsIf (Steps.event_step s a event)
-by_event s a (events.Accept id) h = accepts a (process_of s id) h
-by_event s a (events.Refuse id) h = refuses a (process_of s id) h
-by_event s a (events.Run id) h = runs a (is_some (guest_at a.guests id)) (Steps.running_process a id) h
-by_event s a (events.Fail id code) h = fails s a id (check_condition (sense_of ABORTED_COMMAND code 0x00)) (Steps.running_process a id) h
-by_event s a (events.End id status) h = ends a status (Steps.running_process a id) h
-by_event s a (events.Lost id) h = loses a id h
-by_event s a (events.Aborted i t n what) h = aborted s a i t n what h
-by_event s a (events.Reset dev) h = resets s a h
+by_event s a (Event.Accept id) h = accepts a (process_of s id) h
+by_event s a (Event.Refuse id) h = refuses a (process_of s id) h
+by_event s a (Event.Run id) h = runs a (is_some (guest_at a.guests id)) (Steps.running_process a id) h
+by_event s a (Event.Fail id code) h = fails s a id (check_condition (sense_of ABORTED_COMMAND code 0x00)) (Steps.running_process a id) h
+by_event s a (Event.End id status) h = ends a status (Steps.running_process a id) h
+by_event s a (Event.Lost id) h = loses a id h
+by_event s a (Event.Aborted i t n what) h = aborted s a i t n what h
+by_event s a (Event.Reset dev) h = resets s a h
 
 settles_if : (o : Option Array) → HasShortUnitsIf o → HasShortUnitsIf (Steps.settled_array_if o)
 settles_if None h = tt

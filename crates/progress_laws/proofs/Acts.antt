@@ -1,24 +1,9 @@
 -- Where nothing is due of any device, no reaction of a device that does not drive RST is due, and none of an end of a connection.
-use Rattle.std.proofs.Common.{inl, inr, ℕ, ◌≡◌, ◌⊎◌, ◌<◌, Bool, true, false, ◌∙◌, List, Option, Some, None, refl, sym, ap}
-use Rattle.std.proofs.lemmas.Option.{none-some}
-use Rattle.bus_due.specs.bus_trace.specs.LineSet.{LineSet, none}
-use Rattle.bus_due.specs.bus_trace.specs.declared.Row.{Row}
-use Rattle.bus_due.specs.bus_trace.specs.declared.connection.Connection.{Connection}
-use Rattle.bus_due.specs.bus_trace.specs.Trace.{bus, drives}
-use Rattle.bus_due.specs.scenario.specs.Value.{ScenarioValue}
-use Rattle.bus_due.specs.bus_story.specs.Samples.{latency_of}
-use Rattle.bus_due.specs.bus_reactions.specs.declared.due.Due.{Due}
-use Rattle.bus_due.specs.bus_reactions.specs.Ends.{sample_due}
-use Rattle.bus_due.specs.bus_dialogue.specs.Hearing.{begun}
-use Rattle.bus_due.specs.Next.{due, IsEnded}
-use Rattle.bus_due.specs.Plain.{AreOfDevices}
-use Rattle.bus_due.proofs.Leasts.{least_none}
-use Rattle.trace_laws.specs.bus_laws.specs.Ends.{EndLines, Linked}
-use Rattle.trace_laws.specs.bus_laws.specs.Reactions.{unreset_due, reset_due}
-use Rattle.trace_laws.specs.bus_laws.specs.Stages.{Standing, HasDevice}
-use Rattle.trace_laws.specs.bus_laws.proofs.FromReset.{off_at}
-use Rattle.trace_laws.specs.bus_laws.proofs.Resets.{comes_by, due_calm}
-use Rattle.trace_laws.specs.link_laws.proofs.EndDues.{target_plain, initiator_plain, target_is, initiator_is}
+use Rattle.progress_laws.proofs
+use proofs.Names.{inl, inr, ℕ, ◌≡◌, ◌⊎◌, ◌<◌, Bool, true, false, ◌∙◌, List, Option, Some, None, refl, sym, ap}
+use proofs.Names.{none-some, LineSet, none, bus, drives, Row, Connection, ScenarioValue, latency_of, sample_due, Due}
+use proofs.Names.{begun, least_none, due, IsEnded, AreOfDevices, off_at, comes_by, due_calm, EndLines, Linked}
+use proofs.Names.{unreset_due, reset_due, Standing, HasDevice, target_plain, initiator_plain, target_is, initiator_is}
 
 -- That something is due.
 pub record SomeDue (o : Option Due) : Type 0 where

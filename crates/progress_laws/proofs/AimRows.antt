@@ -1,19 +1,10 @@
 -- What each device calls for changes as a device enters arbitration, and else never.
-use Rattle.std.proofs.Common.{inl, inr, ℕ, zero, suc, ◌≡◌, ◌⊎◌, ◌<◌, Bool, true, false, ◌∙◌, List, [], ◌∷◌, length, Option, Some, None, refl, ap, arith}
-use Rattle.std.specs.Prelude.{if◌then◌else◌, slice_set}
-use Rattle.bus_due.specs.bus_trace.specs.declared.Row.{Row}
-use Rattle.bus_due.specs.bus_trace.specs.declared.connection.Connection.{Connection}
-use Rattle.bus_due.specs.bus_trace.specs.Changes.{falls}
-use Rattle.bus_due.specs.scenario.specs.Value.{ScenarioValue}
-use Rattle.bus_due.specs.bus_story.specs.BusState.{RowReading, row_reading}
-use Rattle.bus_due.specs.bus_story.specs.Items.{Item}
-use Rattle.bus_due.specs.bus_story.specs.HistoryEvents.{row_events_by}
-use Rattle.bus_due.specs.bus_story.specs.Story.{Story}
-use Rattle.bus_due.specs.bus_story.specs.TraceHistory.{aim_of, is_arbitration_entry, story_with_aim, story_after_calling, story_on_free_bus, story_on_bus, story_by_change}
-use Rattle.bus_due.specs.RunState.{RunState}
-use Rattle.bus_due.specs.RunSteps.{run_state}
-use Rattle.trace_laws.specs.bus_books.proofs.Aims.{connected_aims}
-use Rattle.bus_due.specs.bus_story.proofs.StorySteps.{calling_aims, begun_aims, events_aims}
+use Rattle.progress_laws.proofs
+use proofs.Names.{inl, inr, ℕ, zero, suc, ◌≡◌, ◌⊎◌, ◌<◌, Bool, true, false, ◌∙◌, List, [], ◌∷◌, length, Option, Some}
+use proofs.Names.{None, refl, ap, arith, if◌then◌else◌, slice_set, falls, Row, Connection, ScenarioValue, calling_aims}
+use proofs.Names.{begun_aims, events_aims, RowReading, row_reading, row_events_by, Item, Story, aim_of}
+use proofs.Names.{is_arbitration_entry, story_with_aim, story_after_calling, story_on_free_bus, story_on_bus}
+use proofs.Names.{story_by_change, RunState, run_state, connected_aims}
 
 -- ---- a row
 

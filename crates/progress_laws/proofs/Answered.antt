@@ -1,37 +1,17 @@
 -- Where no device wants the bus and none has a connection, each command has its outcome: by what stands in the queues, and by what
 -- is owed to those that stand in a hold.
-use Rattle.std.proofs.Common.{ℕ, zero, suc, ◌≡◌, ◌+◌, ◌<◌, Bool, true, false, not, ◌&&◌, ◌||◌, ◌∙◌, List, [], ◌∷◌, Option, Some, None, refl, sym, ap, subst, one-add}
-use Rattle.std.specs.Prelude.{if◌then◌else◌, ◌==◌, is_some}
-use Rattle.std.specs.List.{list_all, list_any}
-use Rattle.std.proofs.lemmas.Option.{same_Some}
-use Rattle.bus_due.specs.scenario.specs.declared.value.CmdDef.{CmdDef}
-use Rattle.bus_due.specs.scenario.specs.Value.{ScenarioValue}
-use Rattle.bus_due.specs.scenario.specs.Writing.{Obeys}
-use Rattle.bus_due.specs.disk_array.specs.Processes.{Process, command_at, process_by, process_if, process_of}
-use Rattle.bus_due.specs.disk_array.specs.SoundArray.{IsSound}
-use Rattle.bus_due.specs.disk_array.specs.Units.{Array, Nexus, UnitState, is_at_unit, is_held, unit_state_at}
-use Rattle.bus_due.specs.disk_array.specs.Seats.{is_initiator}
-use Rattle.bus_due.specs.bus_story.specs.Items.{Item, Sent, command_item, has_item, is_done, is_of_host, is_open, sense_from, sense_item, command_id}
-use Rattle.bus_due.specs.bus_story.specs.Outcomes.{Outcome, ending_of, outcome_if, outcome_of, outcomes_from}
-use Rattle.bus_due.specs.bus_story.specs.Samples.{latency_of}
-use Rattle.bus_due.specs.bus_story.specs.Story.{Ending, Story, is_ended}
-use Rattle.bus_due.specs.bus_dialogue.specs.Wants.{Ready}
-use Rattle.bus_due.specs.RunState.{RunState, array_of}
-use Rattle.bus_due.specs.Wants.{item_want_time, ready_of, ready_time, seek_of, want_time}
-use Rattle.trace_laws.specs.bus_books.specs.Accounts.{is_served_by}
-use Rattle.trace_laws.specs.scsi_device.specs.Lines.{IsCommandLine}
-use Rattle.trace_laws.specs.scsi_device.proofs.FitLines.{command_fits, obeys_fits}
-use Rattle.trace_laws.specs.bus_laws.specs.Stages.{HasDevice}
-use Rattle.trace_laws.specs.ItemFacts.{Items}
-use Rattle.trace_laws.specs.WriteFacts.{AllUnits}
-use Rattle.trace_laws.proofs.Tests.{plus_one}
-use Rattle.trace_laws.proofs.Impossible.{some_none, none_some}
-use Rattle.progress_laws.proofs.Queues.{HasQueue, IsThere, current_there, not_ready, process_there, queue_found}
-use Rattle.progress_laws.proofs.Rooms.{initiator_there, some_open}
-use Rattle.progress_laws.proofs.Unsent.{DoneBy, NoneOpen, no_sense_wanted, sent_all}
-use Rattle.progress_laws.specs.Queued.{AreOwed, AreQueued, IsOwed}
-use Rattle.std.proofs.lemmas.Bool.{eqb-true, and_from}
-use Rattle.bus_due.specs.bus_base.proofs.Tests.{wrong, eq_self, plus_none}
+use Rattle.progress_laws.proofs
+use proofs.Names.{ℕ, zero, suc, ◌≡◌, ◌+◌, ◌<◌, Bool, true, false, not, ◌&&◌, ◌||◌, ◌∙◌, List, [], ◌∷◌, Option, Some}
+use proofs.Names.{None, refl, sym, ap, subst, one-add, eqb-true, and_from, same_Some, list_all, list_any, if◌then◌else◌}
+use proofs.Names.{◌==◌, is_some, wrong, eq_self, plus_none, ScenarioValue, Obeys, CmdDef, Process, command_at}
+use proofs.Names.{process_by, process_if, process_of, is_initiator, IsSound, Array, Nexus, UnitState, is_at_unit}
+use proofs.Names.{is_held, unit_state_at, Item, Sent, command_item, has_item, is_done, is_of_host, is_open, sense_from}
+use proofs.Names.{sense_item, command_id, Outcome, ending_of, outcome_if, outcome_of, outcomes_from, latency_of, Ending}
+use proofs.Names.{Story, is_ended, Ready, RunState, array_of, item_want_time, ready_of, ready_time, seek_of, want_time}
+use proofs.Names.{command_fits, obeys_fits, IsCommandLine, is_served_by, HasDevice, some_none, none_some, plus_one}
+use proofs.{Names.{Items, AllUnits, AreOwed, AreQueued, IsOwed}, Queues.{HasQueue, IsThere, current_there, not_ready}}
+use proofs.{Queues.{process_there, queue_found}, Rooms.{initiator_there, some_open}, Unsent.{DoneBy, NoneOpen}}
+use proofs.Unsent.{no_sense_wanted, sent_all}
 
 -- ---- what is kept row by row
 

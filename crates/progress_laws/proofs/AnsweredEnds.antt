@@ -1,28 +1,10 @@
 -- In a prompt trace that has ended each command has its outcome, by what stands in the queues and what is owed to those in a hold.
-use Rattle.std.proofs.Common.{◌≡◌, true, ◌∙◌, List, Option, sym, ap, subst}
-use Rattle.std.specs.Prelude.{is_some}
-use Rattle.std.specs.List.{list_all}
-use Rattle.bus_due.specs.bus_trace.specs.declared.Row.{Row}
-use Rattle.bus_due.specs.scenario.specs.Value.{ScenarioValue}
-use Rattle.bus_due.specs.scenario.specs.Writing.{Obeys}
-use Rattle.bus_due.specs.disk_array.specs.SoundArray.{IsSound}
-use Rattle.bus_due.specs.disk_array.specs.Units.{Array}
-use Rattle.bus_due.specs.bus_story.specs.Outcomes.{Outcome, outcomes}
-use Rattle.bus_due.specs.bus_story.specs.Story.{Story}
-use Rattle.bus_due.specs.bus_story.specs.TraceHistory.{story}
-use Rattle.bus_due.specs.Next.{IsEnded}
-use Rattle.bus_due.specs.Plain.{IsPlain}
-use Rattle.bus_due.specs.RunState.{RunState, array_of, or_start}
-use Rattle.bus_due.specs.RunSteps.{run_state}
-use Rattle.bus_due.proofs.Plains.{run_state_plain}
-use Rattle.trace_laws.specs.ItemFacts.{ItemFacts}
-use Rattle.trace_laws.specs.Places.{PlaceFacts}
-use Rattle.progress_laws.proofs.Answered.{Resting, answered_at_rest}
-use Rattle.progress_laws.proofs.Ended.{Joined, free_when_ended, unwanted_when_ended}
-use Rattle.progress_laws.proofs.Endings.{have_endings}
-use Rattle.progress_laws.proofs.QueueRows.{HasArray}
-use Rattle.progress_laws.proofs.UnitTargets.{targets_there}
-use Rattle.progress_laws.specs.Queued.{AreOwed, AreQueued}
+use Rattle.progress_laws.proofs
+use proofs.Names.{◌≡◌, true, ◌∙◌, List, Option, sym, ap, subst, list_all, is_some, Row, ScenarioValue, Obeys, IsSound}
+use proofs.Names.{Array, Outcome, outcomes, Story, story, run_state_plain, IsEnded, IsPlain, RunState, array_of}
+use proofs.{Names.{or_start, run_state, ItemFacts, PlaceFacts, AreOwed, AreQueued}, Answered.{Resting}}
+use proofs.{Answered.{answered_at_rest}, Ended.{Joined, free_when_ended, unwanted_when_ended}, Endings.{have_endings}}
+use proofs.{QueueRows.{HasArray}, UnitTargets.{targets_there}}
 
 -- What the plain disk array is after the rows.
 pub place_array : (s : ScenarioValue) (p : List Row) → PlaceFacts s p → HasArray s (run_state s p)

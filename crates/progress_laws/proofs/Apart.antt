@@ -1,39 +1,17 @@
 -- Where no connection stands: in an arbitration its contender of the highest ID is due to win, in a calling its caller to go on or to
 -- give up, and under RST a device that drives it to release it. So where nothing is due the bus is free (6.1.1 to 6.1.4, 6.2.2).
-use Rattle.std.proofs.Common.{inl, inr, ℕ, zero, suc, ◌≡◌, ◌≢◌, ◌⊎◌, ◌<◌, ◌+◌, ◌^◌, ◌%◌, Bool, true, false, not, ◌&&◌, ◌==◌, ◌∙◌, List, Some, refl, sym, ap, subst, arith}
-use Rattle.std.specs.Prelude.{is_some, nat_lt, nat_le}
-use Rattle.std.proofs.Math.Nat.{mod-le}
-use Rattle.std.proofs.lemmas.Bool.{cases_eq, true≢false}
-use Rattle.std.proofs.lemmas.Bool.Decides.{nat_tests}
-use Rattle.std.proofs.lemmas.Nat.{pow_pos, pow_below}
-use Rattle.std.proofs.lemmas.Option.{none-some}
-use Rattle.bus_due.specs.bus_trace.specs.LineSet.{LineSet, none, has_id_above}
-use Rattle.bus_due.specs.bus_trace.proofs.Buses.{bus_none, bus_off, bus_data_below}
-use Rattle.bus_due.specs.bus_trace.specs.declared.Row.{Row}
-use Rattle.bus_due.specs.bus_trace.specs.declared.arbitration.Arbitration.{Arbitration}
-use Rattle.bus_due.specs.bus_trace.specs.Trace.{bus, drives}
-use Rattle.bus_due.specs.bus_trace.specs.declared.selection.Calling.{Calling}
-use Rattle.bus_due.specs.bus_lines.specs.declared.stage.Stage.TheVariants.{InArbitration, InCalling}
-use Rattle.bus_due.specs.bus_lines.specs.Stage.{stage}
-use Rattle.bus_due.specs.scenario.specs.Value.{ScenarioValue}
-use Rattle.bus_due.specs.bus_story.specs.Samples.{latency_of}
-use Rattle.bus_due.specs.bus_reactions.specs.declared.due.Due.{Due}
-use Rattle.bus_due.specs.bus_reactions.specs.Reactions.{due_at, due_where}
-use Rattle.bus_due.specs.bus_reactions.specs.declared.due.Myself.{Myself}
-use Rattle.bus_due.specs.bus_reactions.specs.declared.due.Want.{Want}
-use Rattle.bus_due.specs.bus_reactions.specs.Calling.{answered_due, calling_start}
-use Rattle.bus_due.specs.bus_reactions.specs.FreeBus.{contender_lines}
-use Rattle.bus_due.specs.Next.{IsEnded}
-use Rattle.trace_laws.specs.bus_laws.specs.Callings.{calling_lines, answered_calling, resumed_calling, won_call}
-use Rattle.trace_laws.specs.bus_laws.specs.Reactions.{device_with, own_time, unreset_due}
-use Rattle.trace_laws.specs.bus_laws.specs.Stages.{Standing, Arbitrating, ArbitrationWon, IsContender, BusStage, on_free_bus, in_arbitration, after_arbitration, with_both_ids, awaiting_answer, after_withdrawal, after_answer, after_takeover, in_reset, in_connection, FreeBus, is_connected}
-use Rattle.trace_laws.specs.bus_laws.proofs.CallDues.{want_at, asks_due, calls_due, gives_up_due, goes_on_due, waits_due}
-use Rattle.trace_laws.specs.bus_laws.proofs.Dues.{due_in}
-use Rattle.trace_laws.specs.bus_laws.proofs.Resets.{due_holding}
-use Rattle.trace_laws.specs.bus_laws.proofs.Rows.{stage_is}
-use Rattle.trace_laws.proofs.Called.{callee_at}
-use Rattle.progress_laws.proofs.Acts.{SomeDue, calm_end, moved, nothing_due, there_by}
-use Rattle.bus_due.specs.disk_array.specs.Seats.{is_initiator}
+use Rattle.progress_laws.proofs
+use proofs.Names.{inl, inr, ℕ, zero, suc, ◌≡◌, ◌≢◌, ◌⊎◌, ◌<◌, ◌+◌, ◌^◌, ◌%◌, Bool, true, false, not, ◌&&◌, ◌∙◌, List}
+use proofs.Names.{Some, refl, sym, ap, subst, arith, mod-le, cases_eq, true≢false, nat_tests, pow_pos, pow_below}
+use proofs.Names.{none-some, ◌==◌, is_some, nat_lt, nat_le, bus_none, bus_off, bus_data_below, LineSet, none}
+use proofs.Names.{has_id_above, bus, drives, Row, Arbitration, Calling, stage, InArbitration, InCalling, ScenarioValue}
+use proofs.Names.{is_initiator, latency_of, answered_due, calling_start, contender_lines, due_at, due_where, Due}
+use proofs.Names.{Myself, Want, IsEnded, want_at, asks_due, calls_due, gives_up_due, goes_on_due, waits_due, due_in}
+use proofs.Names.{due_holding, stage_is, calling_lines, answered_calling, resumed_calling, won_call, device_with}
+use proofs.Names.{own_time, unreset_due, Standing, Arbitrating, ArbitrationWon, IsContender, BusStage, on_free_bus}
+use proofs.Names.{in_arbitration, after_arbitration, with_both_ids, awaiting_answer, after_withdrawal, after_answer}
+use proofs.{Names.{after_takeover, in_reset, in_connection, FreeBus, is_connected, callee_at}, Acts.{SomeDue, calm_end}}
+use proofs.Acts.{moved, nothing_due, there_by}
 
 -- ---- under RST
 

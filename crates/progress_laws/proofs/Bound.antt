@@ -1,50 +1,21 @@
 -- Each contender of an arbitration has whom to call, and so has its winner (6.1.2 to 6.1.4).
-use Rattle.std.proofs.Common.{inl, inr, ℕ, ◌≡◌, ◌<◌, Bool, true, false, not, ◌&&◌, ◌||◌, ◌∙◌, List, [], ◌∷◌, Option, Some, None, refl, sym, ap, subst}
-use Rattle.std.specs.Prelude.{if◌then◌else◌, ◌==◌}
-use Rattle.std.proofs.lemmas.Bool.{cases_eq}
-use Rattle.std.proofs.lemmas.Option.{same_Some, none-some}
-use Rattle.bus_due.specs.bus_trace.specs.LineSet.{LineSet, none, union}
-use Rattle.bus_due.specs.bus_trace.proofs.Buses.{bus_on}
-use Rattle.bus_due.specs.bus_trace.proofs.OneRow.{drives-other, drives-own}
-use Rattle.bus_due.specs.bus_trace.proofs.Sets.{same_set-eq}
-use Rattle.bus_due.specs.bus_trace.specs.declared.Kind.TheVariants.{Drives}
-use Rattle.bus_due.specs.bus_trace.specs.declared.Row.{Row}
-use Rattle.bus_due.specs.bus_trace.specs.declared.arbitration.Arbitration.{Arbitration}
-use Rattle.bus_due.specs.bus_trace.specs.declared.changes.Change.{Change}
-use Rattle.bus_due.specs.bus_trace.specs.declared.connection.Connection.{Connection}
-use Rattle.bus_due.specs.bus_trace.specs.declared.selection.Call.{Call}
-use Rattle.bus_due.specs.bus_trace.specs.declared.selection.Calling.{Calling}
-use Rattle.bus_due.specs.bus_trace.specs.Changes.{change_of, falls, is_within, rises}
-use Rattle.bus_due.specs.bus_trace.specs.Terms.{arbitration, arbitration_after, call, call_goes_on, calling_after, called_goes_on, caller_goes_on, connection, connection_after, free_since, is_free}
-use Rattle.bus_due.specs.bus_trace.specs.Trace.{bus, drives, driven_after}
-use Rattle.bus_due.specs.bus_lines.specs.declared.stage.Stage.TheVariants.{InArbitration, OnFreeBus}
-use Rattle.bus_due.specs.bus_lines.specs.Stage.{stage}
-use Rattle.bus_due.specs.bus_rules.specs.Reset.{only_rst}
-use Rattle.bus_due.specs.bus_rules.specs.Rules.{broken_rule}
-use Rattle.bus_due.specs.scenario.specs.Value.{ScenarioValue}
-use Rattle.bus_due.specs.bus_reactions.specs.declared.due.Due.{Due}
-use Rattle.bus_due.specs.bus_reactions.specs.FreeBus.{contender_lines, free_due}
-use Rattle.bus_due.specs.Least.{IsLeast}
-use Rattle.bus_due.specs.Next.{due, IsPrompt}
-use Rattle.bus_due.specs.RunSteps.{run_state}
-use Rattle.bus_due.specs.Wants.{want_time}
-use Rattle.trace_laws.specs.scsi_device.specs.Lines.{FitsBus}
-use Rattle.trace_laws.specs.bus_laws.specs.Callings.{won_call}
-use Rattle.trace_laws.specs.bus_laws.specs.Reactions.{device_with, own_time, unreset_due}
-use Rattle.trace_laws.specs.bus_laws.specs.Rows.{row_of_lines}
-use Rattle.trace_laws.specs.bus_laws.specs.Stages.{Arbitrating, ArbitrationWon, BusStage, CalmStanding, FreeBus, IsContender, is_connected, UnderRst, on_free_bus, in_arbitration, after_arbitration, with_both_ids, awaiting_answer, after_withdrawal, after_answer, after_takeover, in_reset, in_connection}
-use Rattle.trace_laws.specs.bus_laws.proofs.Apart.{still_keeps}
-use Rattle.trace_laws.specs.bus_laws.proofs.Dues.{free_due_is, idle_due, is_entry, is_entry_in, is_there, win_due}
-use Rattle.trace_laws.specs.bus_laws.proofs.Prompt.{least_is}
-use Rattle.trace_laws.specs.bus_laws.proofs.Rows.{drives_own, stage_is}
-use Rattle.trace_laws.specs.bus_laws.proofs.Together.{by_calm, by_reset, reset_or_calm, not_linked}
-use Rattle.trace_laws.specs.link_laws.specs.LinkStages.{AnyStage, apart, linked}
-use Rattle.trace_laws.proofs.FirstRows.{under_rst}
-use Rattle.trace_laws.proofs.Joint.{Stood, link_connection}
-use Rattle.trace_laws.proofs.UnderRst.{line_off, quiet_at_end, reset_rule, drives_next}
-use Rattle.progress_laws.proofs.Apart.{IsBound}
-use Rattle.progress_laws.proofs.Entries.{IsApart, WantsAreItems, enters_bound, enters_by, entry_wanted, others_bound, row_apart, still_bound}
-use Rattle.bus_due.specs.bus_base.proofs.Tests.{wrong, wrong', and_false, implied}
+use Rattle.progress_laws.proofs
+use proofs.Names.{inl, inr, ℕ, ◌≡◌, ◌<◌, Bool, true, false, not, ◌&&◌, ◌||◌, ◌∙◌, List, [], ◌∷◌, Option, Some, None}
+use proofs.Names.{refl, sym, ap, subst, cases_eq, same_Some, none-some, if◌then◌else◌, ◌==◌, wrong, wrong', and_false}
+use proofs.Names.{implied, bus_on, drives-other, drives-own, same_set-eq, change_of, falls, is_within, rises, LineSet}
+use proofs.Names.{none, union, arbitration, arbitration_after, call, call_goes_on, calling_after, called_goes_on}
+use proofs.Names.{caller_goes_on, connection, connection_after, free_since, is_free, bus, drives, driven_after, Drives}
+use proofs.Names.{Row, Arbitration, Change, Connection, Call, Calling, stage, InArbitration, OnFreeBus, only_rst}
+use proofs.Names.{broken_rule, ScenarioValue, contender_lines, free_due, Due, IsLeast, due, IsPrompt, run_state}
+use proofs.Names.{want_time, FitsBus, still_keeps, free_due_is, idle_due, is_entry, is_entry_in, is_there, win_due}
+use proofs.Names.{least_is, drives_own, stage_is, by_calm, reset_or_calm, not_linked, won_call, device_with, own_time}
+use proofs.Names.{unreset_due, row_of_lines, Arbitrating, ArbitrationWon, BusStage, CalmStanding, FreeBus, IsContender}
+use proofs.Names.{is_connected, UnderRst, on_free_bus, in_arbitration, after_arbitration, with_both_ids}
+use proofs.Names.{awaiting_answer, after_withdrawal, after_answer, after_takeover, in_reset, in_connection, AnyStage}
+use proofs.Names.{apart, linked, under_rst, Stood, link_connection, line_off, quiet_at_end, reset_rule, drives_next}
+use proofs.{Apart.{IsBound}, Entries.{IsApart, WantsAreItems, enters_bound, enters_by, entry_wanted, others_bound}}
+use proofs.Entries.{row_apart, still_bound}
+use Rattle.trace_laws.specs.bus_laws.proofs.Together.{by_reset}
 
 pub record AreBound (s : ScenarioValue) (p : List Row) : Type 0 where
   pub contenders : (a : Arbitration) → Arbitrating s p a → (d : ℕ) → d < 8 → IsContender s p a d → IsBound s p d

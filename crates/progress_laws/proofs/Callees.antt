@@ -1,28 +1,11 @@
 -- A device calls another of the eight: an initiator the target of its item, a target the initiator of the process that it has ready.
-use Rattle.std.proofs.Common.{ℕ, ◌≡◌, ◌≢◌, ◌<◌, Bool, true, false, ◌∙◌, List, Option, Some, None, refl, sym, ap, subst}
-use Rattle.std.specs.Prelude.{if◌then◌else◌}
-use Rattle.std.proofs.lemmas.Option.{same_Some, none-some}
-use Rattle.bus_due.specs.bus_base.specs.declared.ProcId.{ProcId}
-use Rattle.bus_due.specs.bus_trace.specs.declared.Row.{Row}
-use Rattle.bus_due.specs.bus_trace.specs.declared.connection.Connection.{Connection}
-use Rattle.bus_due.specs.scenario.specs.declared.value.CmdDef.{CmdDef}
-use Rattle.bus_due.specs.scenario.specs.Value.{ScenarioValue}
-use Rattle.bus_due.specs.disk_array.specs.Processes.{Process, command_at, process_by, process_if, process_of, sense_process, command_process}
-use Rattle.bus_due.specs.disk_array.specs.Seats.{is_initiator}
-use Rattle.bus_due.specs.bus_story.specs.Items.{Item}
-use Rattle.bus_due.specs.bus_story.specs.TraceHistory.{aim_of}
-use Rattle.bus_due.specs.bus_dialogue.specs.Wants.{Ready}
-use Rattle.bus_due.specs.Plain.{AreOfDevices}
-use Rattle.bus_due.specs.RunSteps.{run_state}
-use Rattle.bus_due.specs.Wants.{abort_target, initiator_if, ready_of, target_if, target_of}
-use Rattle.trace_laws.specs.scsi_device.specs.Lines.{FitsBus}
-use Rattle.trace_laws.specs.scsi_device.proofs.FitLines.{abort_fits, command_fits, seats_are, units_are}
-use Rattle.trace_laws.specs.bus_books.specs.Items.{IsItem, is_process, is_abort}
-use Rattle.trace_laws.specs.bus_books.specs.Traces.{IsReadyFor}
-use Rattle.trace_laws.specs.bus_books.proofs.Aims.{aims_are}
-use Rattle.trace_laws.specs.bus_books.proofs.ReadyProcesses.{reselects_by}
-use Rattle.trace_laws.proofs.Called.{callee_at, own_units}
-use Rattle.progress_laws.proofs.Apart.{IsBound}
+use Rattle.progress_laws.proofs
+use proofs.Names.{ℕ, ◌≡◌, ◌≢◌, ◌<◌, Bool, true, false, ◌∙◌, List, Option, Some, None, refl, sym, ap, subst, same_Some}
+use proofs.Names.{none-some, if◌then◌else◌, ProcId, Row, Connection, ScenarioValue, CmdDef, Process, command_at}
+use proofs.Names.{process_by, process_if, process_of, sense_process, command_process, is_initiator, Item, aim_of, Ready}
+use proofs.Names.{AreOfDevices, run_state, abort_target, initiator_if, ready_of, target_if, target_of, abort_fits}
+use proofs.Names.{command_fits, seats_are, units_are, FitsBus, aims_are, reselects_by, IsItem, is_process, is_abort}
+use proofs.{Names.{IsReadyFor, callee_at, own_units}, Apart.{IsBound}}
 
 -- ---- the two ends of a process
 

@@ -1,12 +1,9 @@
 -- A queue in which a command waits has one that may run: the last HEAD OF QUEUE one, or else the first (6.6.17, 7.8.2).
-use Rattle.std.proofs.Common.{ℕ, zero, suc, ◌≡◌, ◌+◌, ◌<◌, ◌≤◌, Bool, true, false, ◌∙◌, List, [], ◌∷◌, ◌++◌, length, Option, Some, None, refl, sym, ap, subst, arith}
-use Rattle.std.specs.Prelude.{if◌then◌else◌}
-use Rattle.bus_due.specs.bus_base.specs.declared.events.Pick.{Pick}
-use Rattle.bus_due.specs.bus_base.specs.declared.events.Pick.TheVariants as picks
-use Rattle.bus_due.specs.disk_array.specs.declared.entries.Entry.{Entry}
-use Rattle.bus_due.specs.disk_array.specs.Processes.{Process}
-use Rattle.bus_due.specs.disk_array.specs.Order.{choice, chosen_place, entries_of, entry_of, is_head, last_head, last_of, may_run_after, picked_place, process_at, process_at_if, runnable_after, runnable_by}
-use Rattle.tag_queue.proofs.Chosen.{first_runs}
+use Rattle.progress_laws.proofs
+use proofs.Names.{ℕ, zero, suc, ◌≡◌, ◌+◌, ◌<◌, ◌≤◌, Bool, true, false, ◌∙◌, List, [], ◌∷◌, ◌++◌, length, Option, Some}
+use proofs.Names.{None, refl, sym, ap, subst, arith, if◌then◌else◌, Pick, choice, chosen_place, entries_of, entry_of}
+use proofs.Names.{is_head, last_head, last_of, may_run_after, picked_place, process_at, process_at_if, runnable_after}
+use proofs.Names.{runnable_by, Process, Entry, first_runs}
 
 -- ---- places
 
@@ -24,8 +21,8 @@ last_below place n [] lt h = lt
 last_below place n (later ∷ more) lt h = last_below later n more h.0 h.1
 
 picked_below : (pick : Pick) (n place : ℕ) (more : List ℕ) → place < n → AllBelow n more → IsBelow (picked_place pick (place ∷ more)) n
-picked_below picks.First n place more lt h = record { place = place; is = refl; below = lt }
-picked_below picks.Last n place more lt h = record { place = last_of place more; is = refl; below = last_below place n more lt h }
+picked_below Pick.First n place more lt h = record { place = place; is = refl; below = lt }
+picked_below Pick.Last n place more lt h = record { place = last_of place more; is = refl; below = last_below place n more lt h }
 
 -- ---- those that may run
 

@@ -1,30 +1,16 @@
 -- In a connection one of its ends is due to act: the target to begin a phase, to ask for a byte, to end REQ or to leave the phase; the
 -- initiator to answer, to give its byte or to end ACK; and by pulses the one that the other waits for (6.1.5 to 6.1.10).
-use Rattle.std.proofs.Common.{inl, inr, ℕ, ◌≡◌, ◌⊎◌, Bool, true, false, not, ◌||◌, ◌==◌, ◌∙◌, List, Option, Some, None, length, refl, sym, ap, subst}
-use Rattle.std.specs.Prelude.{if◌then◌else◌, is_some, nat_lt}
-use Rattle.std.specs.List.{find}
-use Rattle.bus_due.specs.bus_trace.specs.LineSet.{LineSet}
-use Rattle.bus_due.specs.bus_trace.specs.declared.Row.{Row}
-use Rattle.bus_due.specs.bus_trace.specs.declared.connection.Connection.{Connection}
-use Rattle.bus_due.specs.bus_trace.specs.Trace.{bus}
-use Rattle.bus_due.specs.bus_lines.specs.Handshakes.{handshakes}
-use Rattle.bus_due.specs.scenario.specs.declared.value.HostDef.{HostDef}
-use Rattle.bus_due.specs.scenario.specs.declared.value.TargetDef.{TargetDef}
-use Rattle.bus_due.specs.scenario.specs.Value.{ScenarioValue}
-use Rattle.bus_due.specs.bus_story.specs.Samples.{host_latency, target_latency}
-use Rattle.bus_due.specs.bus_reactions.specs.declared.due.Due.{Due}
-use Rattle.bus_due.specs.Defs.{host_of}
-use Rattle.bus_due.specs.Next.{IsEnded}
-use Rattle.trace_laws.specs.bus_laws.specs.Ends.{EndLines, Linked}
-use Rattle.trace_laws.specs.bus_laws.specs.Stages.{Standing, HasDevice}
-use Rattle.trace_laws.specs.link_laws.specs.LinkStages.{LinkStage, when_selected, when_settling, when_turning, when_offering, when_shaking, when_pulsing}
-use Rattle.trace_laws.specs.link_laws.specs.Phases.{Shaking}
-use Rattle.trace_laws.specs.link_laws.specs.Pulses.{Pulsing, offset_here, run_count}
-use Rattle.trace_laws.specs.link_laws.proofs.PulseDues.{pulsed_target_in, pulsed_target_out, pulsed_initiator_in, pulsed_initiator_out, target_choice, initiator_choice}
-use Rattle.trace_laws.specs.link_laws.proofs.StageDues.{selected_target, settling_target, turning_target, offering_target, answered_target, between_target, ending_initiator_in, ending_initiator_out, asking_initiator_in, asking_initiator_out, giving_initiator_out}
-use Rattle.trace_laws.specs.Ends.{HasEnds}
-use Rattle.progress_laws.proofs.Acts.{SomeDue, there_by, moved, target_end, initiator_end}
-use Rattle.bus_due.specs.bus_base.proofs.Tests.{zero_of, wrong', wrong}
+use Rattle.progress_laws.proofs
+use proofs.Names.{inl, inr, ℕ, ◌≡◌, ◌⊎◌, Bool, true, false, not, ◌||◌, ◌∙◌, List, Option, Some, None, length, refl, sym}
+use proofs.Names.{ap, subst, find, ◌==◌, if◌then◌else◌, is_some, nat_lt, zero_of, wrong', wrong, LineSet, bus, Row}
+use proofs.Names.{Connection, handshakes, ScenarioValue, HostDef, TargetDef, host_latency, target_latency, Due, host_of}
+use proofs.Names.{IsEnded, EndLines, Linked, Standing, HasDevice, pulsed_target_in, pulsed_target_out}
+use proofs.Names.{pulsed_initiator_in, pulsed_initiator_out, target_choice, initiator_choice, selected_target}
+use proofs.Names.{settling_target, turning_target, offering_target, answered_target, between_target}
+use proofs.Names.{ending_initiator_in, ending_initiator_out, asking_initiator_in, asking_initiator_out}
+use proofs.Names.{giving_initiator_out, LinkStage, when_selected, when_settling, when_turning, when_offering}
+use proofs.{Names.{when_shaking, when_pulsing, Shaking, Pulsing, offset_here, run_count, HasEnds}, Acts.{SomeDue}}
+use proofs.Acts.{there_by, moved, target_end, initiator_end}
 
 -- Both ends are there.
 pub record AreThere (s : ScenarioValue) (n : Connection) : Type 0 where

@@ -1,28 +1,13 @@
 -- The events of a row, where each pays well: those to whom a sense is owed stand in the hold after them; and which sense is owed anew.
-use Rattle.std.proofs.Common.{inl, inr, ℕ, ◌≡◌, ◌⊎◌, Bool, true, false, not, ◌&&◌, ◌∙◌, List, [], ◌∷◌, ◌++◌, Option, Some, None, refl, sym, ap, subst}
-use Rattle.std.specs.Prelude.{if◌then◌else◌, ◌==◌, ⊤}
-use Rattle.std.specs.List.{list_any}
-use Rattle.bus_due.specs.bus_base.specs.declared.Event.{Event}
-use Rattle.bus_due.specs.bus_base.specs.declared.Event.TheVariants as events
-use Rattle.bus_due.specs.bus_base.specs.declared.ProcId.{ProcId}
-use Rattle.bus_due.specs.cdb_codec.specs.declared.status.TheConstants.{CHECK_CONDITION}
-use Rattle.bus_due.specs.scenario.specs.Value.{ScenarioValue}
-use Rattle.bus_due.specs.disk_array.specs.ArrayHistory.{array_step}
-use Rattle.bus_due.specs.disk_array.specs.SoundArray.{HasSeats, IsSound}
-use Rattle.bus_due.specs.disk_array.specs.Units.{Array, Nexus}
-use Rattle.bus_due.specs.disk_array.proofs.SoundArrays.{step_sound}
-use Rattle.bus_due.specs.bus_story.specs.Items.{Item, Sent, has_item, process, sense_item}
-use Rattle.bus_due.specs.bus_story.specs.Story.{Story, by_abort, by_reset, by_status, is_aborted, is_sense_stopped, story_after_event, story_after_events, story_with_end}
-use Rattle.bus_due.specs.RunSteps.{array_after_events}
-use Rattle.trace_laws.specs.ItemFacts.{AreChecked}
-use Rattle.trace_laws.proofs.OverItems.{ends_over, events_checked, events_grow, in_append}
-use Rattle.bus_due.specs.bus_story.proofs.StorySteps.{ends_checks}
-use Rattle.trace_laws.proofs.RowEvents.{AllOf, IsOf}
-use Rattle.progress_laws.proofs.DebtSteps.{debt_before, is_checked, same_debt, step_pays}
-use Rattle.progress_laws.proofs.FetchedSenses.{step_fetches}
-use Rattle.progress_laws.proofs.OwedEvents.{IfHolds}
-use Rattle.progress_laws.proofs.OwedRows.{AllEndWell}
-use Rattle.progress_laws.specs.Debts.{AreFetched, Debts, IsDebt, PaysWell}
+use Rattle.progress_laws.proofs
+use proofs.Names.{inl, inr, ℕ, ◌≡◌, ◌⊎◌, Bool, true, false, not, ◌&&◌, ◌∙◌, List, [], ◌∷◌, ◌++◌, Option, Some, None}
+use proofs.Names.{refl, sym, ap, subst, list_any, if◌then◌else◌, ◌==◌, ⊤, Event, ProcId, CHECK_CONDITION, ScenarioValue}
+use proofs.Names.{step_sound, array_step, HasSeats, IsSound, Array, Nexus, ends_checks, Item, Sent, has_item, process}
+use proofs.Names.{sense_item, Story, by_abort, by_reset, by_status, is_aborted, is_sense_stopped, story_after_event}
+use proofs.Names.{story_after_events, story_with_end, array_after_events, ends_over, events_checked, events_grow}
+use proofs.{Names.{in_append, AllOf, IsOf, AreChecked, AreFetched, Debts, IsDebt, PaysWell}, DebtSteps.{debt_before}}
+use proofs.{DebtSteps.{is_checked, same_debt, step_pays}, FetchedSenses.{step_fetches}, OwedEvents.{IfHolds}}
+use proofs.OwedRows.{AllEndWell}
 
 -- ---- all of them
 
@@ -60,14 +45,14 @@ events_pay s b o (event ∷ shown) seats well k = go (array_after_events s o sho
 -- So a REQUEST SENSE that ends does so with GOOD, and none is lost.
 pub paid_ends : (s : ScenarioValue) (b : Story) (shown : List Event) → AllPay s b shown → AllEndWell s b shown
 paid_ends s b [] h = tt
-paid_ends s b (events.Accept id ∷ shown) h = (tt, paid_ends s b shown h.1)
-paid_ends s b (events.Refuse id ∷ shown) h = (tt, paid_ends s b shown h.1)
-paid_ends s b (events.Run id ∷ shown) h = (tt, paid_ends s b shown h.1)
-paid_ends s b (events.Fail id code ∷ shown) h = (tt, paid_ends s b shown h.1)
-paid_ends s b (events.End id status ∷ shown) h = ((λ e. (h.0.0 e).0, λ e. (h.0.1 e).0), paid_ends s b shown h.1)
-paid_ends s b (events.Lost id ∷ shown) h = (h.0, paid_ends s b shown h.1)
-paid_ends s b (events.Aborted i t n what ∷ shown) h = (tt, paid_ends s b shown h.1)
-paid_ends s b (events.Reset dev ∷ shown) h = (tt, paid_ends s b shown h.1)
+paid_ends s b (Event.Accept id ∷ shown) h = (tt, paid_ends s b shown h.1)
+paid_ends s b (Event.Refuse id ∷ shown) h = (tt, paid_ends s b shown h.1)
+paid_ends s b (Event.Run id ∷ shown) h = (tt, paid_ends s b shown h.1)
+paid_ends s b (Event.Fail id code ∷ shown) h = (tt, paid_ends s b shown h.1)
+paid_ends s b (Event.End id status ∷ shown) h = ((λ e. (h.0.0 e).0, λ e. (h.0.1 e).0), paid_ends s b shown h.1)
+paid_ends s b (Event.Lost id ∷ shown) h = (h.0, paid_ends s b shown h.1)
+paid_ends s b (Event.Aborted i t n what ∷ shown) h = (tt, paid_ends s b shown h.1)
+paid_ends s b (Event.Reset dev ∷ shown) h = (tt, paid_ends s b shown h.1)
 
 -- ---- which sense is owed anew: that of the process of the connection, which is over then
 
@@ -78,20 +63,20 @@ pub record IsNew (c : Sent) (item : Option Item) (n : ℕ) : Type 0 where
 
 event_debt : (s : ScenarioValue) (b : Story) (event : Event) (item : Option Item) (n : ℕ) (q : Nexus) → IsOf item event → IsDebt s (story_after_event s b event).sent n q
     → IsNew (story_after_event s b event).sent item n ⊎ IsDebt s b.sent n q
-event_debt s b (events.Accept id) item n q own d = inr d
-event_debt s b (events.Refuse id) item n q own d = inr d
-event_debt s b (events.Run id) item n q own d = inr d
-event_debt s b (events.Fail id code) item n q own d = inr d
-event_debt s b (events.End id status) item n q own d = go (not id.sense && status == CHECK_CONDITION) refl
+event_debt s b (Event.Accept id) item n q own d = inr d
+event_debt s b (Event.Refuse id) item n q own d = inr d
+event_debt s b (Event.Run id) item n q own d = inr d
+event_debt s b (Event.Fail id code) item n q own d = inr d
+event_debt s b (Event.End id status) item n q own d = go (not id.sense && status == CHECK_CONDITION) refl
   where
     c : Sent
-    c = (story_after_event s b (events.End id status)).sent
+    c = (story_after_event s b (Event.End id status)).sent
 
     ends : Story
     ends = story_with_end b id (by_status status)
 
     more : (m : ℕ) → has_item b.sent.over (sense_item m) ≡ true → has_item c.over (sense_item m) ≡ true
-    more m z = (events_grow s b (events.End id status ∷ [])).over (sense_item m) z
+    more m z = (events_grow s b (Event.End id status ∷ [])).over (sense_item m) z
 
     checks : (x : Bool) → (not id.sense && status == CHECK_CONDITION) ≡ x
         → c.checks ≡ (if x then record ends { sent = record ends.sent { checks = ends.sent.checks ++ id.command ∷ [] } } else ends).sent.checks
@@ -104,15 +89,15 @@ event_debt s b (events.End id status) item n q own d = go (not id.sense && statu
         by : (list_any (λ k. k == n) b.sent.checks ≡ true) ⊎ (id.command ≡ n) → IsNew c item n ⊎ IsDebt s b.sent n q
         by (inl old) = inr (debt_before s b.sent c n q more old d)
         by (inr new) = inl (record { id = id; item_is = own id refl; over = ends_over s b id status })
-event_debt s b (events.Lost id) item n q own d =
-    inr (same_debt s b.sent (story_after_event s b (events.Lost id)).sent n q refl (λ m z. (events_grow s b (events.Lost id ∷ [])).over (sense_item m) z) d)
-event_debt s b (events.Aborted i t m what) item n q own d =
-    inr (same_debt s b.sent (story_after_event s b (events.Aborted i t m what)).sent n q
+event_debt s b (Event.Lost id) item n q own d =
+    inr (same_debt s b.sent (story_after_event s b (Event.Lost id)).sent n q refl (λ m z. (events_grow s b (Event.Lost id ∷ [])).over (sense_item m) z) d)
+event_debt s b (Event.Aborted i t m what) item n q own d =
+    inr (same_debt s b.sent (story_after_event s b (Event.Aborted i t m what)).sent n q
     (ends_checks (is_aborted i t m what) (is_sense_stopped i t m what) by_abort 1 s.commands b)
-    (λ j z. (events_grow s b (events.Aborted i t m what ∷ [])).over (sense_item j) z) d)
-event_debt s b (events.Reset dev) item n q own d =
-    inr (same_debt s b.sent (story_after_event s b (events.Reset dev)).sent n q (ends_checks (λ c. true) (λ c. true) by_reset 1 s.commands b)
-    (λ j z. (events_grow s b (events.Reset dev ∷ [])).over (sense_item j) z) d)
+    (λ j z. (events_grow s b (Event.Aborted i t m what ∷ [])).over (sense_item j) z) d)
+event_debt s b (Event.Reset dev) item n q own d =
+    inr (same_debt s b.sent (story_after_event s b (Event.Reset dev)).sent n q (ends_checks (λ c. true) (λ c. true) by_reset 1 s.commands b)
+    (λ j z. (events_grow s b (Event.Reset dev ∷ [])).over (sense_item j) z) d)
 
 pub new_debt : (s : ScenarioValue) (b : Story) (shown : List Event) (item : Option Item) (n : ℕ) (q : Nexus) → AllOf item shown
     → IsDebt s (story_after_events s b shown).sent n q → IsNew (story_after_events s b shown).sent item n ⊎ IsDebt s b.sent n q

@@ -1,64 +1,20 @@
 -- The events of a row in a connection pay well, by what is kept before it.
-use Rattle.std.proofs.Common.{inl, inr, ℕ, ◌≡◌, ◌⊎◌, ◌<◌, Bool, true, false, not, ◌&&◌, ◌||◌, ◌∙◌, List, [], ◌∷◌, Option, Some, None, refl, sym, ap, subst}
-use Rattle.std.specs.Prelude.{◌==◌, is_none, is_some, slice_index}
-use Rattle.std.specs.List.{list_any}
-use Rattle.std.proofs.lemmas.Option.{same_Some}
-use Rattle.bus_due.specs.bus_base.specs.declared.Event.TheVariants as events
-use Rattle.bus_due.specs.bus_base.specs.declared.ProcId.{ProcId}
-use Rattle.bus_due.specs.bus_base.proofs.Tests.{wrong, and_first, and_second, or_other}
-use Rattle.bus_due.specs.bus_trace.specs.declared.Row.{Row}
-use Rattle.bus_due.specs.bus_trace.specs.declared.changes.Change.{Change}
-use Rattle.bus_due.specs.bus_trace.specs.declared.connection.Connection.{Connection}
-use Rattle.bus_due.specs.bus_trace.specs.Changes.{change_of, rises}
-use Rattle.bus_due.specs.bus_trace.specs.LineSet.{LineSet}
-use Rattle.bus_due.specs.bus_trace.specs.Phases.{is_message_in}
-use Rattle.bus_due.specs.bus_trace.specs.Trace.{bus}
-use Rattle.bus_due.specs.cdb_codec.specs.declared.status.TheConstants.{GOOD}
-use Rattle.bus_due.specs.scenario.specs.declared.value.CmdDef.{CmdDef}
-use Rattle.bus_due.specs.scenario.specs.Value.{ScenarioValue}
-use Rattle.bus_due.specs.disk_array.specs.ArrayHistory.{reply_in}
-use Rattle.bus_due.specs.disk_array.specs.Execution.{Reply}
-use Rattle.bus_due.specs.disk_array.specs.Processes.{Process, command_at, process_of}
-use Rattle.bus_due.specs.disk_array.specs.Units.{nexus_of}
+use Rattle.progress_laws.proofs
+use proofs.Names.{inl, inr, ℕ, ◌≡◌, ◌⊎◌, ◌<◌, Bool, true, false, not, ◌&&◌, ◌||◌, ◌∙◌, List, [], ◌∷◌, Option, Some}
+use proofs.Names.{None, refl, sym, ap, subst, same_Some, list_any, ◌==◌, is_none, is_some, slice_index, wrong}
+use proofs.Names.{and_first, and_second, or_other, Event, ProcId, change_of, rises, LineSet, is_message_in, bus, Row}
+use proofs.Names.{Change, Connection, GOOD, ScenarioValue, CmdDef, reply_in, Reply, Process, command_at, process_of}
+use proofs.Names.{nexus_of, RowReading, row_reading, CarriedBytes, carried_if, is_complete, is_completion}
+use proofs.Names.{row_events_by, Item, Sent, command_item, has_item, process, sense_item, Link, Story, story_by_change}
+use proofs.Names.{phase_of, run_state_plain, target_def_of, IsPlain, RunState, array_of, bus_of, carried_here, item_of}
+use proofs.Names.{process_item, run_state, leaving, task_if, is_true_telling, telling, failure_is, lost_calm, loss_by}
+use proofs.Names.{has_event, is_in_phase, Knows, gives_up, is_failure, is_left_as_due, is_left_by, is_loss}
+use proofs.Names.{is_past_limit, left_as_due, change_plain, risen, items_open, carried_of_item, row_of, NextStood}
+use proofs.Names.{change_over, alternating, Whole, IsChecked, TalksBy, awaits, talk_of, IsStatusOf, DebtBooks, IsDebt}
+use proofs.{Names.{NoDebt, PaysWell, is_owed, nexus_of_command}, DebtEvents.{AllPay}, DebtRows.{Allows, GivenUp, Shown}}
+use proofs.DebtRows.{completes, fails_elsewhere, given_up, loses_elsewhere, no_ends, past_not_held, pays_all, row_shown}
+use proofs.{DebtSteps.{same_no_debt}, OwedEvents.{OfCommand, of_command}, OwedRows.{changed}}
 use Rattle.bus_due.specs.disk_array.proofs.SoundArrays.{id_is}
-use Rattle.bus_due.specs.bus_story.specs.BusState.{RowReading, row_reading}
-use Rattle.bus_due.specs.bus_story.specs.CarriedBytes.{CarriedBytes}
-use Rattle.bus_due.specs.bus_story.specs.HistoryEvents.{carried_if, is_complete, is_completion, row_events_by}
-use Rattle.bus_due.specs.bus_story.specs.Items.{Item, Sent, command_item, has_item, process, sense_item}
-use Rattle.bus_due.specs.bus_story.specs.Links.{Link}
-use Rattle.bus_due.specs.bus_story.specs.Story.{Story}
-use Rattle.bus_due.specs.bus_story.specs.TraceHistory.{story_by_change}
-use Rattle.bus_due.specs.bus_dialogue.specs.NextPhase.{phase_of}
-use Rattle.bus_due.specs.Defs.{target_def_of}
-use Rattle.bus_due.specs.Plain.{IsPlain}
-use Rattle.bus_due.specs.RunState.{RunState, array_of, bus_of, carried_here, item_of, process_item}
-use Rattle.bus_due.specs.RunSteps.{run_state}
-use Rattle.bus_due.specs.Sights.{leaving}
-use Rattle.bus_due.specs.Tasks.{task_if}
-use Rattle.bus_due.specs.Telling.{is_true_telling, telling}
-use Rattle.bus_due.proofs.Plains.{run_state_plain}
-use Rattle.trace_laws.specs.bus_books.specs.FullQueues.{has_event}
-use Rattle.trace_laws.specs.bus_books.specs.WrongParity.{gives_up, is_failure, is_left_as_due, is_left_by, is_loss, is_past_limit, left_as_due}
-use Rattle.trace_laws.specs.bus_books.proofs.GiveUps.{failure_is, lost_calm, loss_by}
-use Rattle.trace_laws.specs.bus_books.specs.Hearing.{is_in_phase}
-use Rattle.trace_laws.specs.bus_books.specs.Knowing.{Knows}
-use Rattle.trace_laws.specs.bus_laws.proofs.Apart.{change_plain}
-use Rattle.trace_laws.specs.ItemFacts.{IsChecked}
-use Rattle.trace_laws.specs.ItemTalks.{TalksBy, awaits, talk_of}
-use Rattle.trace_laws.specs.Statuses.{IsStatusOf}
-use Rattle.trace_laws.proofs.FreshItems.{items_open}
-use Rattle.trace_laws.proofs.InMoves.{alternating}
-use Rattle.trace_laws.proofs.Joint.{NextStood}
-use Rattle.trace_laws.proofs.RowEvents.{carried_of_item, row_of}
-use Rattle.trace_laws.proofs.Whole.{Whole}
-use Rattle.trace_laws.proofs.Tests.{risen}
-use Rattle.trace_laws.proofs.PointerWaits.{change_over}
-use Rattle.progress_laws.proofs.DebtEvents.{AllPay}
-use Rattle.progress_laws.proofs.DebtRows.{Allows, GivenUp, Shown, completes, fails_elsewhere, given_up, loses_elsewhere, no_ends, past_not_held, pays_all, row_shown}
-use Rattle.progress_laws.proofs.DebtSteps.{same_no_debt}
-use Rattle.progress_laws.proofs.OwedEvents.{OfCommand, of_command}
-use Rattle.progress_laws.proofs.OwedRows.{changed}
-use Rattle.progress_laws.specs.Debts.{DebtBooks, IsDebt, NoDebt, PaysWell, is_owed, nexus_of_command}
 
 -- ---- the change of the bus: which REQUEST SENSE are over
 
@@ -143,14 +99,14 @@ allowed s p row n w nx books con calm knows = record { fails = fails; losses = l
     told : is_true_telling s k row d ≡ true
     told = and_second (telling s p) (is_true_telling s k row d) nx.told
 
-    fails : (id : ProcId) (code : ℕ) → has_event (row_events_by s k.story d row) (events.Fail id code) ≡ true → id.sense ≡ false
+    fails : (id : ProcId) (code : ℕ) → has_event (row_events_by s k.story d row) (Event.Fail id code) ≡ true → id.sense ≡ false
     fails id code has =
         let f = failure_is s p row n id code con told has in
         given_up_plain s p n id w books con calm
         (fails_elsewhere k.exchange.plan.cause code (phase_of (bus_of k)) (and_first (is_failure k.exchange.plan.cause code (phase_of (bus_of k))) (gives_up s p row n id) f))
         (given_up s p row n id (and_second (is_failure k.exchange.plan.cause code (phase_of (bus_of k))) (gives_up s p row n id) f))
 
-    losses : (id : ProcId) → item_of k.story.link ≡ Some (process id) → has_event (row_events_by s k.story d row) (events.Lost id) ≡ true → id.sense ≡ false
+    losses : (id : ProcId) → item_of k.story.link ≡ Some (process id) → has_event (row_events_by s k.story d row) (Event.Lost id) ≡ true → id.sense ≡ false
     losses id item has =
         let served : k.served ≡ Some (process id) = known_served s k n (process id) knows item in
         let own : (r : Process) × (process_of s id ≡ Some r) = w.places.of_scenario id served in
@@ -159,7 +115,7 @@ allowed s p row n w nx books con calm knows = record { fails = fails; losses = l
         (is_left_as_due s k d) nx.left in
         let f = loss_by s p row n own.0 con told (ap (process_of s) same ∙ own.1)
         (λ gone. or_other (is_some d.next) (is_none (leaving s k n.target).to) gone (left_free (lost_calm s k row d id told has) left))
-        (ap (λ (x : ProcId). has_event (row_events_by s k.story d row) (events.Lost x)) same ∙ has) in
+        (ap (λ (x : ProcId). has_event (row_events_by s k.story d row) (Event.Lost x)) same ∙ has) in
         ap (λ (x : ProcId). x.sense) (sym same)
         ∙ given_up_plain s p n own.0.id w books con calm
         (loses_elsewhere k.exchange.plan.cause (phase_of (bus_of k)) (and_first (is_loss k.exchange.plan.cause (phase_of (bus_of k))) (gives_up s p row n own.0.id) f))
@@ -232,7 +188,7 @@ ends_well : (s : ScenarioValue) (p : List Row) (row : Row) (n : Connection) (c :
     → (run_state s p).story.bus_state.connection ≡ Some n → (bus_of (run_state s p)).rst ≡ false → (row_reading (run_state s p).story.bus_state row).change.after.rst ≡ false
     → (knows : Knows s (run_state s p) n) → carried_if (run_state s p).story knows.link.item ≡ Some c
     → is_completion knows.link (row_reading (run_state s p).story.bus_state row).change ≡ true
-    → PaysWell s (story_by_change s (run_state s p).story (row_reading (run_state s p).story.bus_state row) row).sent (events.End c.id (slice_index c.status.bytes 0))
+    → PaysWell s (story_by_change s (run_state s p).story (row_reading (run_state s p).story.bus_state row) row).sent (Event.End c.id (slice_index c.status.bytes 0))
 ends_well s p row n c lt w st books con calm off knows carried done = (λ e. (good e, owed e), λ e. (fresh e, λ def def_is. none e def def_is))
   where
     k : RunState

@@ -1,104 +1,75 @@
 -- Row by row of a prompt trace: those to whom a sense is owed stand in the hold. A REQUEST SENSE neither fails nor is lost, for to one in the hold the
 -- target tries again without limit; and an initiator sends no command before it (7.6, 7.8).
-use Rattle.std.proofs.Common.{ℕ, ◌≡◌, Bool, true, false, not, ◌&&◌, ◌∙◌, List, [], ◌∷◌, Option, Some, None, refl, sym, ap, subst}
-use Rattle.std.specs.Prelude.{if◌then◌else◌, ◌==◌, is_some, nat_lt, slice_index, ⊤}
-use Rattle.std.specs.List.{list_any}
-use Rattle.std.proofs.lemmas.Bool.{or_left, or_right}
-use Rattle.bus_due.specs.bus_base.specs.declared.Event.{Event}
-use Rattle.bus_due.specs.bus_base.specs.declared.Event.TheVariants as events
-use Rattle.bus_due.specs.bus_base.specs.declared.ProcId.{ProcId}
-use Rattle.bus_due.specs.bus_base.proofs.Tests.{wrong', and_first, and_second, eq_self}
-use Rattle.bus_due.specs.bus_trace.specs.declared.Row.{Row}
-use Rattle.bus_due.specs.bus_trace.specs.declared.changes.Change.{Change}
-use Rattle.bus_due.specs.bus_trace.specs.declared.connection.Connection.{Connection}
-use Rattle.bus_due.specs.bus_trace.specs.Changes.{rises}
-use Rattle.bus_due.specs.bus_trace.specs.Phases.{changes_phase, is_command}
-use Rattle.bus_due.specs.scenario.specs.declared.value.AbortDef.{AbortDef}
-use Rattle.bus_due.specs.scenario.specs.declared.value.TargetDef.{TargetDef}
-use Rattle.bus_due.specs.scenario.specs.Value.{ScenarioValue}
-use Rattle.bus_due.specs.disk_array.specs.ArrayHistory.{array_after}
-use Rattle.bus_due.specs.disk_array.specs.Processes.{same_id}
-use Rattle.bus_due.specs.bus_story.specs.BusState.{RowReading, row_reading}
-use Rattle.bus_due.specs.bus_story.specs.CarriedBytes.{CarriedBytes, is_status_phase, is_whole_block}
-use Rattle.bus_due.specs.bus_story.specs.HistoryEvents.{abort_line_at, abort_line_events, bus_free_events, carried_if, end_events, is_completion, is_refuse, item_abort_events, item_loss_events, link_events, phase_events, queue_event, queue_events, row_events_by, status_event, status_events}
-use Rattle.bus_due.specs.bus_story.specs.Items.{Item, abort, process}
-use Rattle.bus_due.specs.bus_story.specs.Links.{LastMessage, Link, abortive, complete, disconnect, plain}
-use Rattle.bus_due.specs.bus_story.specs.Story.{Story}
-use Rattle.bus_due.specs.bus_dialogue.specs.declared.exchange.Cause.{Cause}
-use Rattle.bus_due.specs.bus_dialogue.specs.declared.exchange.Cause.TheVariants as causes
-use Rattle.bus_due.specs.bus_dialogue.specs.declared.exchange.Phase.{Phase}
-use Rattle.bus_due.specs.bus_dialogue.specs.declared.exchange.Phase.TheVariants as phases
-use Rattle.bus_due.specs.bus_dialogue.specs.declared.exchange.Task.{Task}
-use Rattle.bus_due.specs.bus_dialogue.specs.NextPhase.{phase_of, recovery_limit}
-use Rattle.bus_due.specs.Defs.{target_def_of}
+use Rattle.progress_laws.proofs
+use proofs.Names.{ℕ, ◌≡◌, Bool, true, false, not, ◌&&◌, ◌∙◌, List, [], ◌∷◌, Option, Some, None, refl, sym, ap, subst}
+use proofs.Names.{or_left, or_right, list_any, if◌then◌else◌, ◌==◌, is_some, nat_lt, slice_index, ⊤, wrong', and_first}
+use proofs.Names.{and_second, eq_self, Event, ProcId, rises, changes_phase, Row, Change, Connection, ScenarioValue}
+use proofs.Names.{AbortDef, TargetDef, array_after, same_id, RowReading, row_reading, CarriedBytes, is_status_phase}
+use proofs.Names.{is_whole_block, abort_line_at, abort_line_events, bus_free_events, carried_if, end_events}
+use proofs.Names.{is_completion, is_refuse, item_abort_events, item_loss_events, link_events, phase_events, queue_event}
+use proofs.Names.{queue_events, row_events_by, status_event, status_events, Item, abort, process, LastMessage, Link}
+use proofs.Names.{abortive, complete, disconnect, plain, Story, phase_of, recovery_limit, Cause, Phase, Task}
+use proofs.Names.{target_def_of, RunState, bus_of, run_state, task_of, same_event, self_id, has_event, is_in_phase}
+use proofs.Names.{gives_up, is_failure, is_loss, is_past_limit, leaves_wrong_phase, is_struck_phase, is_left}
+use proofs.{Names.{is_wrong_phase, serves, wrong_phases, item_is, AllOf}, DebtEvents.{AllPay}}
+use Rattle.bus_due.specs.bus_trace.specs.Phases.{is_command}
 use Rattle.bus_due.specs.Faithful.{same_process}
-use Rattle.bus_due.specs.RunState.{RunState, bus_of}
-use Rattle.bus_due.specs.RunSteps.{run_state}
-use Rattle.bus_due.specs.Tasks.{task_of}
-use Rattle.bus_due.specs.Telling.{same_event}
-use Rattle.trace_laws.specs.bus_books.specs.FullQueues.{has_event}
-use Rattle.trace_laws.specs.bus_books.specs.WrongParity.{gives_up, is_failure, is_loss, is_past_limit, leaves_wrong_phase, is_struck_phase, is_left, is_wrong_phase, serves, wrong_phases}
-use Rattle.trace_laws.specs.bus_books.specs.Hearing.{is_in_phase}
-use Rattle.trace_laws.specs.bus_books.proofs.Lookups.{self_id}
-use Rattle.trace_laws.proofs.OpenCommands.{item_is}
-use Rattle.trace_laws.proofs.RowEvents.{AllOf}
-use Rattle.progress_laws.proofs.DebtEvents.{AllPay}
 
 -- ---- which events a row may show
 
 -- No process ends with them.
 abbrev pub NoEnds : List Event → Type 0
 NoEnds [] = ⊤
-NoEnds (events.End id status ∷ shown) = ⊥
+NoEnds (Event.End id status ∷ shown) = ⊥
 NoEnds (event ∷ shown) = NoEnds shown
 
 -- What is asked of a process that fails, and of one that is lost.
 pub record Allows (item : Option Item) (shown : List Event) : Type 0 where
-  pub fails : (id : ProcId) (code : ℕ) → has_event shown (events.Fail id code) ≡ true → id.sense ≡ false
-  pub losses : (id : ProcId) → item ≡ Some (process id) → has_event shown (events.Lost id) ≡ true → id.sense ≡ false
+  pub fails : (id : ProcId) (code : ℕ) → has_event shown (Event.Fail id code) ≡ true → id.sense ≡ false
+  pub losses : (id : ProcId) → item ≡ Some (process id) → has_event shown (Event.Lost id) ≡ true → id.sense ≡ false
 
 fewer : (item : Option Item) (event : Event) (shown : List Event) → Allows item (event ∷ shown) → Allows item shown
 fewer item event shown h = record {
-  fails = λ id code e. h.fails id code (or_right (same_event event (events.Fail id code)) (has_event shown (events.Fail id code)) e);
-  losses = λ id own e. h.losses id own (or_right (same_event event (events.Lost id)) (has_event shown (events.Lost id)) e);
+  fails = λ id code e. h.fails id code (or_right (same_event event (Event.Fail id code)) (has_event shown (Event.Fail id code)) e);
+  losses = λ id own e. h.losses id own (or_right (same_event event (Event.Lost id)) (has_event shown (Event.Lost id)) e);
 }
 
 pub pays_all : (s : ScenarioValue) (b : Story) (item : Option Item) (shown : List Event) → NoEnds shown → AllOf item shown → Allows item shown → AllPay s b shown
 pays_all s b item [] none own h = tt
-pays_all s b item (events.Accept id ∷ shown) none own h = (tt, pays_all s b item shown none own.1 (fewer item (events.Accept id) shown h))
-pays_all s b item (events.Refuse id ∷ shown) none own h = (tt, pays_all s b item shown none own.1 (fewer item (events.Refuse id) shown h))
-pays_all s b item (events.Run id ∷ shown) none own h = (tt, pays_all s b item shown none own.1 (fewer item (events.Run id) shown h))
-pays_all s b item (events.Fail id code ∷ shown) none own h = (
+pays_all s b item (Event.Accept id ∷ shown) none own h = (tt, pays_all s b item shown none own.1 (fewer item (Event.Accept id) shown h))
+pays_all s b item (Event.Refuse id ∷ shown) none own h = (tt, pays_all s b item shown none own.1 (fewer item (Event.Refuse id) shown h))
+pays_all s b item (Event.Run id ∷ shown) none own h = (tt, pays_all s b item shown none own.1 (fewer item (Event.Run id) shown h))
+pays_all s b item (Event.Fail id code ∷ shown) none own h = (
   h.fails id code
-      (or_left (same_id id id && code == code) (has_event shown (events.Fail id code)) (λ i. self_id id i && eq_self code i)),
+      (or_left (same_id id id && code == code) (has_event shown (Event.Fail id code)) (λ i. self_id id i && eq_self code i)),
   pays_all s b item shown none own.1
-      (fewer item (events.Fail id code) shown h),
+      (fewer item (Event.Fail id code) shown h),
 )
-pays_all s b item (events.End id status ∷ shown) none own h = absurd none
-pays_all s b item (events.Lost id ∷ shown) none own h = (
-  h.losses id (own.0 id refl) (or_left (same_id id id) (has_event shown (events.Lost id)) (self_id id)),
+pays_all s b item (Event.End id status ∷ shown) none own h = absurd none
+pays_all s b item (Event.Lost id ∷ shown) none own h = (
+  h.losses id (own.0 id refl) (or_left (same_id id id) (has_event shown (Event.Lost id)) (self_id id)),
   pays_all s b item shown none own.1
-      (fewer item (events.Lost id) shown h),
+      (fewer item (Event.Lost id) shown h),
 )
-pays_all s b item (events.Aborted i t n what ∷ shown) none own h = (tt, pays_all s b item shown none own.1 (fewer item (events.Aborted i t n what) shown h))
-pays_all s b item (events.Reset dev ∷ shown) none own h = (tt, pays_all s b item shown none own.1 (fewer item (events.Reset dev) shown h))
+pays_all s b item (Event.Aborted i t n what ∷ shown) none own h = (tt, pays_all s b item shown none own.1 (fewer item (Event.Aborted i t n what) shown h))
+pays_all s b item (Event.Reset dev ∷ shown) none own h = (tt, pays_all s b item shown none own.1 (fewer item (Event.Reset dev) shown h))
 
 -- The row ends no process; or COMMAND COMPLETE is taken of this one.
 pub data Shown (b : Story) (l : Link) (d : RowReading) (shown : List Event) : Type 0 where
   no_ends : NoEnds shown → Shown b l d shown
-  completes : (c : CarriedBytes) → carried_if b l.item ≡ Some c → is_completion l d.change ≡ true → shown ≡ events.End c.id (slice_index c.status.bytes 0) ∷ []
+  completes : (c : CarriedBytes) → carried_if b l.item ≡ Some c → is_completion l d.change ≡ true → shown ≡ Event.End c.id (slice_index c.status.bytes 0) ∷ []
       → Shown b l d shown
 
 phase_ends : (s : ScenarioValue) (b : Story) (c : Option CarriedBytes) (w : Change) → NoEnds (phase_events s b c w)
 phase_ends s b None w = tt
 phase_ends s b (Some c) w = replied (queue_events s b (Some c) w.before) (arrived (is_command w.before && is_whole_block c))
   where
-    queued : (q : Bool) → NoEnds ((if q then events.Accept c.id else events.Refuse c.id) ∷ [])
+    queued : (q : Bool) → NoEnds ((if q then Event.Accept c.id else Event.Refuse c.id) ∷ [])
     queued true = tt
     queued false = tt
 
     arrived : (q : Bool) → NoEnds (if q then queue_event s b.history c.id ∷ [] else [])
-    arrived true = queued (is_some (array_after s (events.Accept c.id ∷ b.history)))
+    arrived true = queued (is_some (array_after s (Event.Accept c.id ∷ b.history)))
     arrived false = tt
 
     status : (o : Option ℕ) (arrived : List Event) → NoEnds arrived → NoEnds (status_event c.id o ∷ arrived)
@@ -150,7 +121,7 @@ link_shown s b l d = go (is_some d.next) (changes_phase d.change) (is_completion
 pub row_shown : (s : ScenarioValue) (b : Story) (d : RowReading) (row : Row) (l : Link) → b.link ≡ Some l → Shown b l d (row_events_by s b d row)
 row_shown s b d row l e = go d.change.after.rst (rises d.change.own.rst d.change.next.rst)
   where
-    go : (q r : Bool) → Shown b l d (if q then (if r then events.Reset row.dev ∷ [] else []) else link_events s b b.link d)
+    go : (q r : Bool) → Shown b l d (if q then (if r then Event.Reset row.dev ∷ [] else []) else link_events s b b.link d)
     go true true = no_ends tt
     go true false = no_ends tt
     go false r = subst (λ (x : Option Link). Shown b l d (link_events s b x d)) (sym e) (link_shown s b l d)
@@ -159,17 +130,17 @@ row_shown s b d row l e = go d.change.after.rst (rises d.change.own.rst d.change
 pub quiet_row : (s : ScenarioValue) (b c : Story) (d : RowReading) (row : Row) → b.link ≡ None → AllPay s c (row_events_by s b d row)
 quiet_row s b c d row e = go d.change.after.rst (rises d.change.own.rst d.change.next.rst)
   where
-    go : (q r : Bool) → AllPay s c (if q then (if r then events.Reset row.dev ∷ [] else []) else link_events s b b.link d)
+    go : (q r : Bool) → AllPay s c (if q then (if r then Event.Reset row.dev ∷ [] else []) else link_events s b b.link d)
     go true true = (tt, tt)
     go true false = tt
     go false r = subst (λ (x : Option Link). AllPay s c (link_events s b x d)) (sym e) tt
 
 pub reset_row : (s : ScenarioValue) (b c : Story) (d : RowReading) (row : Row) → d.change.after.rst ≡ true → AllPay s c (row_events_by s b d row)
 reset_row s b c d row e =
-    subst (λ (x : Bool). AllPay s c (if x then (if rises d.change.own.rst d.change.next.rst then events.Reset row.dev ∷ [] else []) else link_events s b b.link d)) (sym e)
+    subst (λ (x : Bool). AllPay s c (if x then (if rises d.change.own.rst d.change.next.rst then Event.Reset row.dev ∷ [] else []) else link_events s b b.link d)) (sym e)
     (go (rises d.change.own.rst d.change.next.rst))
   where
-    go : (r : Bool) → AllPay s c (if r then events.Reset row.dev ∷ [] else [])
+    go : (r : Bool) → AllPay s c (if r then Event.Reset row.dev ∷ [] else [])
     go true = (tt, tt)
     go false = tt
 
@@ -208,23 +179,23 @@ given_up s p row n id e =
 
 -- Its phase is not MESSAGE IN.
 pub fails_elsewhere : (cause : Cause) (code : ℕ) (phase : Phase) → is_failure cause code phase ≡ true → is_in_phase phase ≡ false
-fails_elsewhere causes.Selected code phases.MessageIn e = wrong' e
-fails_elsewhere causes.InMessage code phases.MessageIn e = wrong' e
-fails_elsewhere causes.InData code phases.MessageIn e = wrong' e
-fails_elsewhere causes.InStatus code phases.MessageIn e = wrong' e
-fails_elsewhere cause code phases.MessageOut e = refl
-fails_elsewhere cause code phases.Command e = refl
-fails_elsewhere cause code phases.DataOut e = refl
-fails_elsewhere cause code phases.DataIn e = refl
-fails_elsewhere cause code phases.Status e = refl
+fails_elsewhere Cause.Selected code Phase.MessageIn e = wrong' e
+fails_elsewhere Cause.InMessage code Phase.MessageIn e = wrong' e
+fails_elsewhere Cause.InData code Phase.MessageIn e = wrong' e
+fails_elsewhere Cause.InStatus code Phase.MessageIn e = wrong' e
+fails_elsewhere cause code Phase.MessageOut e = refl
+fails_elsewhere cause code Phase.Command e = refl
+fails_elsewhere cause code Phase.DataOut e = refl
+fails_elsewhere cause code Phase.DataIn e = refl
+fails_elsewhere cause code Phase.Status e = refl
 
 pub loses_elsewhere : (cause : Cause) (phase : Phase) → is_loss cause phase ≡ true → is_in_phase phase ≡ false
-loses_elsewhere causes.Selected phases.MessageIn e = wrong' e
-loses_elsewhere causes.InMessage phases.MessageIn e = wrong' e
-loses_elsewhere causes.InData phases.MessageIn e = wrong' e
-loses_elsewhere causes.InStatus phases.MessageIn e = wrong' e
-loses_elsewhere cause phases.MessageOut e = refl
-loses_elsewhere cause phases.Command e = refl
-loses_elsewhere cause phases.DataOut e = refl
-loses_elsewhere cause phases.DataIn e = refl
-loses_elsewhere cause phases.Status e = refl
+loses_elsewhere Cause.Selected Phase.MessageIn e = wrong' e
+loses_elsewhere Cause.InMessage Phase.MessageIn e = wrong' e
+loses_elsewhere Cause.InData Phase.MessageIn e = wrong' e
+loses_elsewhere Cause.InStatus Phase.MessageIn e = wrong' e
+loses_elsewhere cause Phase.MessageOut e = refl
+loses_elsewhere cause Phase.Command e = refl
+loses_elsewhere cause Phase.DataOut e = refl
+loses_elsewhere cause Phase.DataIn e = refl
+loses_elsewhere cause Phase.Status e = refl

@@ -1,38 +1,19 @@
 -- Event by event those to whom a sense is owed stand in the hold: a command that ends with CHECK CONDITION puts its initiator there, and what takes one
 -- away stops its REQUEST SENSE, or is its end (7.6, 7.8).
-use Rattle.std.proofs.Common.{inl, inr, ℕ, ◌≡◌, ◌⊎◌, ◌+◌, Bool, true, false, not, ◌&&◌, ◌||◌, ◌∙◌, List, [], ◌∷◌, ◌++◌, Some, refl, sym, ap, subst}
-use Rattle.std.specs.Prelude.{if◌then◌else◌, ◌==◌, is_some}
-use Rattle.std.specs.List.{list_any}
-use Rattle.std.proofs.lemmas.Bool.{eqb-true, not-true, or_cases}
-use Rattle.std.proofs.lemmas.Option.{same_Some}
-use Rattle.bus_due.specs.bus_base.specs.declared.AbortKind.{AbortKind}
-use Rattle.bus_due.specs.bus_base.specs.declared.AbortKind.TheVariants as aborts
-use Rattle.bus_due.specs.bus_base.specs.declared.Event.{Event}
-use Rattle.bus_due.specs.bus_base.specs.declared.Event.TheVariants as events
-use Rattle.bus_due.specs.bus_base.specs.declared.ProcId.{ProcId}
-use Rattle.bus_due.specs.bus_base.proofs.Tests.{wrong, and_first, and_second, or_second}
-use Rattle.bus_due.specs.cdb_codec.specs.Cdb.{command_of}
-use Rattle.bus_due.specs.cdb_codec.specs.declared.sense.TheConstants.{ABORTED_COMMAND}
-use Rattle.bus_due.specs.cdb_codec.specs.declared.status.TheConstants.{GOOD, CHECK_CONDITION}
-use Rattle.bus_due.specs.scenario.specs.declared.value.CmdDef.{CmdDef}
-use Rattle.bus_due.specs.scenario.specs.Value.{ScenarioValue}
-use Rattle.bus_due.specs.disk_array.specs.Execution.{Reply, check_condition, is_request_sense, sense_of}
-use Rattle.bus_due.specs.disk_array.specs.Processes.{Process, command_at, process_of, same_bool}
-use Rattle.bus_due.specs.disk_array.specs.Seats.{in_hold}
-use Rattle.bus_due.specs.disk_array.specs.SoundArray.{IsSound}
-use Rattle.bus_due.specs.disk_array.specs.Steps as Steps
-use Rattle.bus_due.specs.disk_array.specs.Units.{Array, Nexus, guest_at, nexus_of, nexuses_without, same_nexus, senses_without, unit_state_at}
-use Rattle.bus_due.specs.disk_array.proofs.SeatLookups.{nexus_put_at, nexuses_without_at, same_nexus_is}
-use Rattle.bus_due.specs.bus_story.specs.Items.{Item, Sent, command_item, has_item, is_open, process, same_item, sense_item}
-use Rattle.bus_due.specs.bus_story.specs.Story.{Ending, Story, by_abort, by_reset, by_status, is_aborted, is_sense_stopped, story_after_event, story_with_end, story_with_ends, story_with_over}
-use Rattle.trace_laws.specs.bus_books.proofs.Senses.{self_nexus}
-use Rattle.trace_laws.specs.ItemFacts.{AreChecked}
-use Rattle.trace_laws.proofs.OverItems.{ends_senses, events_grow, in_append, later, not_grown}
-use Rattle.bus_due.specs.bus_story.proofs.StorySteps.{ends_checks}
-use Rattle.trace_laws.proofs.SentItems.{more_has, own_has}
-use Rattle.progress_laws.proofs.Owed.{all_reset_holds, cleared_holds, command_apart, nexus_at}
-use Rattle.progress_laws.proofs.OwedEvents.{IfHolds, OfCommand, accepted, ended_so, failed, if_none, if_settled, no_check, other_over, refused, run}
-use Rattle.progress_laws.specs.Debts.{Debts, IsDebt, NoDebt, PaysWell, is_owed, nexus_of_command}
+use Rattle.progress_laws.proofs
+use proofs.Names.{inl, inr, ℕ, ◌≡◌, ◌⊎◌, ◌+◌, Bool, true, false, not, ◌&&◌, ◌||◌, ◌∙◌, List, [], ◌∷◌, ◌++◌, Some, refl}
+use proofs.Names.{sym, ap, subst, eqb-true, not-true, or_cases, same_Some, list_any, if◌then◌else◌, ◌==◌, is_some}
+use proofs.Names.{wrong, and_first, and_second, or_second, AbortKind, Event, ProcId, command_of, ABORTED_COMMAND, GOOD}
+use proofs.Names.{CHECK_CONDITION, ScenarioValue, CmdDef, nexus_put_at, nexuses_without_at, same_nexus_is, Reply}
+use proofs.Names.{check_condition, is_request_sense, sense_of, Process, command_at, process_of, same_bool, in_hold}
+use proofs.Names.{IsSound, Array, Nexus, guest_at, nexus_of, nexuses_without, same_nexus, senses_without, unit_state_at}
+use proofs.Names.{ends_checks, Item, Sent, command_item, has_item, is_open, process, same_item, sense_item, Ending}
+use proofs.Names.{Story, by_abort, by_reset, by_status, is_aborted, is_sense_stopped, story_after_event, story_with_end}
+use proofs.Names.{story_with_ends, story_with_over, self_nexus, ends_senses, events_grow, in_append, later, not_grown}
+use proofs.Names.{more_has, own_has, AreChecked, Debts, IsDebt, NoDebt, PaysWell, is_owed, nexus_of_command}
+use proofs.{Owed.{all_reset_holds, cleared_holds, command_apart, nexus_at}, OwedEvents.{IfHolds, OfCommand, accepted}}
+use proofs.OwedEvents.{ended_so, failed, if_none, if_settled, no_check, other_over, refused, run}
+use Rattle.bus_due.specs.disk_array.specs.Steps
 
 -- ---- what is owed after was owed before
 
@@ -176,12 +157,12 @@ command_fetches s b holds id p e none h =
     fewer_debts s b (record b { over = process id ∷ b.over }) holds (nexuses_without holds p) refl (one_over b id) (λ n z. inl (over_before b id n e z))
     (λ n q d f z. stays_held holds p q (λ same. none n (subst (λ (x : Nexus). IsDebt s b n x) (sym same) f)) z) h
 
-ended : (s : ScenarioValue) (b : Story) (a : Array) (id : ProcId) (status : ℕ) → IsSound s a → PaysWell s b.sent (events.End id status) → Debts s b.sent a.holds
-    → IfHolds (λ holds. Debts s (story_after_event s b (events.End id status)).sent holds) (Steps.end_step a status (Steps.running_process a id))
+ended : (s : ScenarioValue) (b : Story) (a : Array) (id : ProcId) (status : ℕ) → IsSound s a → PaysWell s b.sent (Event.End id status) → Debts s b.sent a.holds
+    → IfHolds (λ holds. Debts s (story_after_event s b (Event.End id status)).sent holds) (Steps.end_step a status (Steps.running_process a id))
 ended s b a id status sound well h = ended_so s (λ holds. Debts s c holds) a id status sound after
   where
     c : Sent
-    c = (story_after_event s b (events.End id status)).sent
+    c = (story_after_event s b (Event.End id status)).sent
 
     ends : Story
     ends = story_with_end b id (by_status status)
@@ -285,20 +266,20 @@ ends_debts s drops stops e b holds kept checked more keep h =
     unstopped n q d f true z = wrong (sym (ends_senses s drops stops e b n d.def d.def_is z checked (is_checked b.sent n f.owed)) ∙ is_not_over c n d.owed)
 
 aborted : (s : ScenarioValue) (b : Story) (a : Array) (i t n : ℕ) (what : AbortKind) → AreChecked b.sent → Debts s b.sent a.holds
-    → Debts s (story_after_event s b (events.Aborted i t n what)).sent (Steps.abort_step s a i t n what).holds
+    → Debts s (story_after_event s b (Event.Aborted i t n what)).sent (Steps.abort_step s a i t n what).holds
 aborted s b a i t n what checked h =
     ends_debts s (is_aborted i t n what) (is_sense_stopped i t n what) by_abort b a.holds (Steps.abort_step s a i t n what).holds checked
-    (λ m z. (events_grow s b (events.Aborted i t n what ∷ [])).over (sense_item m) z) (stays what) h
+    (λ m z. (events_grow s b (Event.Aborted i t n what ∷ [])).over (sense_item m) z) (stays what) h
   where
     stays : (what : AbortKind) (def : CmdDef) (q : Nexus) → is_sense_stopped i t n what def ≡ false → nexus_of_command def ≡ q → in_hold a.holds q ≡ true
         → in_hold (Steps.abort_step s a i t n what).holds q ≡ true
-    stays aborts.All def q e is z =
+    stays AbortKind.All def q e is z =
         stays_held a.holds (nexus_at i t n) q
         (λ same. wrong (sym (ap (λ (x : Nexus). same_nexus x (nexus_at i t n)) (is ∙ sym same) ∙ self_nexus (nexus_at i t n)) ∙ e)) z
-    stays (aborts.Tag tag) def q e is z = z
-    stays aborts.WholeQueue def q e is z =
+    stays (AbortKind.Tag tag) def q e is z = z
+    stays AbortKind.WholeQueue def q e is z =
         ap (λ (x : List Nexus). in_hold x q) (cleared_holds i (Steps.unit_processes (unit_state_at a.units t n)) (Steps.without_dropped a (λ p. Steps.is_of_unit p t n))) ∙ z
-    stays aborts.Device def q e is z =
+    stays AbortKind.Device def q e is z =
         ap (λ (x : List Nexus). in_hold x q)
         (all_reset_holds s.hosts a.units (λ u. u.target == t)
         (record (Steps.without_dropped a (λ p. p.target == t)) {
@@ -312,17 +293,17 @@ aborted s b a i t n what checked h =
 
 event_pays : (s : ScenarioValue) (b : Story) (a : Array) (event : Event) → IsSound s a → AreChecked b.sent → PaysWell s b.sent event → Debts s b.sent a.holds
     → IfHolds (λ holds. Debts s (story_after_event s b event).sent holds) (Steps.event_step s a event)
-event_pays s b a (events.Accept id) sound checked well h = accepted (λ holds. Debts s b.sent holds) a (process_of s id) h
-event_pays s b a (events.Refuse id) sound checked well h = refused (λ holds. Debts s b.sent holds) a (process_of s id) h
-event_pays s b a (events.Run id) sound checked well h = run (λ holds. Debts s b.sent holds) a (is_some (guest_at a.guests id)) (Steps.running_process a id) h
-event_pays s b a (events.Fail id code) sound checked well h =
+event_pays s b a (Event.Accept id) sound checked well h = accepted (λ holds. Debts s b.sent holds) a (process_of s id) h
+event_pays s b a (Event.Refuse id) sound checked well h = refused (λ holds. Debts s b.sent holds) a (process_of s id) h
+event_pays s b a (Event.Run id) sound checked well h = run (λ holds. Debts s b.sent holds) a (is_some (guest_at a.guests id)) (Steps.running_process a id) h
+event_pays s b a (Event.Fail id code) sound checked well h =
     failed (λ holds. Debts s b.sent holds) s a id (check_condition (sense_of ABORTED_COMMAND code 0x00)) (Steps.running_process a id) h
-event_pays s b a (events.End id status) sound checked well h = ended s b a id status sound well h
-event_pays s b a (events.Lost id) sound checked well h =
-    if_none (λ holds. Debts s (story_after_event s b (events.Lost id)).sent holds) (Steps.has_ended a id) _ (command_over s b.sent a.holds id well h)
-event_pays s b a (events.Aborted i t n what) sound checked well h = aborted s b a i t n what checked h
-event_pays s b a (events.Reset dev) sound checked well h =
-    ends_debts s (λ x. true) (λ x. true) by_reset b a.holds (Steps.reset_step s a).holds checked (λ m z. (events_grow s b (events.Reset dev ∷ [])).over (sense_item m) z)
+event_pays s b a (Event.End id status) sound checked well h = ended s b a id status sound well h
+event_pays s b a (Event.Lost id) sound checked well h =
+    if_none (λ holds. Debts s (story_after_event s b (Event.Lost id)).sent holds) (Steps.has_ended a id) _ (command_over s b.sent a.holds id well h)
+event_pays s b a (Event.Aborted i t n what) sound checked well h = aborted s b a i t n what checked h
+event_pays s b a (Event.Reset dev) sound checked well h =
+    ends_debts s (λ x. true) (λ x. true) by_reset b a.holds (Steps.reset_step s a).holds checked (λ m z. (events_grow s b (Event.Reset dev ∷ [])).over (sense_item m) z)
     (λ def q e is z. wrong e) h
 
 pub step_pays : (s : ScenarioValue) (b : Story) (a : Array) (event : Event) → IsSound s a → AreChecked b.sent → PaysWell s b.sent event → Debts s b.sent a.holds

@@ -1,65 +1,23 @@
 -- After any rows of a prompt trace those to whom a sense is owed stand in the hold, and to those in the hold it is owed (7.6, 7.8).
-use Rattle.std.proofs.Common.{inl, inr, ℕ, ◌≡◌, ◌⊎◌, ◌<◌, Bool, true, false, ◌||◌, ◌∙◌, List, [], ◌∷◌, Option, Some, None, refl, sym, ap, subst}
-use Rattle.std.specs.Prelude.{if◌then◌else◌, ◌==◌}
-use Rattle.std.specs.List.{list_any}
-use Rattle.std.proofs.lemmas.Option.{same_Some}
-use Rattle.bus_due.specs.bus_base.specs.declared.Event.{Event}
-use Rattle.bus_due.specs.bus_base.specs.declared.Event.TheVariants as events
-use Rattle.bus_due.specs.bus_base.specs.declared.ProcId.{ProcId}
-use Rattle.bus_due.specs.bus_base.proofs.Tests.{wrong, wrong', and_second, or_true}
-use Rattle.bus_due.specs.bus_trace.specs.declared.Row.{Row}
-use Rattle.bus_due.specs.bus_trace.specs.declared.changes.Change.{Change}
-use Rattle.bus_due.specs.bus_trace.specs.declared.connection.Connection.{Connection}
-use Rattle.bus_due.specs.bus_trace.specs.Changes.{rises}
-use Rattle.bus_due.specs.bus_trace.specs.Terms.{connection, connection_after}
-use Rattle.bus_due.specs.bus_trace.specs.Trace.{bus}
-use Rattle.bus_due.specs.scenario.specs.declared.value.CmdDef.{CmdDef}
-use Rattle.bus_due.specs.scenario.specs.Value.{ScenarioValue}
-use Rattle.bus_due.specs.scenario.specs.Writing.{Obeys}
-use Rattle.bus_due.specs.disk_array.specs.Execution.{Reply}
-use Rattle.bus_due.specs.disk_array.specs.Processes.{command_at}
-use Rattle.bus_due.specs.disk_array.specs.Seats.{in_hold}
-use Rattle.bus_due.specs.disk_array.specs.SoundArray.{IsSound}
-use Rattle.bus_due.specs.disk_array.specs.Units.{Array, Nexus, is_at_unit, is_held, nexus_of, same_nexus}
-use Rattle.bus_due.specs.bus_story.specs.BusState.{RowReading, row_reading}
-use Rattle.bus_due.specs.bus_story.specs.HistoryEvents.{link_events, row_events_by}
-use Rattle.bus_due.specs.bus_story.specs.Items.{Item, Sent, abort, command_item, has_item, process, sense_from, sense_item}
-use Rattle.bus_due.specs.bus_story.specs.Story.{Story, story_after_events}
-use Rattle.bus_due.specs.bus_story.specs.TraceHistory.{aim_of, story_by_change}
-use Rattle.bus_due.specs.bus_dialogue.specs.Wants.{Ready}
-use Rattle.bus_due.specs.Next.{IsPrompt}
-use Rattle.bus_due.specs.Plain.{IsPlain}
-use Rattle.bus_due.specs.RunState.{RunState, array_of, bus_of, item_of, or_start}
-use Rattle.bus_due.specs.RunSteps.{array_after_events, item_if, run_state, served_after}
-use Rattle.bus_due.specs.Wants.{ready_among, ready_of, seek_of}
-use Rattle.bus_due.proofs.Plains.{run_state_plain}
-use Rattle.trace_laws.specs.scsi_device.proofs.FitLines.{obeys_fits, seats_are}
-use Rattle.trace_laws.specs.bus_books.specs.Accounts.{is_served_by}
-use Rattle.trace_laws.specs.bus_books.specs.Knowing.{Knows}
-use Rattle.trace_laws.specs.bus_books.specs.Traces.{Begins, RowOf, apart, begins, ends, goes_on, under_reset}
-use Rattle.trace_laws.specs.bus_laws.proofs.Apart.{change_plain}
-use Rattle.trace_laws.specs.bus_laws.proofs.Prompt.{least_is}
-use Rattle.trace_laws.specs.ItemFacts.{IsNext, Items, is_abort, is_command, is_sense}
-use Rattle.trace_laws.proofs.FirstTalks.{FirstSent, first_sent, sent_with}
-use Rattle.trace_laws.proofs.FreshItems.{calm_after, calm_before}
-use Rattle.trace_laws.proofs.ItemFacts.{aimed_next}
-use Rattle.trace_laws.proofs.Joint.{NextStood}
-use Rattle.trace_laws.proofs.OpenCommands.{same_process}
-use Rattle.trace_laws.proofs.OverItems.{events_grow}
-use Rattle.trace_laws.proofs.PlaceReady.{MayBeReady, ready_runs}
-use Rattle.trace_laws.proofs.RowEvents.{AllOf, row_of}
-use Rattle.trace_laws.proofs.Whole.{Whole, standing_next, whole}
-use Rattle.trace_laws.proofs.PointerWaits.{change_over}
-use Rattle.progress_laws.proofs.Answered.{is_told, sense_left}
-use Rattle.progress_laws.proofs.AnsweredEnds.{place_array}
-use Rattle.progress_laws.proofs.DebtEvents.{AllPay, IsNew, Paid, events_pay, new_debt, paid_ends}
-use Rattle.progress_laws.proofs.DebtNext.{known_served, linked_pays, senses_same}
-use Rattle.progress_laws.proofs.DebtRows.{quiet_row, reset_row}
-use Rattle.progress_laws.proofs.DebtSteps.{is_checked, is_not_over, same_debt, same_debts}
-use Rattle.progress_laws.proofs.OwedEvents.{OfCommand, of_command}
-use Rattle.progress_laws.proofs.OwedRows.{changed, owed_next, owed_start}
-use Rattle.progress_laws.specs.Debts.{AreFetched, DebtBooks, Debts, IsDebt, NoDebt, nexus_of_command}
-use Rattle.progress_laws.specs.Queued.{AreOwed}
+use Rattle.progress_laws.proofs
+use proofs.Names.{inl, inr, ℕ, ◌≡◌, ◌⊎◌, ◌<◌, Bool, true, false, ◌||◌, ◌∙◌, List, [], ◌∷◌, Option, Some, None, refl}
+use proofs.Names.{sym, ap, subst, same_Some, list_any, if◌then◌else◌, ◌==◌, wrong, wrong', and_second, or_true, Event}
+use proofs.Names.{ProcId, rises, connection, connection_after, bus, Row, Change, Connection, ScenarioValue, Obeys}
+use proofs.Names.{CmdDef, Reply, command_at, in_hold, IsSound, Array, Nexus, is_at_unit, is_held, nexus_of, same_nexus}
+use proofs.Names.{RowReading, row_reading, link_events, row_events_by, Item, Sent, abort, command_item, has_item}
+use proofs.Names.{process, sense_from, sense_item, Story, story_after_events, aim_of, story_by_change, Ready}
+use proofs.Names.{run_state_plain, IsPrompt, IsPlain, RunState, array_of, bus_of, item_of, or_start, array_after_events}
+use proofs.Names.{item_if, run_state, served_after, ready_among, ready_of, seek_of, obeys_fits, seats_are, is_served_by}
+use proofs.Names.{Knows, Begins, RowOf, begins, ends, goes_on, under_reset, change_plain, least_is, aimed_next}
+use proofs.Names.{calm_after, calm_before, same_process, events_grow, AllOf, row_of, NextStood, MayBeReady, ready_runs}
+use proofs.Names.{change_over, FirstSent, first_sent, sent_with, Whole, standing_next, whole, IsNext, Items, is_command}
+use proofs.Names.{is_sense, AreFetched, DebtBooks, Debts, IsDebt, NoDebt, nexus_of_command, AreOwed}
+use proofs.{Answered.{is_told, sense_left}, AnsweredEnds.{place_array}, DebtEvents.{AllPay, IsNew, Paid, events_pay}}
+use proofs.{DebtEvents.{new_debt, paid_ends}, DebtNext.{known_served, linked_pays, senses_same}, DebtRows.{quiet_row}}
+use proofs.{DebtRows.{reset_row}, DebtSteps.{is_checked, is_not_over, same_debt, same_debts}, OwedEvents.{OfCommand}}
+use proofs.{OwedEvents.{of_command}, OwedRows.{changed, owed_next, owed_start}}
+use Rattle.trace_laws.specs.bus_books.specs.Traces.{apart}
+use Rattle.trace_laws.specs.ItemFacts.{is_abort}
 
 -- ---- as a connection begins no sense is owed to the initiator of its command at its unit
 
@@ -102,13 +60,13 @@ selected s k dev c items rest sends n d =
 -- No event of a process is shown.
 reset_none : (s : ScenarioValue) (b : Story) (d : RowReading) (row : Row) → d.change.after.rst ≡ true → AllOf None (row_events_by s b d row)
 reset_none s b d row on =
-    subst (λ (x : Bool). AllOf None (if x then (if rises d.change.own.rst d.change.next.rst then events.Reset row.dev ∷ [] else []) else link_events s b b.link d)) (sym on)
+    subst (λ (x : Bool). AllOf None (if x then (if rises d.change.own.rst d.change.next.rst then Event.Reset row.dev ∷ [] else []) else link_events s b b.link d)) (sym on)
     (go (rises d.change.own.rst d.change.next.rst))
   where
     no_id : (id : ProcId) → (let a : Option ProcId = None in a) ≡ Some id → (let i : Option Item = None in i) ≡ Some (process id)
     no_id id e = absurd cc
 
-    go : (q : Bool) → AllOf None (if q then events.Reset row.dev ∷ [] else [])
+    go : (q : Bool) → AllOf None (if q then Event.Reset row.dev ∷ [] else [])
     go true = (λ id e. no_id id e, tt)
     go false = tt
 

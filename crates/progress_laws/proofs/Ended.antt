@@ -1,48 +1,17 @@
 -- A prompt trace after which nothing is due: the bus is free, and the end obeys every rule.
-use Rattle.std.proofs.Common.{ℕ, ◌≡◌, ◌<◌, Bool, true, false, ◌∙◌, List, [], ◌∷◌, Option, Some, None, refl, ap}
-use Rattle.std.specs.Prelude.{if◌then◌else◌, not, ◌&&◌, ◌||◌, ◌==◌, ◌+◌, nat_le}
-use Rattle.std.specs.List.{AllByRecursion}
-use Rattle.bus_due.specs.bus_trace.specs.LineSet.{LineSet, none}
-use Rattle.bus_due.specs.bus_trace.specs.declared.Row.{Row}
-use Rattle.bus_due.specs.bus_trace.specs.Changes.{implies, is_within}
-use Rattle.bus_due.specs.bus_trace.specs.Trace.{last_time}
-use Rattle.bus_due.specs.bus_trace.specs.Terms.{free_since}
-use Rattle.bus_due.specs.bus_lines.specs.declared.stage.Stage.TheVariants.{OnFreeBus}
-use Rattle.bus_due.specs.bus_lines.specs.Stage.{stage}
-use Rattle.bus_due.specs.bus_rules.specs.declared.seen.Seen.{Seen}
-use Rattle.bus_due.specs.bus_rules.specs.Connected.{initiator_released, initiator_released_of, target_released, target_released_of}
-use Rattle.bus_due.specs.bus_rules.specs.FreeBus.{is_cleared}
-use Rattle.bus_due.specs.bus_rules.specs.Lawful.{IsLawful, KeepsAll}
-use Rattle.bus_due.specs.bus_rules.specs.Order.{is_in_order}
-use Rattle.bus_due.specs.bus_rules.specs.Reset.{is_quiet_in_reset, is_reset, only_rst}
-use Rattle.bus_due.specs.bus_rules.specs.Rules.{end_test, judged_rules, keeps_at_end, obeys_at_end, stands_in_reset}
-use Rattle.bus_due.specs.bus_rules.specs.Seen.{end_row, seen, seen_with}
+use Rattle.progress_laws.proofs
+use proofs.Names.{ℕ, ◌≡◌, ◌<◌, Bool, true, false, ◌∙◌, List, [], ◌∷◌, Option, Some, None, refl, ap, not, ◌&&◌, ◌||◌}
+use proofs.Names.{◌+◌, or_right, AllByRecursion, if◌then◌else◌, ◌==◌, nat_le, true_by_test, not_later, implies}
+use proofs.Names.{is_within, LineSet, none, free_since, last_time, Row, stage, OnFreeBus, row_none, initiator_released}
+use proofs.Names.{initiator_released_of, target_released, target_released_of, is_cleared, IsLawful, is_in_order}
+use proofs.Names.{is_quiet_in_reset, is_reset, only_rst, end_test, judged_rules, keeps_at_end, obeys_at_end}
+use proofs.Names.{stands_in_reset, end_row, seen, seen_with, Seen, ScenarioValue, Obeys, latency_of, free_due, IsPrompt}
+use proofs.Names.{IsEnded, run_state, want_time, obeys_fits, free_due_is, stage_is, device_with, own_time, FreeBus}
+use proofs.Names.{sides_are, link_calm, AnyStage, apart, linked, Stood, link_connection, whole, AreEnds}
+use proofs.{Acts.{calm_end, moved}, Apart.{free_at_end}, Bound.{AreBound, bound_next, bound_start}}
+use proofs.{Connections.{ends_there, goes_on}, Entries.{WantsAreItems}}
+use Rattle.bus_due.specs.bus_rules.specs.Lawful.{KeepsAll}
 use Rattle.bus_due.specs.bus_rules.specs.Selection.{is_left}
-use Rattle.bus_due.specs.bus_rules.proofs.First.{row_none}
-use Rattle.bus_due.specs.scenario.specs.Value.{ScenarioValue}
-use Rattle.bus_due.specs.scenario.specs.Writing.{Obeys}
-use Rattle.bus_due.specs.bus_story.specs.Samples.{latency_of}
-use Rattle.bus_due.specs.bus_reactions.specs.FreeBus.{free_due}
-use Rattle.bus_due.specs.Next.{IsPrompt, IsEnded}
-use Rattle.bus_due.specs.RunSteps.{run_state}
-use Rattle.bus_due.specs.Wants.{want_time}
-use Rattle.trace_laws.specs.scsi_device.proofs.FitLines.{obeys_fits}
-use Rattle.trace_laws.specs.bus_laws.specs.Reactions.{device_with, own_time}
-use Rattle.trace_laws.specs.bus_laws.proofs.Dues.{free_due_is}
-use Rattle.trace_laws.specs.bus_laws.proofs.Rows.{stage_is}
-use Rattle.trace_laws.specs.bus_laws.specs.Stages.{FreeBus}
-use Rattle.trace_laws.specs.link_laws.specs.LinkStages.{AnyStage, apart, linked}
-use Rattle.trace_laws.specs.Ends.{AreEnds}
-use Rattle.trace_laws.proofs.Joint.{Stood, link_connection}
-use Rattle.trace_laws.proofs.Whole.{whole}
-use Rattle.progress_laws.proofs.Acts.{calm_end, moved}
-use Rattle.progress_laws.proofs.Apart.{free_at_end}
-use Rattle.progress_laws.proofs.Bound.{AreBound, bound_next, bound_start}
-use Rattle.progress_laws.proofs.Connections.{ends_there, goes_on}
-use Rattle.progress_laws.proofs.Entries.{WantsAreItems}
-use Rattle.std.proofs.lemmas.Bool.{or_right}
-use Rattle.trace_laws.specs.link_laws.proofs.Traces.{sides_are, link_calm}
-use Rattle.bus_due.specs.bus_base.proofs.Tests.{true_by_test, not_later}
 
 -- What is known of a prompt trace.
 pub record Joined (s : ScenarioValue) (p : List Row) : Type 0 where

@@ -1,36 +1,14 @@
 -- What has ended in the plain disk array is over, after any rows.
-use Rattle.std.proofs.Common.{ℕ, ◌≡◌, Bool, true, false, not, ◌&&◌, ◌||◌, ◌∙◌, List, [], ◌∷◌, Option, Some, None, refl, sym, ap, subst}
-use Rattle.std.specs.Prelude.{if◌then◌else◌, ◌==◌, is_none, is_some, nat_lt, ⊤}
-use Rattle.bus_due.specs.bus_base.specs.declared.AbortKind.{AbortKind}
-use Rattle.bus_due.specs.bus_base.specs.declared.AbortKind.TheVariants as aborts
-use Rattle.bus_due.specs.bus_base.specs.declared.Event.{Event}
-use Rattle.bus_due.specs.bus_base.specs.declared.Event.TheVariants as events
-use Rattle.bus_due.specs.bus_base.specs.declared.ProcId.{ProcId}
-use Rattle.bus_due.specs.cdb_codec.specs.declared.sense.TheConstants.{ABORTED_COMMAND}
-use Rattle.bus_due.specs.cdb_codec.specs.declared.status.TheConstants.{GOOD, CHECK_CONDITION}
-use Rattle.bus_due.specs.cdb_codec.specs.Cdb.{command_of}
-use Rattle.bus_due.specs.scenario.specs.declared.value.HostDef.{HostDef}
-use Rattle.bus_due.specs.scenario.specs.Value.{ScenarioValue}
-use Rattle.bus_due.specs.disk_array.specs.Execution.{Execution, Reply, check_condition, execution, is_request_sense, sense_of}
-use Rattle.bus_due.specs.disk_array.specs.ArrayHistory.{array_step}
-use Rattle.bus_due.specs.disk_array.specs.Processes.{Process, process_of, same_id}
-use Rattle.bus_due.specs.disk_array.specs.Steps as Steps
-use Rattle.bus_due.specs.disk_array.specs.Steps.{has_ended}
-use Rattle.bus_due.specs.disk_array.specs.Units.{Array, RunningProcess, UnitState, guest_at, is_held, nexus_of, nexuses_without, senses_without, unit_state_at}
-use Rattle.bus_due.specs.bus_story.specs.Items.{Item, has_item, process}
-use Rattle.bus_due.specs.bus_story.specs.BusState.{RowReading, row_reading}
-use Rattle.bus_due.specs.bus_story.specs.HistoryEvents.{row_events_by}
-use Rattle.bus_due.specs.bus_story.specs.Story.{Story, story_after_event, story_after_events}
-use Rattle.bus_due.specs.bus_story.specs.TraceHistory.{story_by_change}
-use Rattle.bus_due.specs.bus_trace.specs.declared.Row.{Row}
-use Rattle.bus_due.specs.RunState.{RunState}
-use Rattle.bus_due.specs.RunSteps.{array_after_events, run_state}
-use Rattle.trace_laws.specs.bus_books.proofs.Lookups.{id_is}
-use Rattle.std.specs.List.{list_any}
-use Rattle.trace_laws.proofs.OverItems.{ends_over, events_grow, lost_over}
-use Rattle.trace_laws.proofs.PointerWaits.{change_over}
-use Rattle.trace_laws.proofs.ListedReplies.{running_id}
-use Rattle.bus_due.specs.bus_base.proofs.Tests.{wrong}
+use Rattle.progress_laws.proofs
+use proofs.Names.{ℕ, ◌≡◌, Bool, true, false, not, ◌&&◌, ◌||◌, ◌∙◌, List, [], ◌∷◌, Option, Some, None, refl, sym, ap}
+use proofs.Names.{subst, list_any, if◌then◌else◌, ◌==◌, is_none, is_some, nat_lt, ⊤, wrong, AbortKind, Event, ProcId}
+use proofs.Names.{Row, command_of, ABORTED_COMMAND, GOOD, CHECK_CONDITION, ScenarioValue, HostDef, array_step}
+use proofs.Names.{Execution, Reply, check_condition, execution, is_request_sense, sense_of, Process, process_of}
+use proofs.Names.{same_id, has_ended, Array, RunningProcess, UnitState, guest_at, is_held, nexus_of, nexuses_without}
+use proofs.Names.{senses_without, unit_state_at, RowReading, row_reading, row_events_by, Item, has_item, process, Story}
+use proofs.Names.{story_after_event, story_after_events, story_by_change, RunState, array_after_events, run_state}
+use proofs.Names.{id_is, running_id, ends_over, events_grow, lost_over, change_over}
+use Rattle.bus_due.specs.disk_array.specs.Steps
 
 -- ---- of a list of what has ended
 
@@ -145,25 +123,25 @@ cleared_same i (p ∷ lost) a = cleared_same i lost (if p.initiator == i then a 
     go false = one _ _ refl
 
 aborted_same : (s : ScenarioValue) (a : Array) (i t n : ℕ) (what : AbortKind) → (Steps.abort_step s a i t n what).ended ≡ a.ended
-aborted_same s a i t n aborts.All = refl
-aborted_same s a i t n (aborts.Tag tag) = refl
-aborted_same s a i t n aborts.WholeQueue = cleared_same i (Steps.unit_processes (unit_state_at a.units t n)) (Steps.without_dropped a (λ p. Steps.is_of_unit p t n))
-aborted_same s a i t n aborts.Device =
+aborted_same s a i t n AbortKind.All = refl
+aborted_same s a i t n (AbortKind.Tag tag) = refl
+aborted_same s a i t n AbortKind.WholeQueue = cleared_same i (Steps.unit_processes (unit_state_at a.units t n)) (Steps.without_dropped a (λ p. Steps.is_of_unit p t n))
+aborted_same s a i t n AbortKind.Device =
     all_reset_same s.hosts a.units (λ u. u.target == t) (record (Steps.without_dropped a (λ p. p.target == t)) { senses = Steps.kept_senses (λ r. r.target == t) a.senses; holds = Steps.kept_nexuses (λ r. r.target == t) a.holds })
 
 event_over : (s : ScenarioValue) (b : Story) (a : Array) (event : Event) → AllOver b a.ended → IfOver (story_after_event s b event) (Steps.event_step s a event)
 event_over s b a event h = by event (over_all b (story_after_event s b event) a.ended (events_grow s b (event ∷ [])).over h)
   where
     by : (e : Event) → AllOver (story_after_event s b e) a.ended → IfOver (story_after_event s b e) (Steps.event_step s a e)
-    by (events.Accept id) k = accepted (story_after_event s b (events.Accept id)) a (process_of s id) k
-    by (events.Refuse id) k = refused (story_after_event s b (events.Refuse id)) a (process_of s id) k
-    by (events.Run id) k = run (story_after_event s b (events.Run id)) a (is_some (guest_at a.guests id)) (Steps.running_process a id) k
-    by (events.Fail id code) k = failed s (story_after_event s b (events.Fail id code)) a id (check_condition (sense_of ABORTED_COMMAND code 0x00)) (Steps.running_process a id) k
-    by (events.End id status) k = ended (story_after_event s b (events.End id status)) a id status (ends_over s b id status) k
-    by (events.Lost id) k = if_none (story_after_event s b (events.Lost id)) (Steps.has_ended a id) _ (lost_over s b id, k)
-    by (events.Aborted i t n what) k = subst (λ (x : List ProcId). AllOver (story_after_event s b (events.Aborted i t n what)) x) (sym (aborted_same s a i t n what)) k
-    by (events.Reset dev) k =
-        subst (λ (x : List ProcId). AllOver (story_after_event s b (events.Reset dev)) x) (sym (all_reset_same s.hosts a.units (λ u. true) (record (Steps.without_dropped a (λ p. true)) { senses = []; holds = [] }))) k
+    by (Event.Accept id) k = accepted (story_after_event s b (Event.Accept id)) a (process_of s id) k
+    by (Event.Refuse id) k = refused (story_after_event s b (Event.Refuse id)) a (process_of s id) k
+    by (Event.Run id) k = run (story_after_event s b (Event.Run id)) a (is_some (guest_at a.guests id)) (Steps.running_process a id) k
+    by (Event.Fail id code) k = failed s (story_after_event s b (Event.Fail id code)) a id (check_condition (sense_of ABORTED_COMMAND code 0x00)) (Steps.running_process a id) k
+    by (Event.End id status) k = ended (story_after_event s b (Event.End id status)) a id status (ends_over s b id status) k
+    by (Event.Lost id) k = if_none (story_after_event s b (Event.Lost id)) (Steps.has_ended a id) _ (lost_over s b id, k)
+    by (Event.Aborted i t n what) k = subst (λ (x : List ProcId). AllOver (story_after_event s b (Event.Aborted i t n what)) x) (sym (aborted_same s a i t n what)) k
+    by (Event.Reset dev) k =
+        subst (λ (x : List ProcId). AllOver (story_after_event s b (Event.Reset dev)) x) (sym (all_reset_same s.hosts a.units (λ u. true) (record (Steps.without_dropped a (λ p. true)) { senses = []; holds = [] }))) k
 
 step_over : (s : ScenarioValue) (b : Story) (a : Array) (event : Event) → AllOver b a.ended → IfOver (story_after_event s b event) (Steps.step s event a)
 step_over s b a event h = go (Steps.event_step s a event) (event_over s b a event h)

@@ -1,35 +1,18 @@
 -- What is over has an ending, after any rows.
-use Rattle.std.proofs.Common.{ℕ, ◌≡◌, ◌+◌, Bool, true, false, not, ◌&&◌, ◌||◌, ◌∙◌, List, [], ◌∷◌, ◌++◌, Option, Some, None, refl, sym, ap, subst}
-use Rattle.std.specs.Prelude.{if◌then◌else◌, ◌==◌, is_some, is_none}
-use Rattle.std.specs.List.{list_any}
-use Rattle.bus_due.specs.bus_base.specs.declared.ProcId.{ProcId}
-use Rattle.bus_due.specs.bus_base.specs.declared.Event.{Event}
-use Rattle.bus_due.specs.bus_base.specs.declared.Event.TheVariants as events
-use Rattle.bus_due.specs.bus_trace.specs.declared.Row.{Row}
-use Rattle.bus_due.specs.bus_trace.specs.declared.Kind.{Kind}
-use Rattle.bus_due.specs.bus_trace.specs.declared.Kind.TheVariants.{Drives, Fault}
-use Rattle.bus_due.specs.bus_trace.specs.declared.connection.Connection.{Connection}
-use Rattle.bus_due.specs.bus_trace.specs.declared.selection.Call.{Call}
-use Rattle.bus_due.specs.bus_trace.specs.declared.selection.Calling.{Calling}
-use Rattle.bus_due.specs.bus_trace.specs.Changes.{falls}
-use Rattle.bus_due.specs.msg_grammar.specs.declared.message.MsgOut.{MsgOut}
-use Rattle.bus_due.specs.msg_grammar.specs.declared.message.MsgIn.{MsgIn}
-use Rattle.bus_due.specs.cdb_codec.specs.declared.status.TheConstants.{CHECK_CONDITION}
-use Rattle.bus_due.specs.scenario.specs.declared.value.CmdDef.{CmdDef}
-use Rattle.bus_due.specs.scenario.specs.Value.{ScenarioValue}
-use Rattle.bus_due.specs.disk_array.specs.Processes.{same_bool, same_id}
-use Rattle.bus_due.specs.bus_story.specs.BusState.{RowReading, row_reading}
-use Rattle.bus_due.specs.bus_story.specs.CarriedBytes.{CarriedBytes}
-use Rattle.bus_due.specs.bus_story.specs.Items.{Item, process, abort, command_item, has_item, sense_item, is_open}
-use Rattle.bus_due.specs.bus_story.specs.Links.{Link, link_of, link_after_name}
-use Rattle.bus_due.specs.bus_story.specs.HistoryEvents.{carried_if, row_events_by}
-use Rattle.bus_due.specs.bus_story.specs.Story.{Story, Ending, by_status, by_loss, by_abort, by_reset, unanswered, is_aborted, is_ended, is_sense_stopped, story_with_ends, story_with_end, story_with_over, story_after_event, story_after_events, with_check, with_ending, story_with_end_if}
-use Rattle.bus_due.specs.bus_story.specs.TraceHistory.{aim_of, is_arbitration_entry, story_with_aim, story_without_answer, story_with_try, story_after_calling_by, story_after_calling, story_on_free_bus, story_with_restored, story_with_sent, story_after_connection, story_with_carried, story_after_out, story_after_in, story_after_byte, story_after_fault, story_in_connection, story_on_bus, story_by_change, is_parity_error, carried_after_byte_if, carried_after_fault_if}
-use Rattle.bus_due.specs.RunState.{RunState}
-use Rattle.bus_due.specs.RunSteps.{run_state}
-use Rattle.std.proofs.lemmas.Bool.{eqb-true}
-use Rattle.bus_due.specs.bus_base.proofs.Tests.{wrong, and_first, and_second, eq_self}
-use Rattle.trace_laws.proofs.OverItems.{sense_apart}
+use Rattle.progress_laws.proofs
+use proofs.Names.{ℕ, ◌≡◌, ◌+◌, Bool, true, false, not, ◌&&◌, ◌||◌, ◌∙◌, List, [], ◌∷◌, ◌++◌, Option, Some, None, refl}
+use proofs.Names.{sym, ap, subst, eqb-true, list_any, if◌then◌else◌, ◌==◌, is_some, is_none, wrong, and_first}
+use proofs.Names.{and_second, eq_self, Event, ProcId, falls, Kind, Drives, Fault, Row, Connection, Call, Calling}
+use proofs.Names.{CHECK_CONDITION, MsgIn, MsgOut, ScenarioValue, CmdDef, same_bool, same_id, RowReading, row_reading}
+use proofs.Names.{CarriedBytes, carried_if, row_events_by, Item, process, abort, command_item, has_item, sense_item}
+use proofs.Names.{is_open, Link, link_of, link_after_name, Story, Ending, by_status, by_loss, by_abort, by_reset}
+use proofs.Names.{unanswered, is_aborted, is_ended, is_sense_stopped, story_with_ends, story_with_end, story_with_over}
+use proofs.Names.{story_after_event, story_after_events, with_check, with_ending, story_with_end_if, aim_of}
+use proofs.Names.{is_arbitration_entry, story_with_aim, story_without_answer, story_with_try, story_after_calling_by}
+use proofs.Names.{story_after_calling, story_on_free_bus, story_with_restored, story_with_sent, story_after_connection}
+use proofs.Names.{story_with_carried, story_after_out, story_after_in, story_after_byte, story_after_fault}
+use proofs.Names.{story_in_connection, story_on_bus, story_by_change, is_parity_error, carried_after_byte_if}
+use proofs.Names.{carried_after_fault_if, RunState, run_state, sense_apart}
 
 -- ---- what is over, and what has ended
 
@@ -87,14 +70,14 @@ check_told b id status = go (not id.sense && status == CHECK_CONDITION)
     go false = refl
 
 event_told : (s : ScenarioValue) (b : Story) (event : Event) → AllEnded (told b) → AllEnded (told (story_after_event s b event))
-event_told s b (events.Accept id) h = h
-event_told s b (events.Refuse id) h = h
-event_told s b (events.Run id) h = h
-event_told s b (events.Fail id code) h = h
-event_told s b (events.End id status) h = subst AllEnded (sym (check_told (story_with_end b id (by_status status)) id status)) (end_told b id (by_status status) h)
-event_told s b (events.Lost id) h = end_told b id by_loss h
-event_told s b (events.Aborted host target unit what) h = ends_told (is_aborted host target unit what) (is_sense_stopped host target unit what) by_abort 1 s.commands b h
-event_told s b (events.Reset dev) h = ends_told (λ c. true) (λ c. true) by_reset 1 s.commands b h
+event_told s b (Event.Accept id) h = h
+event_told s b (Event.Refuse id) h = h
+event_told s b (Event.Run id) h = h
+event_told s b (Event.Fail id code) h = h
+event_told s b (Event.End id status) h = subst AllEnded (sym (check_told (story_with_end b id (by_status status)) id status)) (end_told b id (by_status status) h)
+event_told s b (Event.Lost id) h = end_told b id by_loss h
+event_told s b (Event.Aborted host target unit what) h = ends_told (is_aborted host target unit what) (is_sense_stopped host target unit what) by_abort 1 s.commands b h
+event_told s b (Event.Reset dev) h = ends_told (λ c. true) (λ c. true) by_reset 1 s.commands b h
 
 events_told : (s : ScenarioValue) (b : Story) (shown : List Event) → AllEnded (told b) → AllEnded (told (story_after_events s b shown))
 events_told s b [] h = h

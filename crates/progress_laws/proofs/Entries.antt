@@ -1,37 +1,14 @@
 -- Whom a device is due to call stays as it is while it contends; and as it enters arbitration it has whom to call.
-use Rattle.std.proofs.Common.{ℕ, ◌≡◌, ◌≢◌, ◌<◌, ◌≤◌, Bool, true, false, not, ◌&&◌, ◌∙◌, List, ◌∷◌, Option, Some, None, refl, sym, ap, subst, arith}
-use Rattle.std.specs.Prelude.{if◌then◌else◌, is_none, is_some, max, ◌+◌}
-use Rattle.bus_due.specs.bus_trace.specs.LineSet.{LineSet}
-use Rattle.bus_due.specs.bus_trace.specs.declared.Row.{Row}
-use Rattle.bus_due.specs.bus_trace.specs.declared.changes.Change.{Change}
-use Rattle.bus_due.specs.bus_trace.specs.Changes.{change_of, falls, rises}
-use Rattle.bus_due.specs.bus_trace.specs.Terms.{arbitration, call, connection, connection_after}
-use Rattle.bus_due.specs.bus_trace.specs.Trace.{bus, drives}
-use Rattle.bus_due.specs.scenario.specs.Value.{ScenarioValue}
-use Rattle.bus_due.specs.bus_story.specs.BusState.{RowReading, row_reading}
-use Rattle.bus_due.specs.bus_story.specs.Items.{Item, Sent, item_at}
-use Rattle.bus_due.specs.bus_story.specs.Story.{Story}
-use Rattle.bus_due.specs.bus_story.specs.TraceHistory.{aim_of, is_arbitration_entry, story_after_calling, story_on_bus, story_with_aim}
-use Rattle.bus_due.specs.bus_reactions.specs.declared.due.Due.{Due}
-use Rattle.bus_due.specs.bus_reactions.specs.FreeBus.{contender_lines, free_due}
-use Rattle.bus_due.specs.bus_dialogue.specs.Wants.{Ready, is_reached}
-use Rattle.bus_due.specs.Plain.{AreOfDevices}
-use Rattle.bus_due.specs.RunState.{RunState}
-use Rattle.bus_due.specs.RunSteps.{run_state}
-use Rattle.bus_due.specs.Wants.{initiator_if, item_want_time, ready_of, ready_time, target_of, want_time}
-use Rattle.bus_due.proofs.Plains.{run_state_plain}
-use Rattle.trace_laws.specs.scsi_device.specs.Lines.{FitsBus}
-use Rattle.trace_laws.specs.bus_laws.specs.Reactions.{device_with}
-use Rattle.trace_laws.specs.bus_laws.proofs.Apart.{GoesApart, KeepsAll, change_plain, entry_keeps}
-use Rattle.trace_laws.specs.bus_laws.proofs.Dues.{is_at}
-use Rattle.progress_laws.proofs.AimRows.{aims_by_change, eight_aims, own_aim}
-use Rattle.progress_laws.proofs.Apart.{IsBound}
-use Rattle.progress_laws.proofs.Callees.{aim_bound, ready_bound}
-use Rattle.std.proofs.lemmas.Bool.{le-leb}
-use Rattle.std.proofs.lemmas.Option.{none-some}
-use Rattle.bus_due.specs.bus_base.proofs.Tests.{none_number, and_more, wrong'}
-use Rattle.trace_laws.proofs.AimsFit.{set_other}
-use Rattle.bus_due.specs.disk_array.specs.Seats.{is_initiator}
+use Rattle.progress_laws.proofs
+use proofs.Names.{ℕ, ◌≡◌, ◌≢◌, ◌<◌, ◌≤◌, Bool, true, false, not, ◌&&◌, ◌∙◌, List, ◌∷◌, Option, Some, None, refl, sym}
+use proofs.Names.{ap, subst, arith, ◌+◌, le-leb, none-some, if◌then◌else◌, is_none, is_some, max, none_number, and_more}
+use proofs.Names.{wrong', change_of, falls, rises, LineSet, arbitration, call, connection, connection_after, bus}
+use proofs.Names.{drives, Row, Change, ScenarioValue, is_initiator, RowReading, row_reading, Item, Sent, item_at, Story}
+use proofs.Names.{aim_of, is_arbitration_entry, story_after_calling, story_on_bus, story_with_aim, contender_lines}
+use proofs.Names.{free_due, Due, Ready, is_reached, run_state_plain, AreOfDevices, RunState, run_state, initiator_if}
+use proofs.Names.{item_want_time, ready_of, ready_time, target_of, want_time, FitsBus, GoesApart, KeepsAll}
+use proofs.{Names.{change_plain, entry_keeps, is_at, device_with, set_other}, AimRows.{aims_by_change, eight_aims}}
+use proofs.{AimRows.{own_aim}, Apart.{IsBound}, Callees.{aim_bound, ready_bound}}
 
 -- An initiator wants the bus from the time on at which it has something to send.
 abbrev pub WantsAreItems : Type 0

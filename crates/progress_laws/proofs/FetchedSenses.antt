@@ -1,30 +1,15 @@
 -- Event by event an automatic REQUEST SENSE is answered GOOD, where none fails (7.6, 8.2.14).
-use Rattle.std.proofs.Common.{ℕ, ◌≡◌, Bool, true, false, not, ◌&&◌, ◌||◌, ◌∙◌, List, ◌∷◌, Option, Some, None, refl, sym, ap, subst}
-use Rattle.std.specs.Prelude.{if◌then◌else◌, ◌==◌, is_none, is_some}
-use Rattle.std.proofs.lemmas.Option.{same_Some}
-use Rattle.bus_due.specs.bus_base.specs.declared.Event.{Event}
-use Rattle.bus_due.specs.bus_base.specs.declared.Event.TheVariants as events
-use Rattle.bus_due.specs.bus_base.specs.declared.ProcId.{ProcId}
-use Rattle.bus_due.specs.bus_base.proofs.Tests.{wrong, wrong', and_second}
-use Rattle.bus_due.specs.cdb_codec.specs.Cdb.{command_of}
-use Rattle.bus_due.specs.cdb_codec.specs.declared.Sense.{Sense}
-use Rattle.bus_due.specs.cdb_codec.specs.declared.sense.TheConstants.{ABORTED_COMMAND}
-use Rattle.bus_due.specs.cdb_codec.specs.declared.status.TheConstants.{GOOD}
-use Rattle.bus_due.specs.scenario.specs.declared.value.CmdDef.{CmdDef}
-use Rattle.bus_due.specs.scenario.specs.Value.{ScenarioValue}
-use Rattle.bus_due.specs.disk_array.specs.ArrayHistory.{reply_in}
-use Rattle.bus_due.specs.disk_array.specs.Execution.{CommandContext, Reply, attention_execution, check_condition, execution, is_request_sense, needs_unit, queue_full, reply_execution, sense_of, unit_not_supported}
-use Rattle.bus_due.specs.disk_array.specs.Processes.{Process, process_by, process_if, process_of, command_at, same_bool, same_id, sense_block}
-use Rattle.bus_due.specs.disk_array.specs.SoundArray.{IsSound}
-use Rattle.bus_due.specs.disk_array.specs.Steps as Steps
-use Rattle.bus_due.specs.disk_array.specs.Units.{Array, RunningProcess, UnitState, guest_at, is_held, nexus_of, unit_state_at}
-use Rattle.bus_due.specs.disk_array.proofs.ArrayReplies.{abort_lists, fail_lists, loss_lists, reset_lists, took, end_lists}
+use Rattle.progress_laws.proofs
+use proofs.Names.{ℕ, ◌≡◌, Bool, true, false, not, ◌&&◌, ◌||◌, ◌∙◌, List, ◌∷◌, Option, Some, None, refl, sym, ap, subst}
+use proofs.Names.{same_Some, if◌then◌else◌, ◌==◌, is_none, is_some, wrong, wrong', and_second, Event, ProcId}
+use proofs.Names.{command_of, Sense, ABORTED_COMMAND, GOOD, ScenarioValue, CmdDef, abort_lists, fail_lists, loss_lists}
+use proofs.Names.{reset_lists, took, end_lists, reply_in, CommandContext, Reply, attention_execution, check_condition}
+use proofs.Names.{execution, is_request_sense, needs_unit, queue_full, reply_execution, sense_of, unit_not_supported}
+use proofs.Names.{Process, process_by, process_if, process_of, command_at, same_bool, same_id, sense_block, IsSound}
+use proofs.Names.{Array, RunningProcess, UnitState, guest_at, is_held, nexus_of, unit_state_at, Sent, sense_id}
+use proofs.{Names.{executed, reply_at, accepted, settles, running_id, AreFetched, PaysWell}, OwedEvents.{running_own}}
 use Rattle.bus_due.specs.disk_array.proofs.SoundArrays.{id_is}
-use Rattle.bus_due.specs.bus_story.specs.Items.{Sent, sense_id}
-use Rattle.trace_laws.proofs.ListedReplies.{accepted, settles, running_id}
-use Rattle.trace_laws.proofs.OtherProcesses.{executed, reply_at}
-use Rattle.progress_laws.proofs.OwedEvents.{running_own}
-use Rattle.progress_laws.specs.Debts.{AreFetched, PaysWell}
+use Rattle.bus_due.specs.disk_array.specs.Steps
 
 -- ---- what it answers
 
@@ -136,25 +121,25 @@ refused s a c id (Some p) f e h = at (unit_state_at a.units p.target p.unit) e
 
 pub step_fetches : (s : ScenarioValue) (b : Sent) (a d : Array) (event : Event) → IsSound s a → PaysWell s b event → Steps.step s event a ≡ Some d → AreFetched a.replies
     → AreFetched d.replies
-step_fetches s b a d (events.Accept id) sound well e h =
+step_fetches s b a d (Event.Accept id) sound well e h =
     settles (Steps.accept_step a (process_of s id)) d (λ (x : Array). AreFetched x.replies) (λ c k. no_more a.replies c.replies (accepted a c (process_of s id) k) h) e
-step_fetches s b a d (events.Refuse id) sound well e h =
+step_fetches s b a d (Event.Refuse id) sound well e h =
     settles (Steps.refuse_step a (process_of s id)) d (λ (x : Array). AreFetched x.replies) (λ c k. refused s a c id (process_of s id) refl k h) e
-step_fetches s b a d (events.Run id) sound well e h =
+step_fetches s b a d (Event.Run id) sound well e h =
     settles (Steps.run_step a (is_some (guest_at a.guests id)) (Steps.running_process a id)) d (λ (x : Array). AreFetched x.replies)
     (λ c k. ran s a c id (is_some (guest_at a.guests id)) (Steps.running_process a id) sound refl k h) e
-step_fetches s b a d (events.Fail id code) sound well e h =
+step_fetches s b a d (Event.Fail id code) sound well e h =
     settles (Steps.fail_step s a id (check_condition (sense_of ABORTED_COMMAND code 0x00)) (Steps.running_process a id)) d (λ (x : Array). AreFetched x.replies)
     (λ c k. one_more a.replies c.replies id (check_condition (sense_of ABORTED_COMMAND code 0x00))
     (fail_lists s a c id (check_condition (sense_of ABORTED_COMMAND code 0x00)) (Steps.running_process a id) k) (λ z. wrong (sym z ∙ well)) h) e
-step_fetches s b a d (events.End id status) sound well e h =
+step_fetches s b a d (Event.End id status) sound well e h =
     settles (Steps.end_step a status (Steps.running_process a id)) d (λ (x : Array). AreFetched x.replies)
     (λ c k. no_more a.replies c.replies (end_lists a c status (Steps.running_process a id) k) h) e
-step_fetches s b a d (events.Lost id) sound well e h =
+step_fetches s b a d (Event.Lost id) sound well e h =
     settles (Steps.loss_step a id) d (λ (x : Array). AreFetched x.replies) (λ c k. no_more a.replies c.replies (loss_lists a c id k) h) e
-step_fetches s b a d (events.Aborted i t n what) sound well e h =
+step_fetches s b a d (Event.Aborted i t n what) sound well e h =
     settles (Some (Steps.abort_step s a i t n what)) d (λ (x : Array). AreFetched x.replies)
     (λ c k. no_more a.replies c.replies (took (Steps.abort_step s a i t n what) c a.replies k (abort_lists s a i t n what)) h) e
-step_fetches s b a d (events.Reset dev) sound well e h =
+step_fetches s b a d (Event.Reset dev) sound well e h =
     settles (Some (Steps.reset_step s a)) d (λ (x : Array). AreFetched x.replies)
     (λ c k. no_more a.replies c.replies (took (Steps.reset_step s a) c a.replies k (reset_lists s a)) h) e

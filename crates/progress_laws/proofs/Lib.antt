@@ -1,3 +1,4 @@
+pub mod Names
 pub mod Acts
 pub mod Connections
 pub mod Apart

@@ -1,23 +1,13 @@
 -- To each initiator that stands in a hold its automatic REQUEST SENSE is owed, after every event, where one that ends does so with GOOD
 -- and none is lost (7.6).
-use Rattle.std.proofs.Common.{ℕ, suc, ◌≡◌, ◌+◌, Bool, true, false, ◌&&◌, ◌∙◌, List, [], ◌∷◌, Some, refl, sym, ap, subst, arith}
-use Rattle.std.specs.Prelude.{if◌then◌else◌, ◌==◌}
-use Rattle.std.specs.List.{list_any}
-use Rattle.std.proofs.lemmas.Option.{same_Some}
-use Rattle.bus_due.specs.bus_base.specs.declared.AbortKind.{AbortKind}
-use Rattle.bus_due.specs.bus_base.specs.declared.AbortKind.TheVariants as aborts
-use Rattle.bus_due.specs.scenario.specs.declared.value.CmdDef.{CmdDef}
-use Rattle.bus_due.specs.scenario.specs.declared.value.HostDef.{HostDef}
-use Rattle.bus_due.specs.scenario.specs.Value.{ScenarioValue}
-use Rattle.bus_due.specs.disk_array.specs.Processes.{Process, command_at, same_bool}
-use Rattle.bus_due.specs.disk_array.specs.Steps as Steps
-use Rattle.bus_due.specs.disk_array.specs.Units.{Array, Nexus, UnitState, nexus_of, nexuses_without, same_nexus, unit_state_at}
-use Rattle.bus_due.specs.bus_story.specs.Items.{Sent, command_item, has_item, is_open, same_item, sense_item}
-use Rattle.bus_due.specs.bus_story.specs.Story.{Ending, Story, by_abort, is_aborted, is_sense_stopped, story_with_end, story_with_ends, story_with_over}
-use Rattle.progress_laws.specs.Queued.{AreOwed, IsOwed}
-use Rattle.std.proofs.lemmas.Bool.{eqb-true, or_from}
-use Rattle.bus_due.specs.bus_base.proofs.Tests.{wrong, and_first, and_true}
-use Rattle.bus_due.specs.bus_story.proofs.StorySteps.{ends_checks}
+use Rattle.progress_laws.proofs
+use proofs.Names.{ℕ, suc, ◌≡◌, ◌+◌, Bool, true, false, ◌&&◌, ◌∙◌, List, [], ◌∷◌, Some, refl, sym, ap, subst, arith}
+use proofs.Names.{eqb-true, or_from, same_Some, list_any, if◌then◌else◌, ◌==◌, wrong, and_first, and_true, AbortKind}
+use proofs.Names.{ScenarioValue, CmdDef, HostDef, Process, command_at, same_bool, Array, Nexus, UnitState, nexus_of}
+use proofs.Names.{nexuses_without, same_nexus, unit_state_at, ends_checks, Sent, command_item, has_item, is_open}
+use proofs.Names.{same_item, sense_item, Ending, Story, by_abort, is_aborted, is_sense_stopped, story_with_end}
+use proofs.Names.{story_with_ends, story_with_over, AreOwed, IsOwed}
+use Rattle.bus_due.specs.disk_array.specs.Steps
 
 -- ---- what stays owed
 
@@ -130,19 +120,19 @@ all_reset_holds hosts (u ∷ units) is_one a = all_reset_holds hosts units is_on
     go false = refl
 
 pub aborts_owe : (s : ScenarioValue) (b : Story) (a : Array) (i t n : ℕ) (what : AbortKind) → AreOwed s b.sent a.holds → AreOwed s (story_with_ends (is_aborted i t n what) (is_sense_stopped i t n what) by_abort 1 s.commands b).sent (Steps.abort_step s a i t n what).holds
-aborts_owe s b a i t n aborts.All h =
+aborts_owe s b a i t n AbortKind.All h =
     owed_without s b.sent _ a.holds (nexus_at i t n)
-    (λ q ne w. still_owed s (is_aborted i t n aborts.All) (is_sense_stopped i t n aborts.All) by_abort b q w ((λ j. (w.host_is j == i) && ((w.target_is j == t) && (w.unit_is j == n))) ∙ ne)) h
-aborts_owe s b a i t n (aborts.Tag tag) h = owed_all s b.sent _ a.holds (λ q w. still_owed s (is_aborted i t n (aborts.Tag tag)) (is_sense_stopped i t n (aborts.Tag tag)) by_abort b q w refl) h
-aborts_owe s b a i t n aborts.WholeQueue h =
-    subst (λ (x : List Nexus). AreOwed s (story_with_ends (is_aborted i t n aborts.WholeQueue) (is_sense_stopped i t n aborts.WholeQueue) by_abort 1 s.commands b).sent x)
+    (λ q ne w. still_owed s (is_aborted i t n AbortKind.All) (is_sense_stopped i t n AbortKind.All) by_abort b q w ((λ j. (w.host_is j == i) && ((w.target_is j == t) && (w.unit_is j == n))) ∙ ne)) h
+aborts_owe s b a i t n (AbortKind.Tag tag) h = owed_all s b.sent _ a.holds (λ q w. still_owed s (is_aborted i t n (AbortKind.Tag tag)) (is_sense_stopped i t n (AbortKind.Tag tag)) by_abort b q w refl) h
+aborts_owe s b a i t n AbortKind.WholeQueue h =
+    subst (λ (x : List Nexus). AreOwed s (story_with_ends (is_aborted i t n AbortKind.WholeQueue) (is_sense_stopped i t n AbortKind.WholeQueue) by_abort 1 s.commands b).sent x)
     (sym (cleared_holds i (Steps.unit_processes (unit_state_at a.units t n)) (Steps.without_dropped a (λ p. Steps.is_of_unit p t n))))
-    (owed_all s b.sent _ a.holds (λ q w. still_owed s (is_aborted i t n aborts.WholeQueue) (is_sense_stopped i t n aborts.WholeQueue) by_abort b q w refl) h)
-aborts_owe s b a i t n aborts.Device h =
-    subst (λ (x : List Nexus). AreOwed s (story_with_ends (is_aborted i t n aborts.Device) (is_sense_stopped i t n aborts.Device) by_abort 1 s.commands b).sent x)
+    (owed_all s b.sent _ a.holds (λ q w. still_owed s (is_aborted i t n AbortKind.WholeQueue) (is_sense_stopped i t n AbortKind.WholeQueue) by_abort b q w refl) h)
+aborts_owe s b a i t n AbortKind.Device h =
+    subst (λ (x : List Nexus). AreOwed s (story_with_ends (is_aborted i t n AbortKind.Device) (is_sense_stopped i t n AbortKind.Device) by_abort 1 s.commands b).sent x)
     (sym (all_reset_holds s.hosts a.units (λ u. u.target == t) (record (Steps.without_dropped a (λ p. p.target == t)) { senses = Steps.kept_senses (λ r. r.target == t) a.senses; holds = Steps.kept_nexuses (λ r. r.target == t) a.holds })))
     (owed_kept s b.sent _ (λ q. q.target == t) a.holds
-    (λ q ne w. still_owed s (is_aborted i t n aborts.Device) (is_sense_stopped i t n aborts.Device) by_abort b q w (ap (λ (x : ℕ). x == t) w.target_is ∙ ne)) h)
+    (λ q ne w. still_owed s (is_aborted i t n AbortKind.Device) (is_sense_stopped i t n AbortKind.Device) by_abort b q w (ap (λ (x : ℕ). x == t) w.target_is ∙ ne)) h)
 
 pub reset_owes : (s : ScenarioValue) (b : Story) (a : Array) → AreOwed s b.sent (Steps.reset_step s a).holds
 reset_owes s b a =

@@ -1,38 +1,21 @@
 -- To each initiator that stands in a hold its automatic REQUEST SENSE is owed, event by event: a command that ends with CHECK CONDITION puts its
 -- initiator there, and the REQUEST SENSE that ends GOOD takes it away (7.6).
-use Rattle.std.proofs.Common.{ℕ, ◌≡◌, Bool, true, false, not, ◌&&◌, ◌||◌, ◌∙◌, List, [], ◌∷◌, ◌++◌, Option, Some, None, refl, sym, ap, subst}
-use Rattle.std.specs.Prelude.{if◌then◌else◌, ◌==◌, is_none, is_some, nat_lt, ⊤}
-use Rattle.std.specs.List.{list_any}
-use Rattle.std.proofs.lemmas.Option.{same_Some}
-use Rattle.bus_due.specs.bus_base.specs.declared.Event.{Event}
-use Rattle.bus_due.specs.bus_base.specs.declared.Event.TheVariants as events
-use Rattle.bus_due.specs.bus_base.specs.declared.ProcId.{ProcId}
-use Rattle.bus_due.specs.cdb_codec.specs.declared.sense.TheConstants.{ABORTED_COMMAND}
-use Rattle.bus_due.specs.cdb_codec.specs.declared.status.TheConstants.{GOOD, CHECK_CONDITION}
-use Rattle.bus_due.specs.cdb_codec.specs.Cdb.{command_of}
-use Rattle.bus_due.specs.scenario.specs.declared.value.CmdDef.{CmdDef}
-use Rattle.bus_due.specs.scenario.specs.Value.{ScenarioValue}
-use Rattle.bus_due.specs.disk_array.specs.Execution.{Reply, check_condition, is_request_sense, sense_of}
-use Rattle.bus_due.specs.disk_array.specs.Processes.{Process, command_at, process_by, process_if, process_of, same_bool}
-use Rattle.bus_due.specs.disk_array.specs.SoundArray.{IsSound}
-use Rattle.bus_due.specs.disk_array.specs.Steps as Steps
-use Rattle.bus_due.specs.disk_array.specs.Steps.{running_if}
-use Rattle.bus_due.specs.disk_array.specs.Units.{Array, Nexus, RunningProcess, UnitState, guest_at, is_held, nexus_of, nexuses_without, same_nexus, senses_without, unit_state_at}
-use Rattle.bus_due.specs.bus_story.specs.Items.{Item, Sent, has_item, process, same_item, sense_item}
-use Rattle.bus_due.specs.bus_story.specs.Story.{Story, by_status, story_after_event, story_with_end}
-use Rattle.progress_laws.proofs.Owed.{aborts_owe, owed_all, owed_without, reset_owes}
-use Rattle.progress_laws.specs.Queued.{AreOwed, IsOwed}
-use Rattle.std.proofs.lemmas.Bool.{eqb-true, or_from}
-use Rattle.bus_due.specs.bus_base.proofs.Tests.{wrong, eq_self}
-use Rattle.trace_laws.proofs.OtherProcesses.{executed}
-use Rattle.trace_laws.proofs.OverItems.{later}
-use Rattle.trace_laws.proofs.ListedReplies.{running_id}
-use Rattle.trace_laws.specs.bus_books.proofs.Senses.{running_own as own_process}
+use Rattle.progress_laws.proofs
+use proofs.Names.{ℕ, ◌≡◌, Bool, true, false, not, ◌&&◌, ◌||◌, ◌∙◌, List, [], ◌∷◌, ◌++◌, Option, Some, None, refl, sym}
+use proofs.Names.{ap, subst, eqb-true, or_from, same_Some, list_any, if◌then◌else◌, ◌==◌, is_none, is_some, nat_lt, ⊤}
+use proofs.Names.{wrong, eq_self, Event, ProcId, command_of, ABORTED_COMMAND, GOOD, CHECK_CONDITION, ScenarioValue}
+use proofs.Names.{CmdDef, Reply, check_condition, is_request_sense, sense_of, Process, command_at, process_by}
+use proofs.Names.{process_if, process_of, same_bool, IsSound, running_if, Array, Nexus, RunningProcess, UnitState}
+use proofs.Names.{guest_at, is_held, nexus_of, nexuses_without, same_nexus, senses_without, unit_state_at, Item, Sent}
+use proofs.Names.{has_item, process, same_item, sense_item, Story, by_status, story_after_event, story_with_end}
+use proofs.{Names.{running_own as own_process, executed, running_id, later, AreOwed, IsOwed}, Owed.{aborts_owe}}
+use proofs.Owed.{owed_all, owed_without, reset_owes}
+use Rattle.bus_due.specs.disk_array.specs.Steps
 
 -- An automatic REQUEST SENSE that ends does so with GOOD, and none is lost; and that of a command is not over as the command ends.
 abbrev pub EndsWell : Story → Event → Type 0
-EndsWell b (events.End id status) = (id.sense ≡ true → (status == GOOD) ≡ true) × (id.sense ≡ false → has_item b.sent.over (sense_item id.command) ≡ false)
-EndsWell b (events.Lost id) = id.sense ≡ false
+EndsWell b (Event.End id status) = (id.sense ≡ true → (status == GOOD) ≡ true) × (id.sense ≡ false → has_item b.sent.over (sense_item id.command) ≡ false)
+EndsWell b (Event.Lost id) = id.sense ≡ false
 EndsWell b _ = ⊤
 
 -- Of those that stand in holds, where the step is allowed.
@@ -117,10 +100,10 @@ owed_on s b c id q w over more apart = record {
   opens = ap (λ (x : List Item). has_item x (sense_item w.number)) over ∙ or_from (same_item (process id) (sense_item w.number)) (has_item b.over (sense_item w.number)) apart w.opens;
 }
 
-lost : (s : ScenarioValue) (b : Story) (a : Array) (id : ProcId) → id.sense ≡ false → AreOwed s b.sent a.holds → IfOwed s (story_after_event s b (events.Lost id)).sent (Steps.loss_step a id)
+lost : (s : ScenarioValue) (b : Story) (a : Array) (id : ProcId) → id.sense ≡ false → AreOwed s b.sent a.holds → IfOwed s (story_after_event s b (Event.Lost id)).sent (Steps.loss_step a id)
 lost s b a id e h =
-    if_none (λ holds. AreOwed s (story_after_event s b (events.Lost id)).sent holds) (Steps.has_ended a id) _
-    (owed_all s b.sent (story_after_event s b (events.Lost id)).sent a.holds (λ q w. owed_on s b.sent (story_after_event s b (events.Lost id)).sent id q w refl (λ n z. z) (other_over id w.number e)) h)
+    if_none (λ holds. AreOwed s (story_after_event s b (Event.Lost id)).sent holds) (Steps.has_ended a id) _
+    (owed_all s b.sent (story_after_event s b (Event.Lost id)).sent a.holds (λ q w. owed_on s b.sent (story_after_event s b (Event.Lost id)).sent id q w refl (λ n z. z) (other_over id w.number e)) h)
 
 -- ---- the process that runs is of the scenario
 
@@ -192,11 +175,11 @@ ended_so s f a id status sound h = go (Steps.running_process a id) refl
     go None z = tt
     go (Some r) z = reply_by r (of_command s id r.process (running_own s a id r sound z)) r.reply
 
-ended : (s : ScenarioValue) (b : Story) (a : Array) (id : ProcId) (status : ℕ) → IsSound s a → EndsWell b (events.End id status) → AreOwed s b.sent a.holds → IfOwed s (story_after_event s b (events.End id status)).sent (Steps.end_step a status (Steps.running_process a id))
+ended : (s : ScenarioValue) (b : Story) (a : Array) (id : ProcId) (status : ℕ) → IsSound s a → EndsWell b (Event.End id status) → AreOwed s b.sent a.holds → IfOwed s (story_after_event s b (Event.End id status)).sent (Steps.end_step a status (Steps.running_process a id))
 ended s b a id status sound well h = ended_so s (λ holds. AreOwed s c holds) a id status sound after
   where
     c : Sent
-    c = (story_after_event s b (events.End id status)).sent
+    c = (story_after_event s b (Event.End id status)).sent
 
     ends : Story
     ends = story_with_end b id (by_status status)
@@ -266,14 +249,14 @@ ended s b a id status sound well h = ended_so s (λ holds. AreOwed s c holds) a 
 -- ---- any event
 
 event_owes : (s : ScenarioValue) (b : Story) (a : Array) (event : Event) → IsSound s a → EndsWell b event → AreOwed s b.sent a.holds → IfOwed s (story_after_event s b event).sent (Steps.event_step s a event)
-event_owes s b a (events.Accept id) sound well h = accepted (λ holds. AreOwed s b.sent holds) a (process_of s id) h
-event_owes s b a (events.Refuse id) sound well h = refused (λ holds. AreOwed s b.sent holds) a (process_of s id) h
-event_owes s b a (events.Run id) sound well h = run (λ holds. AreOwed s b.sent holds) a (is_some (guest_at a.guests id)) (Steps.running_process a id) h
-event_owes s b a (events.Fail id code) sound well h = failed (λ holds. AreOwed s b.sent holds) s a id (check_condition (sense_of ABORTED_COMMAND code 0x00)) (Steps.running_process a id) h
-event_owes s b a (events.End id status) sound well h = ended s b a id status sound well h
-event_owes s b a (events.Lost id) sound well h = lost s b a id well h
-event_owes s b a (events.Aborted i t n what) sound well h = aborts_owe s b a i t n what h
-event_owes s b a (events.Reset dev) sound well h = reset_owes s (story_after_event s b (events.Reset dev)) a
+event_owes s b a (Event.Accept id) sound well h = accepted (λ holds. AreOwed s b.sent holds) a (process_of s id) h
+event_owes s b a (Event.Refuse id) sound well h = refused (λ holds. AreOwed s b.sent holds) a (process_of s id) h
+event_owes s b a (Event.Run id) sound well h = run (λ holds. AreOwed s b.sent holds) a (is_some (guest_at a.guests id)) (Steps.running_process a id) h
+event_owes s b a (Event.Fail id code) sound well h = failed (λ holds. AreOwed s b.sent holds) s a id (check_condition (sense_of ABORTED_COMMAND code 0x00)) (Steps.running_process a id) h
+event_owes s b a (Event.End id status) sound well h = ended s b a id status sound well h
+event_owes s b a (Event.Lost id) sound well h = lost s b a id well h
+event_owes s b a (Event.Aborted i t n what) sound well h = aborts_owe s b a i t n what h
+event_owes s b a (Event.Reset dev) sound well h = reset_owes s (story_after_event s b (Event.Reset dev)) a
 
 -- The choices change no hold.
 pub if_settled : (f : List Nexus → Type 0) (o : Option Array) → IfHolds f o → IfHolds f (Steps.settled_array_if o)

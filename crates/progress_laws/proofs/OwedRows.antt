@@ -1,33 +1,15 @@
 -- Row by row: to each initiator that stands in a hold its automatic REQUEST SENSE is owed.
-use Rattle.std.proofs.Common.{ℕ, ◌≡◌, Bool, true, false, not, ◌&&◌, ◌∙◌, List, [], ◌∷◌, Option, Some, None, refl, sym, ap, subst}
-use Rattle.std.specs.Prelude.{if◌then◌else◌, ◌==◌, is_none, nat_lt, ⊤}
-use Rattle.std.specs.List.{list_any}
-use Rattle.std.proofs.lemmas.Option.{same_Some}
-use Rattle.bus_due.specs.bus_base.specs.declared.Event.{Event}
-use Rattle.bus_due.specs.bus_trace.specs.declared.Row.{Row}
-use Rattle.bus_due.specs.bus_trace.specs.declared.connection.Connection.{Connection}
-use Rattle.bus_due.specs.bus_trace.specs.declared.selection.Call.{Call}
-use Rattle.bus_due.specs.bus_trace.specs.declared.selection.Calling.{Calling}
-use Rattle.bus_due.specs.bus_trace.specs.Changes.{falls}
-use Rattle.bus_due.specs.scenario.specs.Value.{ScenarioValue}
-use Rattle.bus_due.specs.disk_array.specs.ArrayHistory.{array_step}
-use Rattle.bus_due.specs.disk_array.specs.SoundArray.{HasSeats, IsSound}
-use Rattle.bus_due.specs.disk_array.specs.Units.{Array, Nexus}
-use Rattle.bus_due.specs.disk_array.proofs.SoundArrays.{step_sound}
-use Rattle.bus_due.specs.bus_story.specs.BusState.{RowReading, row_reading}
-use Rattle.bus_due.specs.bus_story.specs.HistoryEvents.{row_events_by}
-use Rattle.bus_due.specs.bus_story.specs.Items.{Item, Sent, abort, count_item, has_item, process, sense_item}
-use Rattle.bus_due.specs.bus_story.specs.Links.{link_of}
-use Rattle.bus_due.specs.bus_story.specs.Story.{Story, story_after_event, story_after_events}
-use Rattle.bus_due.specs.bus_story.specs.TraceHistory.{aim_of, is_arbitration_entry, is_counted, retries_of, story_after_calling, story_after_calling_by, story_after_connection, story_by_change, story_on_bus, story_on_free_bus, story_with_aim, story_with_restored, story_with_sent, story_with_try, story_without_answer}
-use Rattle.bus_due.specs.RunState.{RunState, array_of, or_start}
-use Rattle.bus_due.specs.RunSteps.{array_after_events, run_state}
-use Rattle.progress_laws.proofs.Owed.{owed_all}
-use Rattle.progress_laws.proofs.OwedEvents.{EndsWell, IfOwed, other_over, step_owes}
-use Rattle.progress_laws.proofs.QueueRows.{HasArray}
-use Rattle.progress_laws.specs.Queued.{AreOwed, IsOwed}
-use Rattle.std.proofs.lemmas.Bool.{or_from, not-true}
-use Rattle.trace_laws.proofs.PointerWaits.{connection_sent}
+use Rattle.progress_laws.proofs
+use proofs.Names.{ℕ, ◌≡◌, Bool, true, false, not, ◌&&◌, ◌∙◌, List, [], ◌∷◌, Option, Some, None, refl, sym, ap, subst}
+use proofs.Names.{or_from, not-true, same_Some, list_any, if◌then◌else◌, ◌==◌, is_none, nat_lt, ⊤, Event, falls, Row}
+use proofs.Names.{Connection, Call, Calling, ScenarioValue, step_sound, array_step, HasSeats, IsSound, Array, Nexus}
+use proofs.Names.{RowReading, row_reading, row_events_by, Item, Sent, abort, count_item, has_item, process, sense_item}
+use proofs.Names.{link_of, Story, story_after_event, story_after_events, aim_of, is_arbitration_entry, is_counted}
+use proofs.Names.{retries_of, story_after_calling, story_after_calling_by, story_after_connection, story_by_change}
+use proofs.Names.{story_on_bus, story_on_free_bus, story_with_aim, story_with_restored, story_with_sent, story_with_try}
+use proofs.Names.{story_without_answer, RunState, array_of, or_start, array_after_events, run_state, connection_sent}
+use proofs.{Names.{AreOwed, IsOwed}, Owed.{owed_all}, OwedEvents.{EndsWell, IfOwed, other_over, step_owes}}
+use proofs.QueueRows.{HasArray}
 
 -- ---- the change of the bus ends no automatic REQUEST SENSE
 

@@ -1,48 +1,18 @@
 -- Row by row: each command that was sent, is not over and has no connection stands in a queue, where one does as its connection ends.
-use Rattle.std.proofs.Common.{inl, inr, ℕ, zero, suc, ◌≡◌, ◌+◌, Bool, true, false, not, ◌&&◌, ◌∙◌, List, [], ◌∷◌, Option, Some, None, refl, sym, ap, subst, arith}
-use Rattle.std.specs.Prelude.{if◌then◌else◌, is_none}
-use Rattle.std.proofs.lemmas.Option.{same_Some}
-use Rattle.bus_due.specs.bus_base.specs.declared.AbortKind.{AbortKind}
-use Rattle.bus_due.specs.bus_base.specs.declared.AbortKind.TheVariants as aborts
-use Rattle.bus_due.specs.bus_base.specs.declared.Event.{Event}
-use Rattle.bus_due.specs.bus_base.specs.declared.Event.TheVariants as events
-use Rattle.bus_due.specs.bus_base.specs.declared.ProcId.{ProcId}
-use Rattle.bus_due.specs.bus_trace.specs.declared.Row.{Row}
-use Rattle.bus_due.specs.bus_trace.specs.declared.connection.Connection.{Connection}
-use Rattle.bus_due.specs.bus_trace.specs.declared.selection.Call.{Call}
-use Rattle.bus_due.specs.bus_trace.specs.declared.selection.Calling.{Calling}
-use Rattle.bus_due.specs.bus_trace.specs.Changes.{falls}
-use Rattle.bus_due.specs.scenario.specs.declared.value.CmdDef.{CmdDef}
-use Rattle.bus_due.specs.scenario.specs.Value.{ScenarioValue}
-use Rattle.bus_due.specs.disk_array.specs.ArrayHistory.{array_step}
-use Rattle.bus_due.specs.disk_array.specs.Processes.{Process, command_at, process_by, process_if, process_of, same_id}
-use Rattle.bus_due.specs.disk_array.specs.SoundArray.{HasSeats, IsSound}
-use Rattle.bus_due.specs.disk_array.specs.Units.{Array}
-use Rattle.bus_due.specs.disk_array.proofs.SoundArrays.{step_sound}
-use Rattle.bus_due.specs.bus_story.specs.BusState.{RowReading, row_reading}
-use Rattle.bus_due.specs.bus_story.specs.HistoryEvents.{row_events_by}
-use Rattle.bus_due.specs.bus_story.specs.Items.{Item, Sent, abort, command_item, has_item, is_open, process, command_id}
-use Rattle.bus_due.specs.bus_story.specs.Links.{link_of}
-use Rattle.bus_due.specs.bus_story.specs.Story.{Story, by_abort, by_reset, is_aborted, is_sense_stopped, story_after_event, story_after_events}
-use Rattle.bus_due.specs.bus_story.specs.TraceHistory.{aim_of, is_arbitration_entry, story_with_aim, story_without_answer, story_with_try, story_after_calling_by, story_after_calling, story_on_free_bus, story_with_restored, story_with_sent, story_on_bus, story_by_change}
-use Rattle.bus_due.specs.bus_story.proofs.StorySteps.{restored_sent, event_sent}
-use Rattle.bus_due.specs.RunState.{RunState, array_of, or_start}
-use Rattle.bus_due.specs.RunSteps.{array_after_events, item_if, run_state, served_after}
-use Rattle.bus_due.specs.Wants.{ready_of}
-use Rattle.trace_laws.specs.bus_books.specs.Accounts.{is_served_by}
-use Rattle.trace_laws.specs.bus_books.proofs.Lookups.{id_is}
-use Rattle.trace_laws.specs.ItemFacts.{Items}
-use Rattle.trace_laws.proofs.OpenCommands.{item_is, opened}
-use Rattle.trace_laws.proofs.OverItems.{Grows, ends_over, events_grow, lost_over, not_grown}
-use Rattle.bus_due.specs.disk_array.proofs.SeatLookups.{none_at}
-use Rattle.trace_laws.proofs.QueuedProcesses.{is_dropped}
-use Rattle.trace_laws.proofs.SentItems.{free_keeps, more_has, self_item}
-use Rattle.progress_laws.proofs.QueueSteps.{IfQueued, IsNotEnded, ends_close, step_stays}
-use Rattle.progress_laws.specs.Queued.{AreQueued}
-use Rattle.trace_laws.specs.Places.{is_queued}
-use Rattle.trace_laws.proofs.Impossible.{none_some}
-use Rattle.trace_laws.proofs.PointerWaits.{connection_sent}
-use Rattle.bus_due.specs.bus_base.proofs.Tests.{wrong, and_first, and_second}
+use Rattle.progress_laws.proofs
+use proofs.Names.{inl, inr, ℕ, zero, suc, ◌≡◌, ◌+◌, Bool, true, false, not, ◌&&◌, ◌∙◌, List, [], ◌∷◌, Option, Some}
+use proofs.Names.{None, refl, sym, ap, subst, arith, same_Some, if◌then◌else◌, is_none, wrong, and_first, and_second}
+use proofs.Names.{AbortKind, Event, ProcId, falls, Row, Connection, Call, Calling, ScenarioValue, CmdDef, none_at}
+use proofs.Names.{step_sound, array_step, Process, command_at, process_by, process_if, process_of, same_id, HasSeats}
+use proofs.Names.{IsSound, Array, restored_sent, event_sent, RowReading, row_reading, row_events_by, Item, Sent, abort}
+use proofs.Names.{command_item, has_item, is_open, process, command_id, link_of, Story, by_abort, by_reset, is_aborted}
+use proofs.Names.{is_sense_stopped, story_after_event, story_after_events, aim_of, is_arbitration_entry, story_with_aim}
+use proofs.Names.{story_without_answer, story_with_try, story_after_calling_by, story_after_calling, story_on_free_bus}
+use proofs.Names.{story_with_restored, story_with_sent, story_on_bus, story_by_change, RunState, array_of, or_start}
+use proofs.Names.{array_after_events, item_if, run_state, served_after, ready_of, id_is, is_served_by, none_some}
+use proofs.Names.{is_dropped, item_is, opened, Grows, ends_over, events_grow, lost_over, not_grown, free_keeps}
+use proofs.{Names.{more_has, self_item, connection_sent, Items, is_queued, AreQueued}, QueueSteps.{IfQueued}}
+use proofs.QueueSteps.{IsNotEnded, ends_close, step_stays}
 
 -- ---- what is open after an event was not ended by it
 
@@ -56,48 +26,48 @@ was_sent s b event n e =
 one_less : (n : ℕ) → suc (0 + n) ≡ suc n
 one_less n = omega arith
 
-aborted_over : (s : ScenarioValue) (b : Story) (i t m : ℕ) (what : AbortKind) (n : ℕ) (c : CmdDef) → command_at s.commands n ≡ Some c → is_aborted i t m what c ≡ true → has_item b.sent.sent (command_item n) ≡ true → has_item (story_after_event s b (events.Aborted i t m what)).sent.over (command_item n) ≡ true
+aborted_over : (s : ScenarioValue) (b : Story) (i t m : ℕ) (what : AbortKind) (n : ℕ) (c : CmdDef) → command_at s.commands n ≡ Some c → is_aborted i t m what c ≡ true → has_item b.sent.sent (command_item n) ≡ true → has_item (story_after_event s b (Event.Aborted i t m what)).sent.over (command_item n) ≡ true
 aborted_over s b i t m what zero c at d sent = none_some c (sym (none_at s.commands) ∙ at)
 aborted_over s b i t m what (suc n) c at d sent =
-    ap (λ (j : ℕ). has_item (story_after_event s b (events.Aborted i t m what)).sent.over (command_item j)) (sym (one_less n))
+    ap (λ (j : ℕ). has_item (story_after_event s b (Event.Aborted i t m what)).sent.over (command_item j)) (sym (one_less n))
     ∙ ends_close (is_aborted i t m what) (is_sense_stopped i t m what) by_abort 0 n s.commands b c at d (ap (λ (j : ℕ). has_item b.sent.sent (command_item j)) (one_less n) ∙ sent)
 
-reset_over : (s : ScenarioValue) (b : Story) (dev n : ℕ) (c : CmdDef) → command_at s.commands n ≡ Some c → has_item b.sent.sent (command_item n) ≡ true → has_item (story_after_event s b (events.Reset dev)).sent.over (command_item n) ≡ true
+reset_over : (s : ScenarioValue) (b : Story) (dev n : ℕ) (c : CmdDef) → command_at s.commands n ≡ Some c → has_item b.sent.sent (command_item n) ≡ true → has_item (story_after_event s b (Event.Reset dev)).sent.over (command_item n) ≡ true
 reset_over s b dev zero c at sent = none_some c (sym (none_at s.commands) ∙ at)
 reset_over s b dev (suc n) c at sent =
-    ap (λ (j : ℕ). has_item (story_after_event s b (events.Reset dev)).sent.over (command_item j)) (sym (one_less n))
+    ap (λ (j : ℕ). has_item (story_after_event s b (Event.Reset dev)).sent.over (command_item j)) (sym (one_less n))
     ∙ ends_close (λ x. true) (λ x. true) by_reset 0 n s.commands b c at refl (ap (λ (j : ℕ). has_item b.sent.sent (command_item j)) (one_less n) ∙ sent)
 
 aborts_same : (s : ScenarioValue) (i t m : ℕ) (what : AbortKind) (n : ℕ) (c : CmdDef) → is_dropped i t m what (process_by s (command_id n) c) ≡ is_aborted i t m what c
-aborts_same s i t m aborts.All n c = refl
-aborts_same s i t m (aborts.Tag tag) n c = refl
-aborts_same s i t m aborts.WholeQueue n c = refl
-aborts_same s i t m aborts.Device n c = refl
+aborts_same s i t m AbortKind.All n c = refl
+aborts_same s i t m (AbortKind.Tag tag) n c = refl
+aborts_same s i t m AbortKind.WholeQueue n c = refl
+aborts_same s i t m AbortKind.Device n c = refl
 
 pub not_ended : (s : ScenarioValue) (b : Story) (event : Event) (n : ℕ) (c : CmdDef) → command_at s.commands n ≡ Some c → is_open (story_after_event s b event).sent n ≡ true → IsNotEnded s event (command_id n)
-not_ended s b (events.Accept id) n c at e = tt
-not_ended s b (events.Refuse id) n c at e = tt
-not_ended s b (events.Run id) n c at e = tt
-not_ended s b (events.Fail id code) n c at e = tt
-not_ended s b (events.End id status) n c at e = go (same_id id (command_id n)) refl
+not_ended s b (Event.Accept id) n c at e = tt
+not_ended s b (Event.Refuse id) n c at e = tt
+not_ended s b (Event.Run id) n c at e = tt
+not_ended s b (Event.Fail id code) n c at e = tt
+not_ended s b (Event.End id status) n c at e = go (same_id id (command_id n)) refl
   where
     go : (q : Bool) → same_id id (command_id n) ≡ q → same_id id (command_id n) ≡ false
     go false z = z
-    go true z = open_over (story_after_event s b (events.End id status)).sent n e (ap (λ (w : ProcId). has_item (story_after_event s b (events.End id status)).sent.over (process w)) (sym (id_is id (command_id n) z)) ∙ ends_over s b id status)
-not_ended s b (events.Lost id) n c at e = go (same_id id (command_id n)) refl
+    go true z = open_over (story_after_event s b (Event.End id status)).sent n e (ap (λ (w : ProcId). has_item (story_after_event s b (Event.End id status)).sent.over (process w)) (sym (id_is id (command_id n) z)) ∙ ends_over s b id status)
+not_ended s b (Event.Lost id) n c at e = go (same_id id (command_id n)) refl
   where
     go : (q : Bool) → same_id id (command_id n) ≡ q → same_id id (command_id n) ≡ false
     go false z = z
-    go true z = open_over (story_after_event s b (events.Lost id)).sent n e (ap (λ (w : ProcId). has_item (story_after_event s b (events.Lost id)).sent.over (process w)) (sym (id_is id (command_id n) z)) ∙ lost_over s b id)
-not_ended s b (events.Aborted i t m what) n c at e = λ p own same. go p own same (is_dropped i t m what p) refl
+    go true z = open_over (story_after_event s b (Event.Lost id)).sent n e (ap (λ (w : ProcId). has_item (story_after_event s b (Event.Lost id)).sent.over (process w)) (sym (id_is id (command_id n) z)) ∙ lost_over s b id)
+not_ended s b (Event.Aborted i t m what) n c at e = λ p own same. go p own same (is_dropped i t m what p) refl
   where
     go : (p : Process) → process_of s p.id ≡ Some p → same_id p.id (command_id n) ≡ true → (q : Bool) → is_dropped i t m what p ≡ q → is_dropped i t m what p ≡ false
     go p own same false z = z
     go p own same true z =
         let is : process_by s (command_id n) c ≡ p = same_Some (process_by s (command_id n) c) p (sym (ap (process_of s) (id_is p.id (command_id n) same) ∙ ap (process_if s (command_id n)) at) ∙ own) in
-        open_over (story_after_event s b (events.Aborted i t m what)).sent n e
-        (aborted_over s b i t m what n c at (sym (aborts_same s i t m what n c) ∙ ap (is_dropped i t m what) is ∙ z) (was_sent s b (events.Aborted i t m what) n e))
-not_ended s b (events.Reset dev) n c at e = open_over (story_after_event s b (events.Reset dev)).sent n e (reset_over s b dev n c at (was_sent s b (events.Reset dev) n e))
+        open_over (story_after_event s b (Event.Aborted i t m what)).sent n e
+        (aborted_over s b i t m what n c at (sym (aborts_same s i t m what n c) ∙ ap (is_dropped i t m what) is ∙ z) (was_sent s b (Event.Aborted i t m what) n e))
+not_ended s b (Event.Reset dev) n c at e = open_over (story_after_event s b (Event.Reset dev)).sent n e (reset_over s b dev n c at (was_sent s b (Event.Reset dev) n e))
 
 -- ---- all events of a row
 

@@ -1,37 +1,17 @@
 -- A command that is open after an event, and stood in a queue before it, stands there after it.
-use Rattle.std.proofs.Common.{ℕ, zero, suc, ◌≡◌, ◌+◌, Bool, true, false, not, ◌&&◌, ◌||◌, ◌∙◌, List, [], ◌∷◌, ◌++◌, Option, Some, None, refl, sym, ap, arith}
-use Rattle.std.specs.Prelude.{if◌then◌else◌, ◌==◌, is_none, is_some, nat_lt, ⊤}
-use Rattle.std.specs.List.{list_any}
-use Rattle.std.proofs.lemmas.Option.{same_Some}
-use Rattle.bus_due.specs.bus_base.specs.declared.AbortKind.{AbortKind}
-use Rattle.bus_due.specs.bus_base.specs.declared.AbortKind.TheVariants as aborts
-use Rattle.bus_due.specs.bus_base.specs.declared.Event.{Event}
-use Rattle.bus_due.specs.bus_base.specs.declared.Event.TheVariants as events
-use Rattle.bus_due.specs.bus_base.specs.declared.ProcId.{ProcId}
-use Rattle.bus_due.specs.bus_base.proofs.Tests.{either_stays}
-use Rattle.bus_due.specs.cdb_codec.specs.declared.sense.TheConstants.{ABORTED_COMMAND}
-use Rattle.bus_due.specs.cdb_codec.specs.declared.status.TheConstants.{GOOD, CHECK_CONDITION}
-use Rattle.bus_due.specs.cdb_codec.specs.Cdb.{command_of}
-use Rattle.bus_due.specs.scenario.specs.declared.value.CmdDef.{CmdDef}
-use Rattle.bus_due.specs.scenario.specs.Value.{ScenarioValue}
-use Rattle.bus_due.specs.disk_array.specs.Execution.{Execution, Reply, check_condition, execution, is_request_sense, sense_of}
-use Rattle.bus_due.specs.disk_array.specs.Processes.{Process, command_at, process_of, same_id}
-use Rattle.bus_due.specs.disk_array.specs.SoundArray.{AllOwnUnits}
-use Rattle.bus_due.specs.disk_array.specs.Steps as Steps
-use Rattle.bus_due.specs.disk_array.specs.Steps.{has_tag, is_of_unit, running_if}
-use Rattle.bus_due.specs.disk_array.specs.Units.{Array, RunningProcess, UnitState, guest_at, is_held, nexus_of, nexuses_without, senses_without, unit_state_at, with_unit}
-use Rattle.bus_due.specs.disk_array.specs.Seats.{waits_in}
-use Rattle.bus_due.specs.disk_array.proofs.ArrayUnits.{unit_reset_units, cleared_units}
-use Rattle.bus_due.specs.bus_story.specs.Items.{command_item, has_item, is_open, sense_item}
-use Rattle.bus_due.specs.bus_story.specs.Story.{Ending, Story, story_with_end, story_with_ends, story_with_over}
-use Rattle.trace_laws.proofs.QueuedProcesses.{is_dropped}
-use Rattle.trace_laws.proofs.SentItems.{more_has, own_has}
-use Rattle.trace_laws.proofs.QueueEvents.{Spares, chosen_all, kept_all, left_all, replied_all, waits_last, with_unit_all}
-use Rattle.trace_laws.specs.Places.{is_in_queue, is_queued}
-use Rattle.trace_laws.proofs.Impossible.{none_some}
-use Rattle.trace_laws.proofs.PointerStories.{ends_over}
-use Rattle.trace_laws.proofs.ListedReplies.{running_id}
-use Rattle.trace_laws.specs.target_units.proofs.UnitTimes.{place_found}
+use Rattle.progress_laws.proofs
+use proofs.Names.{ℕ, zero, suc, ◌≡◌, ◌+◌, Bool, true, false, not, ◌&&◌, ◌||◌, ◌∙◌, List, [], ◌∷◌, ◌++◌, Option, Some}
+use proofs.Names.{None, refl, sym, ap, arith, same_Some, list_any, if◌then◌else◌, ◌==◌, is_none, is_some, nat_lt, ⊤}
+use proofs.Names.{either_stays, AbortKind, Event, ProcId, command_of, ABORTED_COMMAND, GOOD, CHECK_CONDITION}
+use proofs.Names.{ScenarioValue, CmdDef, unit_reset_units, cleared_units, Execution, Reply, check_condition, execution}
+use proofs.Names.{is_request_sense, sense_of, Process, command_at, process_of, same_id, waits_in, AllOwnUnits, has_tag}
+use proofs.Names.{is_of_unit, running_if, Array, RunningProcess, UnitState, guest_at, is_held, nexus_of}
+use proofs.Names.{nexuses_without, senses_without, unit_state_at, with_unit, command_item, has_item, is_open}
+use proofs.Names.{sense_item, Ending, Story, story_with_end, story_with_ends, story_with_over, place_found, none_some}
+use proofs.Names.{is_dropped, Spares, chosen_all, kept_all, left_all, replied_all, waits_last, with_unit_all}
+use proofs.Names.{running_id, more_has, own_has, is_in_queue, is_queued}
+use Rattle.trace_laws.proofs.Pointers.Stories.{ends_over}
+use Rattle.bus_due.specs.disk_array.specs.Steps
 
 abbrev pub IfQueued : ProcId → Option Array → Type 0
 IfQueued id None = ⊤
@@ -39,10 +19,10 @@ IfQueued id (Some a) = is_queued a.units id ≡ true
 
 -- The event does not end the process.
 abbrev pub IsNotEnded : ScenarioValue → Event → ProcId → Type 0
-IsNotEnded s (events.End i status) id = same_id i id ≡ false
-IsNotEnded s (events.Lost i) id = same_id i id ≡ false
-IsNotEnded s (events.Aborted i t n what) id = Spares s (λ p. is_dropped i t n what p) id
-IsNotEnded s (events.Reset dev) id = ⊥
+IsNotEnded s (Event.End i status) id = same_id i id ≡ false
+IsNotEnded s (Event.Lost i) id = same_id i id ≡ false
+IsNotEnded s (Event.Aborted i t n what) id = Spares s (λ p. is_dropped i t n what p) id
+IsNotEnded s (Event.Reset dev) id = ⊥
 IsNotEnded s _ id = ⊤
 
 -- ---- the array
@@ -125,24 +105,24 @@ ended a i status id ne e = go (Steps.running_process a i) refl
     go (Some r) z = by r (running_id a i r z) r.reply
 
 aborted : (s : ScenarioValue) (a : Array) (i t n : ℕ) (what : AbortKind) (id : ProcId) → Spares s (λ p. is_dropped i t n what p) id → AllOwnUnits s a.units → is_queued a.units id ≡ true → is_queued (Steps.abort_step s a i t n what).units id ≡ true
-aborted s a i t n aborts.All id spares own e = kept_all s (λ p. p.initiator == i && is_of_unit p t n) a.units id spares own e
-aborted s a i t n (aborts.Tag tag) id spares own e = kept_all s (λ p. p.initiator == i && is_of_unit p t n && has_tag p.tag tag) a.units id spares own e
-aborted s a i t n aborts.WholeQueue id spares own e =
+aborted s a i t n AbortKind.All id spares own e = kept_all s (λ p. p.initiator == i && is_of_unit p t n) a.units id spares own e
+aborted s a i t n (AbortKind.Tag tag) id spares own e = kept_all s (λ p. p.initiator == i && is_of_unit p t n && has_tag p.tag tag) a.units id spares own e
+aborted s a i t n AbortKind.WholeQueue id spares own e =
     ap (λ (us : List UnitState). is_queued us id) (cleared_units i (Steps.unit_processes (unit_state_at a.units t n)) (Steps.without_dropped a (λ p. is_of_unit p t n)))
     ∙ kept_all s (λ p. is_of_unit p t n) a.units id spares own e
-aborted s a i t n aborts.Device id spares own e =
+aborted s a i t n AbortKind.Device id spares own e =
     ap (λ (us : List UnitState). is_queued us id) (unit_reset_units s.hosts a.units (λ u. u.target == t) (record (Steps.without_dropped a (λ p. p.target == t)) { senses = Steps.kept_senses (λ r. r.target == t) a.senses; holds = Steps.kept_nexuses (λ r. r.target == t) a.holds }))
     ∙ kept_all s (λ p. p.target == t) a.units id spares own e
 
 event_stays : (s : ScenarioValue) (a : Array) (event : Event) (id : ProcId) → AllOwnUnits s a.units → IsNotEnded s event id → is_queued a.units id ≡ true → IfQueued id (Steps.event_step s a event)
-event_stays s a (events.Accept i) id own h e = accepted a (process_of s i) id e
-event_stays s a (events.Refuse i) id own h e = refused a (process_of s i) id e
-event_stays s a (events.Run i) id own h e = run a (is_some (guest_at a.guests i)) (Steps.running_process a i) id e
-event_stays s a (events.Fail i code) id own h e = failed s a i (check_condition (sense_of ABORTED_COMMAND code 0x00)) (Steps.running_process a i) id e
-event_stays s a (events.End i status) id own h e = ended a i status id h e
-event_stays s a (events.Lost i) id own h e = if_none id (Steps.has_ended a i) _ (left_all a.units id i h e)
-event_stays s a (events.Aborted i t n what) id own h e = aborted s a i t n what id h own e
-event_stays s a (events.Reset dev) id own h e = absurd h
+event_stays s a (Event.Accept i) id own h e = accepted a (process_of s i) id e
+event_stays s a (Event.Refuse i) id own h e = refused a (process_of s i) id e
+event_stays s a (Event.Run i) id own h e = run a (is_some (guest_at a.guests i)) (Steps.running_process a i) id e
+event_stays s a (Event.Fail i code) id own h e = failed s a i (check_condition (sense_of ABORTED_COMMAND code 0x00)) (Steps.running_process a i) id e
+event_stays s a (Event.End i status) id own h e = ended a i status id h e
+event_stays s a (Event.Lost i) id own h e = if_none id (Steps.has_ended a i) _ (left_all a.units id i h e)
+event_stays s a (Event.Aborted i t n what) id own h e = aborted s a i t n what id h own e
+event_stays s a (Event.Reset dev) id own h e = absurd h
 
 pub step_stays : (s : ScenarioValue) (a : Array) (event : Event) (id : ProcId) → AllOwnUnits s a.units → IsNotEnded s event id → is_queued a.units id ≡ true → IfQueued id (Steps.step s event a)
 step_stays s a event id own h e = go (Steps.event_step s a event) (event_stays s a event id own h e)

@@ -1,43 +1,17 @@
 -- After any rows of a prompt trace each command that was sent, is not over and has no connection stands in a queue: as its connection
 -- ended it was disconnected (6.6.6, 7.8).
-use Rattle.std.proofs.Common.{ℕ, ◌≡◌, ◌<◌, Bool, true, false, ◌∙◌, List, [], ◌∷◌, Some, refl, sym, ap}
-use Rattle.std.specs.Prelude.{is_some}
-use Rattle.bus_due.specs.bus_base.specs.declared.Event.{Event}
-use Rattle.bus_due.specs.bus_trace.specs.Terms.{receiver_in}
-use Rattle.bus_due.specs.bus_trace.specs.declared.Row.{Row}
-use Rattle.bus_due.specs.bus_trace.specs.declared.changes.Change.{Change}
-use Rattle.bus_due.specs.bus_trace.specs.declared.connection.Connection.{Connection}
-use Rattle.bus_due.specs.scenario.specs.Value.{ScenarioValue}
-use Rattle.bus_due.specs.scenario.specs.Writing.{Obeys}
-use Rattle.bus_due.specs.disk_array.specs.Units.{Array}
+use Rattle.progress_laws.proofs
+use proofs.Names.{ℕ, ◌≡◌, ◌<◌, Bool, true, false, ◌∙◌, List, [], ◌∷◌, Some, refl, sym, ap, is_some, wrong, wrong'}
+use proofs.Names.{Event, receiver_in, Row, Change, Connection, ScenarioValue, Obeys, Array, RowReading, row_reading}
+use proofs.Names.{row_events_by, is_open, command_id, Story, story_after_events, story_by_change, IsPrompt, RunState}
+use proofs.Names.{array_of, or_start, process_item, run_state, run_state_after, obeys_fits, seats_are, reading_is}
+use proofs.Names.{Knows, Ends, RowOf, begins, ends, goes_on, under_reset, change_plain, least_is, some_none}
+use proofs.Names.{events_grow, end_begun, end_asked, RowSteps, Whole, steps, whole, PlaceFacts, is_queued, AreQueued}
+use proofs.{AnsweredEnds.{place_array}, EndedOver.{all_over}, LeftQueued.{left_calm}, QueueRows.{IsLeftQueued}}
+use proofs.QueueRows.{queued_next, WasOpen, before, begins as begins_new, fewer_open, open_before}
+use proofs.ResetCommands.{none_under_rst}
 use Rattle.bus_due.specs.disk_array.proofs.SoundArrays.{id_is}
-use Rattle.bus_due.specs.bus_story.specs.BusState.{RowReading, row_reading}
-use Rattle.bus_due.specs.bus_story.specs.HistoryEvents.{row_events_by}
-use Rattle.bus_due.specs.bus_story.specs.Items.{is_open, command_id}
-use Rattle.bus_due.specs.bus_story.specs.Story.{Story, story_after_events}
-use Rattle.bus_due.specs.bus_story.specs.TraceHistory.{story_by_change}
-use Rattle.bus_due.specs.Next.{IsPrompt}
-use Rattle.bus_due.specs.RunState.{RunState, array_of, or_start, process_item}
-use Rattle.bus_due.specs.RunSteps.{run_state, run_state_after}
-use Rattle.trace_laws.specs.bus_books.specs.Knowing.{Knows}
-use Rattle.trace_laws.specs.bus_books.specs.Traces.{Ends, RowOf, apart, begins, ends, goes_on, under_reset}
-use Rattle.trace_laws.specs.bus_books.proofs.InConnection.{reading_is}
-use Rattle.trace_laws.specs.bus_laws.proofs.Apart.{change_plain}
-use Rattle.trace_laws.specs.bus_laws.proofs.Prompt.{least_is}
-use Rattle.trace_laws.specs.Places.{PlaceFacts, is_queued}
-use Rattle.trace_laws.proofs.Impossible.{some_none}
-use Rattle.trace_laws.proofs.OverItems.{events_grow}
-use Rattle.trace_laws.proofs.PlaceEndTells.{end_begun}
-use Rattle.trace_laws.proofs.PlaceTraces.{end_asked}
-use Rattle.trace_laws.proofs.Whole.{RowSteps, Whole, steps, whole}
-use Rattle.progress_laws.proofs.AnsweredEnds.{place_array}
-use Rattle.progress_laws.proofs.EndedOver.{all_over}
-use Rattle.progress_laws.proofs.LeftQueued.{left_calm}
-use Rattle.progress_laws.proofs.QueueRows.{IsLeftQueued, queued_next, WasOpen, before, begins as begins_new, fewer_open, open_before}
-use Rattle.progress_laws.proofs.ResetCommands.{none_under_rst}
-use Rattle.progress_laws.specs.Queued.{AreQueued}
-use Rattle.bus_due.specs.bus_base.proofs.Tests.{wrong, wrong'}
-use Rattle.trace_laws.specs.scsi_device.proofs.FitLines.{obeys_fits, seats_are}
+use Rattle.trace_laws.specs.bus_books.specs.Traces.{apart}
 
 -- ---- as a connection ends
 

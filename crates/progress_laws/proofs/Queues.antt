@@ -1,26 +1,14 @@
 -- What stands in the queues of the plain disk array; and that a unit in which a process stands has one that is current, but
 -- while it is held (6.6.17, 7.6, 7.8).
-use Rattle.std.proofs.Common.{ℕ, zero, suc, ◌≡◌, ◌+◌, ◌<◌, Bool, true, false, ◌&&◌, ◌||◌, ◌∙◌, List, [], ◌∷◌, Option, Some, None, refl, sym, ap, arith}
-use Rattle.std.specs.Prelude.{if◌then◌else◌, ◌==◌, is_some}
-use Rattle.std.specs.List.{list_any}
-use Rattle.std.proofs.lemmas.Option.{same_Some}
-use Rattle.bus_due.specs.bus_base.specs.declared.ProcId.{ProcId}
-use Rattle.bus_due.specs.scenario.specs.Value.{ScenarioValue}
-use Rattle.bus_due.specs.disk_array.specs.Order.{choice}
-use Rattle.bus_due.specs.disk_array.specs.Processes.{Process, process_of, same_id}
-use Rattle.bus_due.specs.disk_array.specs.Seats.{in_hold, is_any_held, nexus_at, unit_mapped, unit_with_choice, current_of}
-use Rattle.bus_due.specs.disk_array.specs.SoundArray.{AllOwn, AllOwnUnits, AreApart, IsOwn, IsOwnRunning, IsOwnUnit, IsSound}
-use Rattle.bus_due.specs.disk_array.specs.Steps.{running_if}
-use Rattle.bus_due.specs.disk_array.specs.Units.{Array, Nexus, RunningProcess, UnitState, has_no_current, is_at_unit, is_held, unit_state_at, with_current}
-use Rattle.bus_due.specs.disk_array.proofs.SeatSteps.{any_none}
-use Rattle.bus_due.specs.bus_dialogue.specs.Wants.{Ready, first_ready, is_ready_before, ready_by, ready_in}
-use Rattle.bus_due.specs.Wants.{ready_among, ready_at, since_of}
-use Rattle.trace_laws.specs.bus_books.proofs.Lookups.{id_is}
-use Rattle.progress_laws.proofs.Choices.{some_chosen}
-use Rattle.trace_laws.specs.Places.{is_in_queue, is_queued}
-use Rattle.trace_laws.proofs.Impossible.{some_none, none_some}
-use Rattle.std.proofs.lemmas.Bool.{eqb-true, and_right, or_parts}
-use Rattle.bus_due.specs.bus_base.proofs.Tests.{wrong, and_first, and_second, eq_self}
+use Rattle.progress_laws.proofs
+use proofs.Names.{ℕ, zero, suc, ◌≡◌, ◌+◌, ◌<◌, Bool, true, false, ◌&&◌, ◌||◌, ◌∙◌, List, [], ◌∷◌, Option, Some, None}
+use proofs.Names.{refl, sym, ap, arith, eqb-true, and_right, or_parts, same_Some, list_any, if◌then◌else◌, ◌==◌}
+use proofs.Names.{is_some, wrong, and_first, and_second, eq_self, ProcId, ScenarioValue, any_none, choice, Process}
+use proofs.Names.{process_of, same_id, in_hold, is_any_held, nexus_at, unit_mapped, unit_with_choice, current_of}
+use proofs.Names.{AllOwn, AllOwnUnits, AreApart, IsOwn, IsOwnRunning, IsOwnUnit, IsSound, running_if, Array, Nexus}
+use proofs.Names.{RunningProcess, UnitState, has_no_current, is_at_unit, is_held, unit_state_at, with_current, Ready}
+use proofs.Names.{first_ready, is_ready_before, ready_by, ready_in, ready_among, ready_at, since_of, id_is, some_none}
+use proofs.{Names.{none_some, is_in_queue, is_queued}, Choices.{some_chosen}}
 
 -- ---- the unit
 

@@ -1,28 +1,11 @@
 -- While RST is true no command is open: with the row that raises it every command that was sent is over, and none is sent (6.2.2).
-use Rattle.std.proofs.Common.{ℕ, ◌≡◌, ◌<◌, Bool, true, false, not, ◌∙◌, List, [], ◌∷◌, Some, None, refl, sym, ap}
-use Rattle.std.specs.Prelude.{if◌then◌else◌}
-use Rattle.bus_due.specs.bus_base.specs.declared.Event.{Event}
-use Rattle.bus_due.specs.bus_trace.specs.declared.Row.{Row}
-use Rattle.bus_due.specs.bus_trace.specs.declared.changes.Change.{Change}
-use Rattle.bus_due.specs.bus_trace.specs.Changes.{change_of, rises}
-use Rattle.bus_due.specs.bus_trace.specs.Trace.{bus}
-use Rattle.bus_due.specs.scenario.specs.declared.value.CmdDef.{CmdDef}
-use Rattle.bus_due.specs.scenario.specs.Value.{ScenarioValue}
-use Rattle.bus_due.specs.disk_array.specs.Processes.{command_at, process_by, process_if}
-use Rattle.bus_due.specs.bus_story.specs.BusState.{RowReading, row_reading}
-use Rattle.bus_due.specs.bus_story.specs.HistoryEvents.{row_events_by}
-use Rattle.bus_due.specs.bus_story.specs.Items.{command_item, has_item, is_open, command_id}
-use Rattle.bus_due.specs.bus_story.specs.Story.{Story, story_after_events}
-use Rattle.bus_due.specs.bus_story.specs.TraceHistory.{story_by_change, story_on_bus}
-use Rattle.bus_due.specs.Plain.{AreOfDevices}
-use Rattle.bus_due.specs.RunState.{RunState}
-use Rattle.bus_due.specs.RunSteps.{run_state, run_state_after}
-use Rattle.trace_laws.specs.bus_laws.proofs.Apart.{change_plain}
-use Rattle.trace_laws.proofs.ItemFacts.{rst_raised}
-use Rattle.trace_laws.proofs.OverItems.{events_grow}
-use Rattle.trace_laws.proofs.PointerEnds.{command_over}
-use Rattle.progress_laws.proofs.QueueRows.{fewer_open, open_over}
-use Rattle.bus_due.specs.bus_base.proofs.Tests.{wrong, and_first}
+use Rattle.progress_laws.proofs
+use proofs.Names.{ℕ, ◌≡◌, ◌<◌, Bool, true, false, not, ◌∙◌, List, [], ◌∷◌, Some, None, refl, sym, ap, if◌then◌else◌}
+use proofs.Names.{wrong, and_first, Event, change_of, rises, bus, Row, Change, ScenarioValue, CmdDef, command_at}
+use proofs.Names.{process_by, process_if, RowReading, row_reading, row_events_by, command_item, has_item, is_open}
+use proofs.Names.{command_id, Story, story_after_events, story_by_change, story_on_bus, AreOfDevices, RunState}
+use proofs.Names.{run_state, run_state_after, change_plain, rst_raised, events_grow, command_over}
+use proofs.QueueRows.{fewer_open, open_over}
 
 abbrev pub NoneOpen : ScenarioValue → RunState → Type 0
 NoneOpen s k = (n : ℕ) (c : CmdDef) → command_at s.commands n ≡ Some c → is_open k.story.sent n ≡ false

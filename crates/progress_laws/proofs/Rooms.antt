@@ -1,29 +1,16 @@
 -- The initiators of a scenario that obeys the rules of its text may have a command open, and are there; and its units are of
 -- targets that are there.
-use Rattle.std.proofs.Common.{ℕ, ◌≡◌, ◌<◌, Bool, true, false, not, ◌∙◌, List, [], ◌∷◌, ◌++◌, Option, Some, None, Ok, refl, sym, ap, subst, arith}
-use Rattle.std.specs.Prelude.{if◌then◌else◌, ◌==◌, ◌||◌, is_some, cond}
-use Rattle.std.specs.List.{AllByRecursion, find, list_any}
-use Rattle.bus_due.specs.scenario.specs.declared.bounds.TheConstants.{LATENCY_LIMIT, OPEN_LIMIT, RETRY_LIMIT, HOST_OFFSET_LIMIT, LAG_LIMIT, BLOCK_LIMIT, DEPTH_LIMIT}
-use Rattle.bus_due.specs.scenario.specs.declared.value.HostDef.{HostDef}
-use Rattle.bus_due.specs.scenario.specs.declared.value.TargetDef.{TargetDef}
-use Rattle.bus_due.specs.scenario.specs.declared.value.UnitDef.{UnitDef}
-use Rattle.bus_due.specs.scenario.specs.Forms.{Said, scsi_line, initiator_line, target_line, unit_line, fill_line, cmd_line, abort_line, reset_line, fault_line, end_line}
-use Rattle.bus_due.specs.scenario.specs.Lookups.{has_device, has_target, unit_of}
-use Rattle.bus_due.specs.scenario.specs.Needs.{need_of, sent_of}
-use Rattle.bus_due.specs.scenario.specs.Reading.{Progress, guard, within, in_8, period_in, size_in, host_def, target_def, unit_def, fill_def, full_cmd_def, abort_def, reset_def, fault_def, added, said_after, fits_version, in_order, rank, kind_of, nothing}
-use Rattle.bus_due.specs.scenario.specs.Value.{ScenarioValue}
-use Rattle.bus_due.specs.scenario.specs.Writing.{saids, built, Obeys}
-use Rattle.bus_due.specs.scenario.proofs.Steps.{bind_ok, guard_ok, ok_is, within_ok}
-use Rattle.bus_due.specs.bus_story.specs.Items.{open_limit_of}
-use Rattle.bus_due.specs.bus_story.specs.Samples.{host_latency, target_latency}
-use Rattle.trace_laws.specs.scsi_device.proofs.Finds.{all_are, all_more}
-use Rattle.trace_laws.specs.scsi_device.proofs.LineReads.{host_by, unit_by}
-use Rattle.trace_laws.specs.bus_laws.specs.Stages.{HasDevice}
-use Rattle.progress_laws.proofs.Connections.{host_there}
-use Rattle.bus_due.specs.bus_base.proofs.Tests.{wrong'}
-use Rattle.trace_laws.proofs.Ends.{host_found}
-use Rattle.trace_laws.proofs.EachLine.{Any, each_line}
-use Rattle.bus_due.specs.disk_array.specs.Seats.{is_initiator}
+use Rattle.progress_laws.proofs
+use proofs.Names.{ℕ, ◌≡◌, ◌<◌, Bool, true, false, not, ◌∙◌, List, [], ◌∷◌, ◌++◌, Option, Some, None, Ok, refl, sym, ap}
+use proofs.Names.{subst, arith, ◌||◌, AllByRecursion, find, list_any, if◌then◌else◌, ◌==◌, is_some, cond, wrong'}
+use proofs.Names.{bind_ok, guard_ok, ok_is, within_ok, Said, scsi_line, initiator_line, target_line, unit_line}
+use proofs.Names.{fill_line, cmd_line, abort_line, reset_line, fault_line, end_line, has_device, has_target, unit_of}
+use proofs.Names.{need_of, sent_of, Progress, guard, within, in_8, period_in, size_in, host_def, target_def, unit_def}
+use proofs.Names.{fill_def, full_cmd_def, abort_def, reset_def, fault_def, added, said_after, fits_version, in_order}
+use proofs.Names.{rank, kind_of, nothing, ScenarioValue, saids, built, Obeys, LATENCY_LIMIT, OPEN_LIMIT, RETRY_LIMIT}
+use proofs.Names.{HOST_OFFSET_LIMIT, LAG_LIMIT, BLOCK_LIMIT, DEPTH_LIMIT, HostDef, TargetDef, UnitDef, is_initiator}
+use proofs.Names.{open_limit_of, host_latency, target_latency, all_are, all_more, host_by, unit_by, HasDevice, Any}
+use proofs.{Names.{each_line, host_found}, Connections.{host_there}}
 
 abbrev pub HasOpen : HostDef → Type 0
 HasOpen h = 0 < h.most

@@ -1,36 +1,15 @@
 -- The units of the plain disk array are of targets that are there, after any rows: no event moves a unit.
-use Rattle.std.proofs.Common.{ℕ, ◌≡◌, Bool, true, false, not, ◌&&◌, ◌||◌, ◌∙◌, List, [], ◌∷◌, ◌++◌, Option, Some, None, refl, sym, ap, subst}
-use Rattle.std.specs.Prelude.{if◌then◌else◌, ◌==◌, is_none, is_some, nat_lt, ⊤}
-use Rattle.std.specs.List.{AllByRecursion}
-use Rattle.bus_due.specs.bus_base.specs.declared.AbortKind.{AbortKind}
-use Rattle.bus_due.specs.bus_base.specs.declared.AbortKind.TheVariants as aborts
-use Rattle.bus_due.specs.bus_base.specs.declared.Event.{Event}
-use Rattle.bus_due.specs.bus_base.specs.declared.Event.TheVariants as events
-use Rattle.bus_due.specs.bus_base.specs.declared.ProcId.{ProcId}
-use Rattle.bus_due.specs.cdb_codec.specs.declared.sense.TheConstants.{ABORTED_COMMAND}
-use Rattle.bus_due.specs.cdb_codec.specs.declared.status.TheConstants.{GOOD, CHECK_CONDITION}
-use Rattle.bus_due.specs.cdb_codec.specs.Cdb.{command_of}
-use Rattle.bus_due.specs.scenario.specs.declared.value.UnitDef.{UnitDef}
-use Rattle.bus_due.specs.scenario.specs.Value.{ScenarioValue}
-use Rattle.bus_due.specs.scenario.specs.Writing.{Obeys}
-use Rattle.bus_due.specs.disk_array.specs.ArrayHistory.{array_step}
-use Rattle.bus_due.specs.disk_array.specs.Execution.{Execution, Reply, check_condition, execution, is_request_sense, sense_of}
-use Rattle.bus_due.specs.disk_array.specs.Processes.{Process, process_of}
-use Rattle.bus_due.specs.disk_array.specs.Steps as Steps
-use Rattle.bus_due.specs.disk_array.specs.Steps.{has_tag, is_of_unit}
-use Rattle.bus_due.specs.disk_array.specs.Units.{Array, Nexus, RunningProcess, UnitState, guest_at, is_held, nexus_of, nexuses_without, senses_without, starting_array, starting_units, unit_state_at, units_after_choice, with_unit}
-use Rattle.bus_due.specs.bus_trace.specs.declared.Row.{Row}
-use Rattle.bus_due.specs.bus_story.specs.BusState.{row_reading}
-use Rattle.bus_due.specs.bus_story.specs.HistoryEvents.{row_events_by}
-use Rattle.bus_due.specs.RunState.{RunState, array_of, or_start}
-use Rattle.bus_due.specs.RunSteps.{array_after_events, run_state}
-use Rattle.trace_laws.specs.bus_laws.specs.Stages.{HasDevice}
-use Rattle.trace_laws.specs.WriteFacts.{AllUnits}
-use Rattle.progress_laws.proofs.Rooms.{IsOfTarget, are_of_targets, target_there}
-use Rattle.std.proofs.lemmas.Bool.{eqb-true}
-use Rattle.bus_due.specs.bus_base.proofs.Tests.{and_first}
-use Rattle.bus_due.specs.disk_array.proofs.SeatSteps.{choice_target}
-use Rattle.bus_due.specs.disk_array.proofs.ArrayUnits.{unit_reset_units, cleared_units}
+use Rattle.progress_laws.proofs
+use proofs.Names.{ℕ, ◌≡◌, Bool, true, false, not, ◌&&◌, ◌||◌, ◌∙◌, List, [], ◌∷◌, ◌++◌, Option, Some, None, refl, sym}
+use proofs.Names.{ap, subst, eqb-true, AllByRecursion, if◌then◌else◌, ◌==◌, is_none, is_some, nat_lt, ⊤, and_first}
+use proofs.Names.{AbortKind, Event, ProcId, Row, command_of, ABORTED_COMMAND, GOOD, CHECK_CONDITION, ScenarioValue}
+use proofs.Names.{Obeys, UnitDef, unit_reset_units, cleared_units, choice_target, array_step, Execution, Reply}
+use proofs.Names.{check_condition, execution, is_request_sense, sense_of, Process, process_of, has_tag, is_of_unit}
+use proofs.Names.{Array, Nexus, RunningProcess, UnitState, guest_at, is_held, nexus_of, nexuses_without, senses_without}
+use proofs.Names.{starting_array, starting_units, unit_state_at, units_after_choice, with_unit, row_reading}
+use proofs.Names.{row_events_by, RunState, array_of, or_start, array_after_events, run_state, HasDevice, AllUnits}
+use proofs.Rooms.{IsOfTarget, are_of_targets, target_there}
+use Rattle.bus_due.specs.disk_array.specs.Steps
 
 abbrev pub targets : List UnitState → List ℕ
 targets [] = []
@@ -139,23 +118,23 @@ ended a status (Some r) = by r.reply
         (left_same (Steps.after_status a r.process reply).units r.process.id ∙ ap targets (same reply (reply.status == CHECK_CONDITION) (reply.status == GOOD && is_request_sense (command_of r.process.cdb))))
 
 aborted : (s : ScenarioValue) (a : Array) (i t n : ℕ) (what : AbortKind) → targets (Steps.abort_step s a i t n what).units ≡ targets a.units
-aborted s a i t n aborts.All = kept_same (λ p. p.initiator == i && is_of_unit p t n) a.units
-aborted s a i t n (aborts.Tag tag) = kept_same (λ p. p.initiator == i && is_of_unit p t n && has_tag p.tag tag) a.units
-aborted s a i t n aborts.WholeQueue =
+aborted s a i t n AbortKind.All = kept_same (λ p. p.initiator == i && is_of_unit p t n) a.units
+aborted s a i t n (AbortKind.Tag tag) = kept_same (λ p. p.initiator == i && is_of_unit p t n && has_tag p.tag tag) a.units
+aborted s a i t n AbortKind.WholeQueue =
     ap targets (cleared_units i (Steps.unit_processes (unit_state_at a.units t n)) (Steps.without_dropped a (λ p. is_of_unit p t n))) ∙ kept_same (λ p. is_of_unit p t n) a.units
-aborted s a i t n aborts.Device =
+aborted s a i t n AbortKind.Device =
     ap targets (unit_reset_units s.hosts a.units (λ u. u.target == t) (record (Steps.without_dropped a (λ p. p.target == t)) { senses = Steps.kept_senses (λ r. r.target == t) a.senses; holds = Steps.kept_nexuses (λ r. r.target == t) a.holds }))
     ∙ kept_same (λ p. p.target == t) a.units
 
 event_same : (s : ScenarioValue) (a : Array) (event : Event) → IfSame (targets a.units) (Steps.event_step s a event)
-event_same s a (events.Accept id) = accepted a (process_of s id)
-event_same s a (events.Refuse id) = refused a (process_of s id)
-event_same s a (events.Run id) = run a (is_some (guest_at a.guests id)) (Steps.running_process a id)
-event_same s a (events.Fail id code) = failed s a id (check_condition (sense_of ABORTED_COMMAND code 0x00)) (Steps.running_process a id)
-event_same s a (events.End id status) = ended a status (Steps.running_process a id)
-event_same s a (events.Lost id) = if_none (targets a.units) (Steps.has_ended a id) _ (left_same a.units id)
-event_same s a (events.Aborted i t n what) = aborted s a i t n what
-event_same s a (events.Reset dev) =
+event_same s a (Event.Accept id) = accepted a (process_of s id)
+event_same s a (Event.Refuse id) = refused a (process_of s id)
+event_same s a (Event.Run id) = run a (is_some (guest_at a.guests id)) (Steps.running_process a id)
+event_same s a (Event.Fail id code) = failed s a id (check_condition (sense_of ABORTED_COMMAND code 0x00)) (Steps.running_process a id)
+event_same s a (Event.End id status) = ended a status (Steps.running_process a id)
+event_same s a (Event.Lost id) = if_none (targets a.units) (Steps.has_ended a id) _ (left_same a.units id)
+event_same s a (Event.Aborted i t n what) = aborted s a i t n what
+event_same s a (Event.Reset dev) =
     ap targets (unit_reset_units s.hosts a.units (λ u. true) (record (Steps.without_dropped a (λ p. true)) { senses = []; holds = [] })) ∙ kept_same (λ p. true) a.units
 
 step_same : (s : ScenarioValue) (a : Array) (event : Event) → IfSame (targets a.units) (Steps.step s event a)

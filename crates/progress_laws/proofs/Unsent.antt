@@ -1,15 +1,10 @@
 -- An initiator that wants nothing, and of which no command is open, has sent each of its commands or given it up; and each
 -- automatic REQUEST SENSE.
-use Rattle.std.proofs.Common.{ℕ, ◌≡◌, ◌+◌, ◌<◌, Bool, true, false, not, ◌∙◌, List, [], ◌∷◌, Option, Some, None, refl, sym, ap, arith}
-use Rattle.std.specs.Prelude.{if◌then◌else◌, ◌==◌, is_some, ⊤}
-use Rattle.std.proofs.lemmas.Bool.Decides.{nat_tests}
-use Rattle.bus_due.specs.scenario.specs.declared.value.CmdDef.{CmdDef}
-use Rattle.bus_due.specs.scenario.specs.Value.{ScenarioValue}
-use Rattle.bus_due.specs.bus_story.specs.Items.{Item, Sent, command_item, is_done, is_open, open_limit_of, sense_from}
-use Rattle.bus_due.specs.bus_reactions.specs.Reactions.{sooner_time, time_if}
-use Rattle.bus_due.specs.bus_dialogue.specs.Wants.{abort_since, command_since, may_follow, open_in}
-use Rattle.bus_due.specs.Wants.{item_want_time, own_aborts, own_command, own_commands}
-use Rattle.bus_due.specs.bus_base.proofs.Tests.{wrong}
+use Rattle.progress_laws.proofs
+use proofs.Names.{ℕ, ◌≡◌, ◌+◌, ◌<◌, Bool, true, false, not, ◌∙◌, List, [], ◌∷◌, Option, Some, None, refl, sym, ap}
+use proofs.Names.{arith, nat_tests, if◌then◌else◌, ◌==◌, is_some, ⊤, wrong, ScenarioValue, CmdDef, Item, Sent}
+use proofs.Names.{command_item, is_done, is_open, open_limit_of, sense_from, sooner_time, time_if, abort_since}
+use proofs.Names.{command_since, may_follow, open_in, item_want_time, own_aborts, own_command, own_commands}
 
 time_none : {A : Type 0} (t : ℕ) → (let a : Option ℕ = Some t in a) ≡ None → A
 time_none t e = absurd cc

@@ -1,99 +1,31 @@
 -- Row by row of a prompt trace: all that is asked of its rows, and what is kept with them.
-use Rattle.std.proofs.Common.{◌≡◌, ◌⊎◌, inl, inr, ◌<◌, Bool, true, false, ◌∙◌, List, [], ◌∷◌, Option, Some, None, refl, sym, ap}
-use Rattle.std.specs.Prelude.{if◌then◌else◌, is_some}
-use Rattle.std.proofs.lemmas.Option.{same_Some}
-use Rattle.bus_due.specs.bus_trace.specs.declared.Row.{Row}
-use Rattle.bus_due.specs.bus_trace.specs.declared.connection.Connection.{Connection}
-use Rattle.bus_due.specs.bus_trace.specs.declared.changes.Change.{Change}
-use Rattle.bus_due.specs.bus_trace.specs.Changes.{change_of}
-use Rattle.bus_due.specs.bus_trace.specs.Phases.{changes_phase, is_message_in}
-use Rattle.bus_due.specs.bus_trace.specs.Terms.{call, connection, connection_after}
-use Rattle.bus_due.specs.bus_trace.specs.Trace.{bus}
-use Rattle.bus_due.specs.scenario.specs.Value.{ScenarioValue}
-use Rattle.bus_due.specs.scenario.specs.Writing.{Obeys}
-use Rattle.bus_due.specs.disk_array.specs.Units.{Array}
-use Rattle.bus_due.specs.bus_story.specs.BusState.{RowReading, row_reading}
-use Rattle.bus_due.specs.Allowed.{allowed}
-use Rattle.bus_due.specs.Least.{IsLeast}
-use Rattle.bus_due.specs.Next.{due, IsPrompt}
-use Rattle.bus_due.specs.Plain.{IsPlain}
-use Rattle.bus_due.specs.RunState.{RunState}
-use Rattle.bus_due.specs.RunSteps.{run_state}
-use Rattle.bus_due.specs.Telling.{telling}
-use Rattle.bus_due.proofs.Plains.{run_state_plain}
-use Rattle.target_units.specs.scsi_device.specs.Heard.{heard}
-use Rattle.target_units.specs.scsi_device.specs.Writes.{written}
-use Rattle.target_units.specs.scsi_device.proofs.FitLines.{obeys_fits, seats_are, units_are}
-use Rattle.bus_books.specs.Traces.{AreRowsOf}
-use Rattle.link_laws.specs.bus_laws.proofs.Apart.{change_plain}
-use Rattle.link_laws.specs.bus_laws.proofs.Limits.{obeys_latencies}
-use Rattle.link_laws.specs.bus_laws.proofs.Prompt.{least_is}
-use Rattle.link_laws.proofs.RunLengths.{runs_are_short}
-use Rattle.bus_books.specs.WrongParity.{complains_truly, left_as_due}
-use Rattle.trace_laws.specs.Asked.{IsAsked}
-use Rattle.trace_laws.specs.Attendance.{AttendedFacts}
-use Rattle.trace_laws.specs.ClearFacts.{ClearFacts}
-use Rattle.trace_laws.specs.Closes.{CloseFacts}
-use Rattle.trace_laws.specs.Commands.{CommandFacts}
-use Rattle.trace_laws.specs.Complaints.{ComplaintFacts}
-use Rattle.trace_laws.specs.DataFacts.{DataFacts}
-use Rattle.trace_laws.specs.Ends.{AreEnds}
-use Rattle.trace_laws.specs.Failures.{FailFacts}
-use Rattle.trace_laws.specs.Instructed.{InstructedFacts}
-use Rattle.trace_laws.specs.Places.{PlaceFacts}
-use Rattle.trace_laws.specs.ResetLines.{ResetFacts}
-use Rattle.trace_laws.specs.RowAttendance.{IsAttended, IsCalmTurn}
-use Rattle.trace_laws.specs.RunsLeft.{RunsLeft}
-use Rattle.trace_laws.specs.SentFailures.{SentFacts}
-use Rattle.trace_laws.specs.TellFacts.{TellFacts}
-use Rattle.trace_laws.specs.DataPointers.{is_marked}
-use Rattle.trace_laws.specs.Tells.{AreRepliesShown, FailsAsLeft, TellsAsLeft}
-use Rattle.trace_laws.specs.WriteFacts.{WriteFacts, WritesAsked}
-use Rattle.trace_laws.proofs.Attended.{attended_row}
-use Rattle.trace_laws.proofs.AttendedAsked.{attendance_asked}
-use Rattle.trace_laws.proofs.AttendedNext.{attended_next, attended_start}
-use Rattle.trace_laws.proofs.Blocks.{commands_are}
-use Rattle.trace_laws.proofs.ByteValues.{byte_values}
-use Rattle.trace_laws.proofs.ClearFacts.{clear_asks, clear_next, clear_start}
-use Rattle.trace_laws.proofs.CloseFacts.{close_next, close_start}
-use Rattle.trace_laws.proofs.Commands.{command_start, command_asks, command_next}
-use Rattle.trace_laws.proofs.Complained.{complained_row}
-use Rattle.trace_laws.proofs.Complaints.{complaints_next, complaints_start}
-use Rattle.trace_laws.proofs.CutConnections.{HoldFacts, cut_phase, holds_next, holds_start}
-use Rattle.trace_laws.proofs.DataFacts.{data_asks, data_next, data_start}
-use Rattle.trace_laws.proofs.DataPremises.{IsUnshown, data_premises}
-use Rattle.trace_laws.proofs.Ends.{ends_on}
-use Rattle.trace_laws.proofs.FailureCrossed.{CrossedFacts, crossed_next, crossed_start}
-use Rattle.trace_laws.proofs.FailureFirst.{fail_rows}
-use Rattle.trace_laws.proofs.FailureLeft.{fails_as_left}
-use Rattle.trace_laws.proofs.FailureNext.{fail_start}
-use Rattle.trace_laws.proofs.FreshItems.{calm_after, calm_before}
-use Rattle.trace_laws.proofs.HeardRows.{HeardFacts, heard_row}
-use Rattle.trace_laws.proofs.Instructed.{instructed_next, instructed_start}
-use Rattle.trace_laws.proofs.ItemNext.{items_asks}
-use Rattle.trace_laws.proofs.Joint.{NextStood, Stood, next_stood}
-use Rattle.trace_laws.proofs.Left.{left_row}
-use Rattle.trace_laws.proofs.Named.{named_asks, named_at_run}
-use Rattle.trace_laws.proofs.Offers.{offers_asks}
-use Rattle.trace_laws.proofs.PlaceRows.{allowed_row, places_start}
-use Rattle.trace_laws.proofs.PlaceTraces.{place_row}
-use Rattle.trace_laws.proofs.PlacesHeard.{begins_placed, places_heard}
-use Rattle.trace_laws.proofs.ResetFacts.{resets_next, resets_start}
-use Rattle.trace_laws.proofs.RunsLeft.{runs_left_next, runs_left_start}
-use Rattle.trace_laws.proofs.RunsWhole.{whole_as_left}
-use Rattle.trace_laws.proofs.SentFailures.{sent_asks, sent_next, sent_start}
-use Rattle.trace_laws.proofs.ShownReplies.{replies_first, replies_next}
-use Rattle.trace_laws.proofs.StatusFacts.{StatusFacts, status_asks, status_next, status_start}
-use Rattle.trace_laws.proofs.TellFacts.{left_tells, tell_next, tell_start}
-use Rattle.trace_laws.proofs.TellTraces.{tells_row}
-use Rattle.trace_laws.proofs.Traces.{stood_first}
-use Rattle.trace_laws.proofs.UndoneFacts.{undo_asks}
-use Rattle.trace_laws.proofs.Unshown.{unshown_ready}
-use Rattle.trace_laws.proofs.WriteNext.{writes_next, writes_start}
-use Rattle.trace_laws.proofs.WritePremises.{write_premises}
-use Rattle.trace_laws.proofs.Written.{written_next}
-use Rattle.trace_laws.proofs.Impossible.{none_some}
-use Rattle.std.proofs.lemmas.Bool.{and_from}
+use Rattle.trace_laws.proofs
+use proofs.Names.{◌≡◌, ◌⊎◌, inl, inr, ◌<◌, Bool, true, false, ◌∙◌, List, [], ◌∷◌, Option, Some, None, refl, sym, ap}
+use proofs.Names.{and_from, same_Some, if◌then◌else◌, is_some, change_of, changes_phase, is_message_in, call}
+use proofs.Names.{connection, connection_after, bus, Row, Change, Connection, ScenarioValue, Obeys, Array, RowReading}
+use proofs.Names.{row_reading, run_state_plain, allowed, IsLeast, due, IsPrompt, IsPlain, RunState, run_state, telling}
+use proofs.Names.{obeys_fits, seats_are, units_are, heard, written, AreRowsOf, complains_truly, left_as_due}
+use proofs.Names.{change_plain, obeys_latencies, least_is, runs_are_short, IsAsked, AttendedFacts, ClearFacts}
+use proofs.Names.{CloseFacts, CommandFacts, ComplaintFacts, DataFacts, is_marked, AreEnds, FailFacts, InstructedFacts}
+use proofs.Names.{PlaceFacts, ResetFacts, IsAttended, IsCalmTurn, RunsLeft, SentFacts, TellFacts, AreRepliesShown}
+use proofs.{Names.{FailsAsLeft, TellsAsLeft, WriteFacts, WritesAsked}, Attended.Asks.{attendance_asked}}
+use proofs.{Attended.{Facts.{attended_row}, Next.{attended_next, attended_start}}, Bytes.Blocks.{commands_are}}
+use proofs.{Bytes.Facts.{byte_values}, Clear.Facts.{clear_asks, clear_next, clear_start}, Closes.Facts.{close_next}}
+use proofs.{Closes.Facts.{close_start}, Commands.Asks.{command_start, command_asks, command_next}}
+use proofs.{Common.Impossible.{none_some}, Complaints.{Complained.{complained_row}, Facts.{complaints_next}}}
+use proofs.{Complaints.Facts.{complaints_start}, Ends.Facts.{ends_on, left_row}, Failures.Crossed.{CrossedFacts}}
+use proofs.Failures.{Crossed.{crossed_next, crossed_start}, Facts.{fail_start}, First.{fail_rows}, Left.{fails_as_left}}
+use proofs.Heard.{Places.{begins_placed, places_heard}, Rows.{HeardFacts, heard_row}}
+use proofs.{Instructed.Facts.{instructed_next, instructed_start}, Items.Fresh.{IsUnshown, data_premises, calm_after}}
+use proofs.{Items.{Fresh.{calm_before}, Next.{items_asks}}, Lines.Joint.{NextStood, Stood, next_stood, stood_first}}
+use proofs.{Named.Facts.{named_asks, named_at_run}, Offers.Facts.{offers_asks}, Places.Facts.{place_row}}
+use proofs.{Places.{Rows.{allowed_row, places_start}, Unshown.{unshown_ready}}, Resets.Facts.{resets_next}}
+use proofs.Resets.{Facts.{resets_start}, Holds.{HoldFacts, cut_phase, holds_next, holds_start}}
+use proofs.Runs.{AllSent.{whole_as_left}, Data.{data_asks, data_next, data_start}, Left.{runs_left_next}}
+use proofs.{Runs.Left.{runs_left_start}, Sent.Facts.{sent_asks, sent_next, sent_start}, Shown.Facts.{replies_first}}
+use proofs.{Shown.Facts.{replies_next}, Statuses.Facts.{StatusFacts, status_asks, status_next, status_start}}
+use proofs.{Tells.{Facts.{left_tells, tell_next, tell_start}, Traces.{tells_row}}, Undone.Facts.{undo_asks}}
+use proofs.Writes.{Facts.{writes_next, writes_start}, Premises.{write_premises}, Written.{written_next}}
 
 -- What is kept of the lines and of what is said.
 pub record Whole (s : ScenarioValue) (p : List Row) : Type 0 where

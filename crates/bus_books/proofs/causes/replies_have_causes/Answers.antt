@@ -1,9 +1,6 @@
-use Rattle.std.proofs.Common.{ap}
-use Rattle.std.specs.Prelude.{Option, is_some}
-use Rattle.bus_due.specs.disk_array.specs.Units.{Array}
-use Rattle.bus_books.proofs.Refusals.{full_in_trace}
-use Rattle.bus_books.proofs.Replies.{reply_caused, full_caused}
-use Rattle.bus_books.proofs.Senses.{sense_caused}
+use Rattle.bus_books.proofs
+use proofs.{Names.{ap, Option, is_some, Array}, Refusals.{full_in_trace}, Replies.{reply_caused, full_caused}}
+use proofs.Senses.{sense_caused}
 use Rattle.bus_books.proofs.causes.replies_have_causes.Goals as goal
 
 pub returns-clause-replies : goal.returns-clause-replies

@@ -1,5 +1,5 @@
-use Rattle.bus_books.proofs.laws.aims_are_items.Goals as goal
 use Rattle.bus_books.proofs.Aims.{aims_are}
+use Rattle.bus_books.proofs.laws.aims_are_items.Goals as goal
 
 -- src/laws.rt
 pub returns : goal.returns

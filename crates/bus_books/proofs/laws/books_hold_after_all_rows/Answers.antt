@@ -1,8 +1,6 @@
+use Rattle.bus_books.proofs
+use proofs.{Names.{run_state}, Aims.{aims_are}, RowTies.{row_of}, Traces.{books_on, books_are, trace_faithful}}
 use Rattle.bus_books.proofs.laws.books_hold_after_all_rows.Goals as goal
-use Rattle.bus_due.specs.RunSteps.{run_state}
-use Rattle.bus_books.proofs.Aims.{aims_are}
-use Rattle.bus_books.proofs.RowTies.{row_of}
-use Rattle.bus_books.proofs.Traces.{books_on, books_are, trace_faithful}
 
 -- src/laws.rt
 pub returns-clause-rows : goal.returns-clause-rows

@@ -1,5 +1,5 @@
-use Rattle.bus_books.proofs.laws.bytes_that_are_due_are_next.Goals as goal
 use Rattle.bus_books.proofs.Reactions.{answers_next, answers_own, offers_next, out_over, command_over, leaves_by}
+use Rattle.bus_books.proofs.laws.bytes_that_are_due_are_next.Goals as goal
 
 -- src/laws.rt
 pub returns-clause-says : goal.returns-clause-says

@@ -1,5 +1,5 @@
-use Rattle.bus_books.proofs.laws.callees_are_the_other_end.Goals as goal
 use Rattle.bus_books.proofs.ReadyProcesses.{selects_for, reselects_for}
+use Rattle.bus_books.proofs.laws.callees_are_the_other_end.Goals as goal
 
 -- src/laws.rt
 pub returns-clause-selects : goal.returns-clause-selects

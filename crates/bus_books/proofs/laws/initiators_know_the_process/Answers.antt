@@ -1,7 +1,6 @@
+use Rattle.bus_books.proofs
+use proofs.{Names.{run_state}, FirstLinks.{knows_first}, Knows.{knows_on}}
 use Rattle.bus_books.proofs.laws.initiators_know_the_process.Goals as goal
-use Rattle.bus_due.specs.RunSteps.{run_state}
-use Rattle.bus_books.proofs.FirstLinks.{knows_first}
-use Rattle.bus_books.proofs.Knows.{knows_on}
 
 -- src/laws.rt
 pub returns-clause-first : goal.returns-clause-first

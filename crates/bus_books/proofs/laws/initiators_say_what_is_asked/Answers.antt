@@ -1,8 +1,6 @@
+use Rattle.bus_books.proofs
+use proofs.{Names.{run_state}, Aims.{aims_are}, FirstWords.{speaks_first}, Speaks.{speaks_on}}
 use Rattle.bus_books.proofs.laws.initiators_say_what_is_asked.Goals as goal
-use Rattle.bus_due.specs.RunSteps.{run_state}
-use Rattle.bus_books.proofs.Aims.{aims_are}
-use Rattle.bus_books.proofs.FirstWords.{speaks_first}
-use Rattle.bus_books.proofs.Speaks.{speaks_on}
 
 -- src/laws.rt
 pub returns-clause-first : goal.returns-clause-first

@@ -1,5 +1,5 @@
-use Rattle.bus_books.proofs.laws.message_phases_are_whole.Goals as goal
 use Rattle.bus_books.proofs.MessageRules.{row_known, row_left, row_opens, row_keeps, end_keeps}
+use Rattle.bus_books.proofs.laws.message_phases_are_whole.Goals as goal
 
 -- src/laws.rt
 pub returns-clause-known : goal.returns-clause-known

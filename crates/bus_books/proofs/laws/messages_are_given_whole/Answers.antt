@@ -1,5 +1,5 @@
-use Rattle.bus_books.proofs.laws.messages_are_given_whole.Goals as goal
 use Rattle.bus_books.proofs.Given.{in_is_whole, in_is_known}
+use Rattle.bus_books.proofs.laws.messages_are_given_whole.Goals as goal
 
 -- src/laws.rt
 pub returns-clause-whole : goal.returns-clause-whole

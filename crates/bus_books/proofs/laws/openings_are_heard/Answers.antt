@@ -1,5 +1,5 @@
-use Rattle.bus_books.proofs.laws.openings_are_heard.Goals as goal
 use Rattle.bus_books.proofs.Opened.{opening_named, out_is_known}
+use Rattle.bus_books.proofs.laws.openings_are_heard.Goals as goal
 
 -- src/laws.rt
 pub returns-clause-named : goal.returns-clause-named

@@ -1,7 +1,6 @@
+use Rattle.bus_books.proofs
+use proofs.{Names.{run_state}, CarriedBlocks.{block_own, block_follows}, CarriedRows.{carry_on, all_carry}}
 use Rattle.bus_books.proofs.laws.processes_carry_their_own_bytes.Goals as goal
-use Rattle.bus_due.specs.RunSteps.{run_state}
-use Rattle.bus_books.proofs.CarriedRows.{carry_on, all_carry}
-use Rattle.bus_books.proofs.CarriedBlocks.{block_own, block_follows}
 
 -- src/laws.rt
 pub returns-clause-rows : goal.returns-clause-rows

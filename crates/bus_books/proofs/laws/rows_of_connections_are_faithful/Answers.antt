@@ -1,6 +1,6 @@
-use Rattle.bus_books.proofs.laws.rows_of_connections_are_faithful.Goals as goal
 use Rattle.bus_due.specs.RunSteps.{run_state}
 use Rattle.bus_books.proofs.Faith.{row_is_faithful}
+use Rattle.bus_books.proofs.laws.rows_of_connections_are_faithful.Goals as goal
 
 -- src/laws.rt
 pub returns : goal.returns

@@ -1,7 +1,6 @@
+use Rattle.bus_books.proofs
+use proofs.{Names.{run_state}, Given.{gives_first}, Gives.{gives_on}}
 use Rattle.bus_books.proofs.laws.targets_give_what_they_plan.Goals as goal
-use Rattle.bus_due.specs.RunSteps.{run_state}
-use Rattle.bus_books.proofs.Given.{gives_first}
-use Rattle.bus_books.proofs.Gives.{gives_on}
 
 -- src/laws.rt
 pub returns-clause-first : goal.returns-clause-first

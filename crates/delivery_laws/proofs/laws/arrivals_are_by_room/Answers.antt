@@ -1,12 +1,6 @@
-use Rattle.std.proofs.Common.{◌≡◌, true, List, ap, subst}
-use Rattle.bus_due.specs.bus_base.specs.declared.Event.{Event}
-use Rattle.bus_due.specs.bus_story.specs.Story.{Story}
-use Rattle.bus_due.specs.RunState.{array_of}
-use Rattle.bus_due.specs.RunSteps.{run_state}
-use Rattle.bus_due.proofs.Plains.{prompt_plain}
-use Rattle.delivery_laws.specs.Endings.{arrive_by_room}
-use Rattle.delivery_laws.proofs.Arrivals.{by_room}
-use Rattle.delivery_laws.proofs.OwnOutcomes.{own_plays}
+use Rattle.delivery_laws.proofs
+use proofs.Names.{◌≡◌, true, List, ap, subst, Event, Story, prompt_plain, array_of, run_state, arrive_by_room}
+use proofs.{Arrivals.{by_room}, OwnOutcomes.{own_plays}}
 use Rattle.delivery_laws.proofs.laws.arrivals_are_by_room.Goals as goal
 
 pub returns : goal.returns

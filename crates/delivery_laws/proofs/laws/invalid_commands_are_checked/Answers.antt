@@ -1,6 +1,5 @@
-use Rattle.bus_due.specs.bus_story.specs.Items.{command_id}
-use Rattle.delivery_laws.proofs.CheckedOutcomes.{IsCalmTrace, Laws, unheard, wrong_outcome}
-use Rattle.delivery_laws.proofs.Delivered.{HaveCauses}
+use Rattle.delivery_laws.proofs
+use proofs.{Names.{command_id}, CheckedOutcomes.{IsCalmTrace, Laws, unheard, wrong_outcome}, Delivered.{HaveCauses}}
 use Rattle.delivery_laws.proofs.laws.invalid_commands_are_checked.Goals as goal
 
 pub returns : goal.returns

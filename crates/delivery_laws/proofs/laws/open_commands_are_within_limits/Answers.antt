@@ -1,8 +1,5 @@
-use Rattle.std.proofs.Common.{ℕ, ◌≤◌, sym, subst}
-use Rattle.bus_due.specs.RunSteps.{run_state}
-use Rattle.bus_due.specs.bus_story.specs.Items.{open_limit_of}
-use Rattle.delivery_laws.proofs.Counting.{open_length}
-use Rattle.delivery_laws.proofs.OpenWithin.{open_within}
+use Rattle.delivery_laws.proofs
+use proofs.{Names.{ℕ, ◌≤◌, sym, subst, open_limit_of, run_state}, Counting.{open_length}, OpenWithin.{open_within}}
 use Rattle.delivery_laws.proofs.laws.open_commands_are_within_limits.Goals as goal
 
 pub returns : goal.returns

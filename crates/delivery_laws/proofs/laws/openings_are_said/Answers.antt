@@ -1,7 +1,6 @@
-use Rattle.std.proofs.Common.{◌∷◌}
-use Rattle.delivery_laws.proofs.OfferAnswers.{offer_answered}
-use Rattle.delivery_laws.proofs.OpeningWords.{offers_settled, opening_told}
-use Rattle.delivery_laws.proofs.RecoveryRows.{prompt_at}
+use Rattle.delivery_laws.proofs
+use proofs.{Names.{◌∷◌}, OfferAnswers.{offer_answered}, OpeningWords.{offers_settled, opening_told}}
+use proofs.RecoveryRows.{prompt_at}
 use Rattle.delivery_laws.proofs.laws.openings_are_said.Goals as goal
 
 pub returns-clause-said : goal.returns-clause-said

@@ -1,14 +1,7 @@
-use Rattle.std.proofs.Common.{◌≡◌, ◌∙◌, Option, Some, sym, ap}
-use Rattle.bus_due.specs.disk_array.specs.ArrayHistory.{array_after, reply_of}
-use Rattle.bus_due.specs.bus_story.specs.Story.{Story}
-use Rattle.bus_due.specs.bus_story.specs.TraceHistory.{trace_history}
-use Rattle.bus_due.specs.RunState.{array_of}
-use Rattle.bus_due.specs.RunSteps.{run_state}
-use Rattle.bus_due.specs.disk_array.specs.Units.{Array}
-use Rattle.bus_due.proofs.Plains.{prompt_plain}
-use Rattle.delivery_laws.proofs.Delivered.{HaveCauses}
-use Rattle.delivery_laws.proofs.ExactOutcomes.{full_told, outcome_told, reply_told, unanswered_told}
-use Rattle.delivery_laws.proofs.OwnOutcomes.{own_plays}
+use Rattle.delivery_laws.proofs
+use proofs.Names.{◌≡◌, ◌∙◌, Option, Some, sym, ap, array_after, reply_of, Array, Story, trace_history, prompt_plain}
+use proofs.{Names.{array_of, run_state}, Delivered.{HaveCauses}, ExactOutcomes.{full_told, outcome_told, reply_told}}
+use proofs.{ExactOutcomes.{unanswered_told}, OwnOutcomes.{own_plays}}
 use Rattle.delivery_laws.proofs.laws.outcomes_are_exact.Goals as goal
 
 pub returns : goal.returns

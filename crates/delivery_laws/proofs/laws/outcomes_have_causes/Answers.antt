@@ -1,13 +1,7 @@
-use Rattle.std.proofs.Common.{◌≡◌, true, List, sym, ap, subst}
-use Rattle.bus_due.specs.bus_base.specs.declared.Event.{Event}
-use Rattle.bus_due.specs.bus_base.specs.declared.Event.TheVariants as events
-use Rattle.bus_due.specs.bus_story.specs.Items.{command_id}
-use Rattle.bus_due.specs.bus_story.specs.Story.{Story}
-use Rattle.bus_due.proofs.Plains.{prompt_plain}
-use Rattle.progress_laws.specs.bus_books.specs.FullQueues.{has_event, was_refused}
-use Rattle.initiator.specs.Causes.{has_bus_reset, has_command_abort}
-use Rattle.delivery_laws.proofs.Delivered.{HaveCauses}
-use Rattle.delivery_laws.proofs.OutcomeCauses.{abort_came, failed_above, full_refused, lost_above, reset_came, unanswered_above}
+use Rattle.delivery_laws.proofs
+use proofs.Names.{◌≡◌, true, List, sym, ap, subst, Event, command_id, Story, prompt_plain, has_event, was_refused}
+use proofs.{Names.{has_bus_reset, has_command_abort}, Delivered.{HaveCauses}, OutcomeCauses.{abort_came, failed_above}}
+use proofs.OutcomeCauses.{full_refused, lost_above, reset_came, unanswered_above}
 use Rattle.delivery_laws.proofs.laws.outcomes_have_causes.Goals as goal
 
 pub returns : goal.returns
@@ -23,7 +17,7 @@ returns c = λ s rows o prompt.
     record {
       lost = λ n k at e. lost_above s rows n k causes c.limits_are_kept.ensures.losses o prompt at e;
       failed = λ n code k at e.
-          failed_above s rows n code k c.limits_are_kept.ensures.failures o prompt at (subst (λ (h : List Event). has_event h (events.Fail (command_id n) code) ≡ true) (sym same) e);
+          failed_above s rows n code k c.limits_are_kept.ensures.failures o prompt at (subst (λ (h : List Event). has_event h (Event.Fail (command_id n) code) ≡ true) (sym same) e);
       unanswered = λ n k at e. unanswered_above s rows n k causes o prompt at e;
       full = λ n e. subst (λ (h : List Event). was_refused s h (command_id n) ≡ true) same (full_refused s rows n causes c.replies_have_causes.ensures.trace o prompt e);
       reset = λ n e. subst (λ (h : List Event). has_bus_reset h ≡ true) same (reset_came s rows n causes prompt e);

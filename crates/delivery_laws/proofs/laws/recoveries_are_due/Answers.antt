@@ -1,17 +1,7 @@
-use Rattle.std.proofs.Common.{◌≡◌, true, List, ◌∷◌, sym, ap, subst}
-use Rattle.bus_due.specs.bus_trace.specs.LineSet.{LineSet}
-use Rattle.bus_due.specs.bus_trace.specs.declared.Row.{Row}
-use Rattle.bus_due.specs.bus_dialogue.specs.declared.exchange.Phase.{Phase}
-use Rattle.bus_due.specs.bus_dialogue.specs.NextPhase.{phase_of}
-use Rattle.bus_due.specs.scenario.specs.Value.{ScenarioValue}
-use Rattle.bus_due.specs.RunState.{bus_of}
-use Rattle.bus_due.specs.RunSteps.{run_state}
-use Rattle.bus_due.proofs.Plains.{run_state_plain}
-use Rattle.progress_laws.specs.bus_books.specs.WrongParity.{is_struck_phase, is_wrong_phase}
-use Rattle.progress_laws.specs.trace_laws.proofs.Whole.{whole}
-use Rattle.delivery_laws.proofs.GiveUpRows.{failed_by, lost_by}
-use Rattle.delivery_laws.proofs.RecoveryRows.{left_by_table, prompt_at}
-use Rattle.delivery_laws.proofs.StruckPhases.{wrong_for_target}
+use Rattle.delivery_laws.proofs
+use proofs.Names.{◌≡◌, true, List, ◌∷◌, sym, ap, subst, LineSet, Row, ScenarioValue, phase_of, Phase, run_state_plain}
+use proofs.{Names.{bus_of, run_state, is_struck_phase, is_wrong_phase, whole}, GiveUpRows.{failed_by, lost_by}}
+use proofs.{RecoveryRows.{left_by_table, prompt_at}, StruckPhases.{wrong_for_target}}
 use Rattle.delivery_laws.proofs.laws.recoveries_are_due.Goals as goal
 
 abbrev IsWrongAt : ScenarioValue → List Row → Phase → Type 0

@@ -1,20 +1,7 @@
-use Rattle.std.proofs.Common.{◌∙◌, List, Option, sym, ap, subst}
-use Rattle.bus_due.specs.bus_base.specs.declared.Event.{Event}
-use Rattle.bus_due.specs.bus_base.specs.declared.Event.TheVariants as events
-use Rattle.progress_laws.specs.bus_books.specs.FullQueues.{has_event}
-use Rattle.bus_due.specs.disk_array.specs.ArrayHistory.{array_after, reply_of}
-use Rattle.bus_due.specs.disk_array.specs.Units.{Array}
-use Rattle.bus_due.specs.bus_story.specs.Items.{command_id}
-use Rattle.bus_due.specs.bus_story.specs.Outcomes.{ending_of}
-use Rattle.bus_due.specs.bus_story.specs.Story.{Story}
-use Rattle.bus_due.specs.RunState.{array_of}
-use Rattle.bus_due.specs.RunSteps.{run_state}
-use Rattle.bus_due.proofs.Plains.{prompt_plain}
-use Rattle.delivery_laws.specs.Delivery.{HasRun}
-use Rattle.delivery_laws.proofs.CheckedOutcomes.{ran_outcome}
-use Rattle.delivery_laws.proofs.Delivered.{HaveCauses}
-use Rattle.delivery_laws.proofs.LastingReplies.{failed_lasts, ran_lasts, refused_lasts}
-use Rattle.delivery_laws.proofs.OwnOutcomes.{own_plays}
+use Rattle.delivery_laws.proofs
+use proofs.Names.{◌∙◌, List, Option, sym, ap, subst, Event, array_after, reply_of, Array, command_id, ending_of, Story}
+use proofs.{Names.{prompt_plain, array_of, run_state, has_event, HasRun}, CheckedOutcomes.{ran_outcome}}
+use proofs.{Delivered.{HaveCauses}, LastingReplies.{failed_lasts, ran_lasts, refused_lasts}, OwnOutcomes.{own_plays}}
 use Rattle.delivery_laws.proofs.laws.replies_last.Goals as goal
 
 pub returns-clause-ran : goal.returns-clause-ran
@@ -27,13 +14,13 @@ pub returns-clause-failed : goal.returns-clause-failed
 returns-clause-failed c = λ s rows id code o prompt has.
     let same = ap (λ (b : Story). b.history) (prompt_plain s rows prompt).story in
     ap (λ (h : List Event). reply_of (array_after s h) id) (sym same) ∙ ap (λ (x : Option Array). reply_of x id) (own_plays s rows o prompt)
-    ∙ failed_lasts s rows (array_of s (run_state s rows)) id code o prompt (own_plays s rows o prompt) (ap (λ (h : List Event). has_event h (events.Fail id code)) same ∙ has)
+    ∙ failed_lasts s rows (array_of s (run_state s rows)) id code o prompt (own_plays s rows o prompt) (ap (λ (h : List Event). has_event h (Event.Fail id code)) same ∙ has)
 
 pub returns-clause-refused : goal.returns-clause-refused
 returns-clause-refused c = λ s rows id o prompt has.
     let same = ap (λ (b : Story). b.history) (prompt_plain s rows prompt).story in
     ap (λ (h : List Event). reply_of (array_after s h) id) (sym same) ∙ ap (λ (x : Option Array). reply_of x id) (own_plays s rows o prompt)
-    ∙ refused_lasts s rows (array_of s (run_state s rows)) id o prompt (own_plays s rows o prompt) (ap (λ (h : List Event). has_event h (events.Refuse id)) same ∙ has)
+    ∙ refused_lasts s rows (array_of s (run_state s rows)) id o prompt (own_plays s rows o prompt) (ap (λ (h : List Event). has_event h (Event.Refuse id)) same ∙ has)
 
 pub returns-clause-checked : goal.returns-clause-checked
 returns-clause-checked c = λ s rows o prompt n status r w check e.

@@ -1,6 +1,5 @@
-use Rattle.bus_due.specs.RunSteps.{run_state}
-use Rattle.delivery_laws.proofs.Room.{none_refused}
-use Rattle.delivery_laws.proofs.Taken.{never_refused}
+use Rattle.delivery_laws.proofs
+use proofs.{Names.{run_state}, Room.{none_refused}, Taken.{never_refused}}
 use Rattle.delivery_laws.proofs.laws.roomy_scenarios_refuse_nothing.Goals as goal
 
 pub returns : goal.returns

@@ -1,10 +1,6 @@
-use Rattle.std.proofs.Common.{◌≡◌, true, List, ap, subst}
-use Rattle.bus_due.specs.bus_base.specs.declared.Event.{Event}
-use Rattle.bus_due.specs.bus_story.specs.Story.{Story}
-use Rattle.bus_due.proofs.Plains.{prompt_plain}
-use Rattle.initiator.specs.Causes.{has_sense_stop}
-use Rattle.delivery_laws.proofs.Delivered.{HaveCauses}
-use Rattle.delivery_laws.proofs.Stopped.{sense_stopped}
+use Rattle.delivery_laws.proofs
+use proofs.{Names.{◌≡◌, true, List, ap, subst, Event, Story, prompt_plain, has_sense_stop}, Delivered.{HaveCauses}}
+use proofs.Stopped.{sense_stopped}
 use Rattle.delivery_laws.proofs.laws.senseless_checks_were_stopped.Goals as goal
 
 pub returns : goal.returns

@@ -1,13 +1,6 @@
-use Rattle.std.proofs.Common.{◌≡◌, true, List, ap, subst}
-use Rattle.bus_due.specs.bus_base.specs.declared.Event.{Event}
-use Rattle.bus_due.specs.bus_base.specs.declared.Event.TheVariants as events
-use Rattle.bus_due.specs.bus_story.specs.Items.{command_id}
-use Rattle.bus_due.specs.bus_story.specs.Story.{Story}
-use Rattle.bus_due.proofs.Plains.{prompt_plain}
-use Rattle.progress_laws.specs.bus_books.specs.FullQueues.{has_event}
-use Rattle.delivery_laws.specs.Delivery.{IsOwnSense, RanSo}
-use Rattle.delivery_laws.proofs.OutcomeCauses.{failed_above}
-use Rattle.delivery_laws.proofs.OwnOutcomes.{own_failed, own_sense, ran_so}
+use Rattle.delivery_laws.proofs
+use proofs.Names.{◌≡◌, true, List, ap, subst, Event, command_id, Story, prompt_plain, has_event, IsOwnSense, RanSo}
+use proofs.{OutcomeCauses.{failed_above}, OwnOutcomes.{own_failed, own_sense, ran_so}}
 use Rattle.delivery_laws.proofs.laws.senses_are_their_own.Goals as goal
 
 pub returns : goal.returns
@@ -17,7 +10,7 @@ returns c = λ s rows o prompt.
       own = λ n sense e. subst (λ (h : List Event). IsOwnSense s h n sense) same (own_sense s rows n sense o prompt e);
       failed = λ n k sense at e key.
           let f = own_failed s rows n sense c.replies_have_causes.ensures.replies o prompt e key in (
-            subst (λ (h : List Event). has_event h (events.Fail (command_id n) sense.asc) ≡ true) same f,
+            subst (λ (h : List Event). has_event h (Event.Fail (command_id n) sense.asc) ≡ true) same f,
             failed_above s rows n sense.asc k c.limits_are_kept.ensures.failures o prompt at f,
           );
       ran = λ n sense e key. subst (λ (h : List Event). RanSo s h n sense) same (ran_so s rows n sense o prompt e key);

@@ -1,6 +1,5 @@
-use Rattle.dialogue_laws.proofs.AbortLines.{aborts_ended, abort_states}
-use Rattle.dialogue_laws.proofs.AbortsTold.{aborts_told}
-use Rattle.progress_laws.proofs.Ended.{free_when_ended, joined}
+use Rattle.dialogue_laws.proofs
+use proofs.{Names.{free_when_ended, joined}, AbortLines.{aborts_ended, abort_states}, AbortsTold.{aborts_told}}
 use Rattle.dialogue_laws.proofs.aborts.abort_lines_are_over.Goals as goal
 
 pub returns-clause-so_far : goal.returns-clause-so_far

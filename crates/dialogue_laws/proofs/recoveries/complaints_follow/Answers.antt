@@ -1,8 +1,7 @@
-use Rattle.dialogue_laws.proofs.ComplaintRows.{data_in_attends, data_in_complains, message_complains, status_complains}
-use Rattle.dialogue_laws.proofs.RecoveryRows.{left_of}
-use Rattle.dialogue_laws.proofs.Refusals.{cause_stays, refused_out}
-use Rattle.dialogue_laws.proofs.StruckPhases.{is_talk, struck_attends}
-use Rattle.dialogue_laws.proofs.StruckRuns.{run_attends}
+use Rattle.dialogue_laws.proofs
+use proofs.ComplaintRows.{data_in_attends, data_in_complains, message_complains, status_complains}
+use proofs.{RecoveryRows.{left_of}, Refusals.{cause_stays, refused_out}, StruckPhases.{is_talk, struck_attends}}
+use proofs.StruckRuns.{run_attends}
 use Rattle.dialogue_laws.proofs.recoveries.complaints_follow.Goals as goal
 
 pub returns-clause-data_in : goal.returns-clause-data_in

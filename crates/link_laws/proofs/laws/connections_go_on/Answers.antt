@@ -1,11 +1,6 @@
-use Rattle.std.proofs.Common.{refl}
-use Rattle.bus_laws.specs.scsi_device.proofs.FitLines.{obeys_fits}
-use Rattle.bus_laws.proofs.Limits.{obeys_latencies}
-use Rattle.bus_laws.proofs.Prompt.{least_is}
-use Rattle.bus_laws.proofs.Together.{standing_first, stage_first}
-use Rattle.link_laws.specs.LinkStages.{apart}
-use Rattle.link_laws.proofs.RunLengths.{runs_are_short}
-use Rattle.link_laws.proofs.Traces.{from_any, sides_are}
+use Rattle.link_laws.proofs
+use proofs.Names.{refl, obeys_fits, obeys_latencies, least_is, standing_first, stage_first, apart}
+use proofs.{RunLengths.{runs_are_short}, Traces.{from_any, sides_are}}
 use Rattle.link_laws.proofs.laws.connections_go_on.Goals as goal
 
 pub returns-clause-start : goal.returns-clause-start

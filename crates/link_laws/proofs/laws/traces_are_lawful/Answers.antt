@@ -1,7 +1,5 @@
-use Rattle.bus_laws.specs.scsi_device.proofs.FitLines.{obeys_fits}
-use Rattle.bus_laws.proofs.Limits.{obeys_latencies}
-use Rattle.link_laws.proofs.RunLengths.{runs_are_short}
-use Rattle.link_laws.proofs.Traces.{stood}
+use Rattle.link_laws.proofs
+use proofs.{Names.{obeys_fits, obeys_latencies}, RunLengths.{runs_are_short}, Traces.{stood}}
 use Rattle.link_laws.proofs.laws.traces_are_lawful.Goals as goal
 
 pub returns-clause-lawful : goal.returns-clause-lawful

@@ -1,7 +1,6 @@
-use Rattle.measure_laws.proofs.Finish.{few_rows, runs_end, stays_within, within}
-use Rattle.measure_laws.proofs.FallsWhole.{falls}
-use Rattle.measure_laws.proofs.SmallStart.{small_start}
-use Rattle.measure_laws.proofs.Start.{starts}
+use Rattle.measure_laws.proofs
+use proofs.Budget.{Finish.{few_rows, runs_end, stays_within, within}, Small.{small_start}, Start.{starts}}
+use proofs.FallsWhole.{falls}
 use Rattle.measure_laws.proofs.laws.runs_stay_within_budget.Goals as goal
 
 pub returns-clause-starts : goal.returns-clause-starts

@@ -1,7 +1,6 @@
-use Rattle.progress_laws.proofs.AnsweredEnds.{answered_when_ended}
-use Rattle.progress_laws.proofs.DebtTraces.{Indebted, indebted}
-use Rattle.progress_laws.proofs.Ended.{joined}
-use Rattle.progress_laws.proofs.QueuedTraces.{all_queued}
+use Rattle.progress_laws.proofs
+use proofs.{AnsweredEnds.{answered_when_ended}, DebtTraces.{Indebted, indebted}, Ended.{joined}}
+use proofs.QueuedTraces.{all_queued}
 use Rattle.progress_laws.proofs.laws.ended_traces_have_outcomes.Goals as goal
 
 pub returns : goal.returns

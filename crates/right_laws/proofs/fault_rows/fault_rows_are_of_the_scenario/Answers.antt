@@ -1,4 +1,4 @@
-use Rattle.right_laws.proofs.Strikes.{strikes_at_end, strikes_so_far}
+use Rattle.right_laws.proofs.Samples.Facts.{strikes_at_end, strikes_so_far}
 use Rattle.right_laws.proofs.fault_rows.fault_rows_are_of_the_scenario.Goals as goal
 
 pub returns-clause-struck : goal.returns-clause-struck

@@ -1,5 +1,5 @@
-use Rattle.right_laws.proofs.GivenRows.{all_move}
-use Rattle.right_laws.proofs.Right.{all_joined, carried_rows, history_permitted, right_rows}
+use Rattle.right_laws.proofs.Given.Rows.{all_move}
+use Rattle.right_laws.proofs.Ran.Right.{all_joined, carried_rows, history_permitted, right_rows}
 use Rattle.right_laws.proofs.laws.prompt_traces_are_right.Goals as goal
 
 pub returns-clause-permitted : goal.returns-clause-permitted

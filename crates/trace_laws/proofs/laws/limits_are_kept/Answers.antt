@@ -1,6 +1,5 @@
-use Rattle.target_units.specs.scsi_device.proofs.FitLines.{obeys_fits, units_are}
-use Rattle.bus_books.proofs.Traces.{trace_faithful}
-use Rattle.trace_laws.proofs.Whole.{whole}
+use Rattle.trace_laws.proofs
+use proofs.{Names.{obeys_fits, units_are, trace_faithful}, Whole.{whole}}
 use Rattle.trace_laws.proofs.laws.limits_are_kept.Goals as goal
 
 pub returns-clause-failures : goal.returns-clause-failures

@@ -1,7 +1,5 @@
-use Rattle.target_units.specs.scsi_device.proofs.FitLines.{obeys_fits, seats_are, units_are}
-use Rattle.bus_books.proofs.Traces.{trace_faithful}
-use Rattle.trace_laws.proofs.ByteValues.{byte_values}
-use Rattle.trace_laws.proofs.Whole.{whole}
+use Rattle.trace_laws.proofs
+use proofs.{Names.{obeys_fits, seats_are, units_are, trace_faithful}, Bytes.Facts.{byte_values}, Whole.{whole}}
 use Rattle.trace_laws.proofs.laws.prompt_traces_keep_the_books.Goals as goal
 
 pub returns-clause-rows : goal.returns-clause-rows

@@ -1,4 +1,4 @@
-use Rattle.transcript_laws.proofs.StandingNext.{fit_tells}
+use Rattle.transcript_laws.proofs.Standing.Facts.{fit_tells}
 use Rattle.transcript_laws.proofs.laws.transcripts_follow_histories.Goals as goal
 
 pub returns : goal.returns

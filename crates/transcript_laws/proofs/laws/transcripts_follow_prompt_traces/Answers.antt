@@ -1,4 +1,4 @@
-use Rattle.transcript_laws.proofs.NameCount.{prompt_tells}
+use Rattle.transcript_laws.proofs.Processes.Facts.{prompt_tells}
 use Rattle.transcript_laws.proofs.laws.transcripts_follow_prompt_traces.Goals as goal
 
 pub returns : goal.returns

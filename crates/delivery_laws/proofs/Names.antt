@@ -1,0 +1,214 @@
+-- The names of other crates, and of this crate's definitions, that its proofs speak of, each by its home.
+-- A proof takes them by `use proofs.Names.{..}`; tools/checks/imports.py brings in those that a proof imports by their home.
+use Rattle.std.proofs as std_proofs
+pub use std_proofs.Common.{Bool, Err, List, None, Ok, Option, Result, Some, [], ap, arith, cond, false, inl, inr}
+pub use std_proofs.Common.{length, min, not, refl, subst, suc, sym, true, zero, ℕ, ◌&&◌, ◌++◌, ◌+◌, ◌<◌, ◌^◌, ◌||◌, ◌∙◌}
+pub use std_proofs.{Common.{◌∷◌, ◌≡◌, ◌≤◌, ◌⊎◌}, Math.Nat.{min-le_left, min-le_right}, lemmas.Bool.{and_from}}
+pub use std_proofs.lemmas.Bool.{and_parts, cases_eq, eq-eqb, eqb-true, ne_eqb, not-true, or_left, or_parts, or_right}
+pub use std_proofs.lemmas.{Bool.Decides.{nat_tests}, Option.{same_Some}}
+use Rattle.std.specs as std
+pub use std.{List.{AllByRecursion, find, list_all, list_any}, Prelude.{if◌then◌else◌, is_none, is_some, nat_le, nat_lt}}
+pub use std.Prelude.{slice_index, ⊤, ◌==◌}
+use Rattle.bus_due.specs.bus_base.proofs as bus_base_proofs
+pub use bus_base_proofs.Tests.{and_false, and_first, and_second, eq_self, none_between, plus_none, wrong, wrong'}
+use Rattle.bus_due.specs.bus_base.specs as bus_base
+pub use bus_base.declared.{AbortKind.{AbortKind}, Event.{Event}, ProcId.{ProcId}}
+use Rattle.bus_due.specs.bus_trace.proofs as bus_trace_proofs
+pub use bus_trace_proofs.{Buses.{bus_on}, OneRow.{drives-other}}
+use Rattle.bus_due.specs.bus_trace.specs as bus_trace
+pub use bus_trace.{Changes.{change_of, falls, rises}, LineSet.{LineSet, none}, Phases.{changes_phase, is_command}}
+pub use bus_trace.{Phases.{is_message_out}, Terms.{call, called_goes_on, caller_goes_on, calling_after, connection}}
+pub use bus_trace.{Terms.{connection_after, drives_two_ids, is_fault, new_calling, receiver_in, when}, Trace.{bus}}
+pub use bus_trace.{Trace.{driven_after, drives}, declared.{Kind.{Kind, TheVariants.{Drives, Fault}}, Row.{Row}}}
+pub use bus_trace.declared.{agreements.Agreement.{Agreement}, changes.Change.{Change}}
+pub use bus_trace.declared.{connection.Connection.{Connection}, selection.{Call.{Call}, Calling.{Calling}}}
+unfoldable pub use bus_trace.{LineSet.{line_of}, View.{union_below}}
+use Rattle.bus_due.specs.bus_lines.specs as bus_lines
+pub use bus_lines.Handshakes.{Handshakes}
+use Rattle.bus_due.specs.cdb_codec.specs as cdb_codec
+pub use cdb_codec.Cdb.{are_zero, command_of, fields_of, has_group_len, sized_of, spare_room}
+pub use cdb_codec.{Operations.{operation_of}, declared.{Sense.{Sense}, command.CdbFault.{CdbFault}}}
+pub use cdb_codec.declared.{command.Command.{Command}, operation.{Operation.{Operation}, TheConstants.{INQUIRY}}}
+pub use cdb_codec.declared.operation.TheConstants.{READ_10, READ_6, READ_CAPACITY, REQUEST_SENSE, TEST_UNIT_READY}
+pub use cdb_codec.declared.{operation.TheConstants.{WRITE_10, WRITE_6}, sense.TheConstants.{ABORTED_COMMAND}}
+pub use cdb_codec.declared.{sense.TheConstants.{INITIATOR_DETECTED_ERROR}, status.TheConstants.{CHECK_CONDITION, GOOD}}
+pub use cdb_codec.declared.status.TheConstants.{QUEUE_FULL}
+use Rattle.bus_due.specs.msg_grammar.specs as msg_grammar
+unfoldable pub use msg_grammar.Messages.{form_in, form_out}
+use Rattle.bus_due.specs.bus_phases.specs as bus_phases
+pub use bus_phases.{Dialogue.{dialogue}, declared.dialogue.Dialogue.{Dialogue}}
+use Rattle.bus_due.specs.bus_rules.proofs as bus_rules_proofs
+pub use bus_rules_proofs.First.{row_none}
+use Rattle.bus_due.specs.bus_rules.specs as bus_rules
+pub use bus_rules.Reset.{only_rst}
+use Rattle.bus_due.specs.scenario.proofs as scenario_proofs
+pub use scenario_proofs.Steps.{bind_ok, guard_ok, ok_is}
+use Rattle.bus_due.specs.scenario.specs as scenario
+pub use scenario.Forms.{Said, abort_line, cmd_line, end_line, fault_line, fill_line, initiator_line, reset_line}
+pub use scenario.{Forms.{scsi_line, target_line, unit_line}, Lookups.{has_device, has_host, has_target, unit_of}}
+pub use scenario.Reading.{Progress, abort_def, fault_def, fill_def, fits_version, full_cmd_def, guard, has_abort_room}
+pub use scenario.Reading.{host_def, in_8, in_order, kind_of, nothing, rank, target_def, time_in, unit_def}
+pub use scenario.{Value.{ScenarioValue}, Writing.{Obeys, built, saids}, declared.value.AbortDef.{AbortDef}}
+pub use scenario.declared.value.{CmdDef.{CmdDef}, HostDef.{HostDef}, ResetDef.{ResetDef}, TargetDef.{TargetDef}}
+pub use scenario.declared.value.UnitDef.{UnitDef}
+unfoldable pub use scenario.{Needs.{need_of, sent_of}, Reading.{added, reset_def, said_after}}
+use Rattle.bus_due.specs.disk_array.proofs as disk_array_proofs
+pub use disk_array_proofs.ArrayReplies.{abort_lists, end_lists, fail_lists, loss_lists, reset_lists, took}
+pub use disk_array_proofs.{SeatLookups.{same_nexus_is, sense_put_at, senses_without_at}, SoundArrays.{history_sound}}
+use Rattle.bus_due.specs.disk_array.specs as disk_array
+pub use disk_array.{ArrayHistory.{array_after, array_step, reply_in, reply_of}, Execution.{CommandContext, Execution}}
+pub use disk_array.Execution.{Reply, aborted_reply, attention_execution, block_out_of_range, cdb_execution}
+pub use disk_array.Execution.{check_condition, command_execution, commands_cleared, execution, heeds_attention}
+pub use disk_array.Execution.{is_good_range, is_opcode, is_request_sense, needs_unit, queue_full, range_execution}
+pub use disk_array.{Execution.{range_of, reply_execution, returned_sense, sense_of, unit_not_supported}, Order.{choice}}
+pub use disk_array.{Order.{without_process}, Processes.{Process, command_at, process_by, process_if, process_of}}
+pub use disk_array.{Processes.{same_bool, same_id, sense_block}, Seats.{is_initiator}, SoundArray.{HasSeats, IsSound}}
+pub use disk_array.Steps.{accept_step, accept_step_at, event_step, process_count, queue_step, running_process}
+pub use disk_array.{Steps.{settled_array_if, with_guest}, Units.{Array, Nexus, RunningProcess, UnitState, guest_at}}
+pub use disk_array.Units.{has_no_current, is_held, nexus_of, nexuses_without, same_nexus, sense_of_nexus}
+pub use disk_array.Units.{senses_without, settled_array, starting_array, starting_units, unit_after_choice}
+pub use disk_array.Units.{unit_state_at, with_current, with_unit, without_reply}
+use Rattle.bus_due.specs.bus_story.proofs as bus_story_proofs
+pub use bus_story_proofs.{CarriedLists.{carried_id}, StorySteps.{ends_checks, events_aims, restored_aims, sent_aims}}
+use Rattle.bus_due.specs.bus_story.specs as bus_story
+pub use bus_story.{BusState.{RowReading, row_reading}, CarriedBytes.{CarriedBytes, is_status_phase, is_whole_block}}
+pub use bus_story.HistoryEvents.{abort_line_at, abort_line_events, bus_free_events, carried_if, end_events}
+pub use bus_story.HistoryEvents.{is_completion, is_refuse, item_abort_events, item_loss_events, link_events}
+pub use bus_story.{HistoryEvents.{phase_events, queue_events, row_events_by, status_event, status_events}, Items.{Item}}
+pub use bus_story.Items.{Sent, abort, command_id, command_item, count_item, has_item, is_clash, is_open, may_send}
+pub use bus_story.{Items.{open_from, open_limit_of, process, same_item, sense_id, sense_item}, Links.{LastMessage}}
+pub use bus_story.{Links.{Link, abortive, complete, disconnect, link_of, plain}, Outcomes.{Outcome, ended_aborted}}
+pub use bus_story.Outcomes.{ended_check, ended_full, ended_good, ended_lost, ended_reset, ended_unanswered, ending_of}
+pub use bus_story.Outcomes.{fits_unit, has_end, is_end_of, is_roomy, is_sound_command, is_valid, most_open}
+pub use bus_story.Outcomes.{outcome_by_status, outcome_if, outcome_of, outcomes, outcomes_from, reply_bytes}
+pub use bus_story.{Outcomes.{reply_bytes_if, sense_in, sense_of_end}, Samples.{host_latency, latency_of}}
+pub use bus_story.{Samples.{target_latency}, Story.{Ending, Story, by_abort, by_loss, by_reset, by_status, is_aborted}}
+pub use bus_story.Story.{is_sense_stopped, story_after_event, story_after_events, story_with_end, story_with_end_if}
+pub use bus_story.{Story.{story_with_ends, story_with_over, unanswered, with_check}, TraceHistory.{aim_of}}
+pub use bus_story.TraceHistory.{is_arbitration_entry, retries_of, row_events, story, story_after_calling}
+pub use bus_story.TraceHistory.{story_after_calling_by, story_after_connection, story_by_change, story_on_bus}
+pub use bus_story.TraceHistory.{story_on_free_bus, story_with_aim, story_with_restored, story_with_sent, story_with_try}
+pub use bus_story.TraceHistory.{story_without_answer, trace_history}
+use Rattle.bus_due.specs.bus_reactions.specs as bus_reactions
+pub use bus_reactions.{Reactions.{earlier_due, sooner_time, time_if}, Reset.{rst_assertion}, declared.due.Due.{Due}}
+use Rattle.bus_due.specs.bus_dialogue.specs as bus_dialogue
+pub use bus_dialogue.{Arrivals.{policy_of}, Exchange.{Exchange, bytes_of_messages, one_message, plan_after_message}}
+pub use bus_dialogue.{Exchange.{plan_anew, plan_anew_if, struck_plan}, Hearing.{begun}, NextPhase.{Serving}}
+pub use bus_dialogue.NextPhase.{after_arrival, after_offer, after_run, bus_free, leaving_by, message_in_entry}
+pub use bus_dialogue.NextPhase.{message_out_leaving, message_repetition, phase_entry, phase_leaving, phase_of}
+pub use bus_dialogue.{NextPhase.{pointer_restoration, recovery, recovery_limit, with_task}, PhaseBytes.{one_if}}
+pub use bus_dialogue.Planning.{first_plan, plan_after, plan_in_message_out, plan_in_phase, plan_with_byte}
+pub use bus_dialogue.{Words.{is_naming, reply_to}, declared.exchange.{Cause.{Cause}, Hearing.{Hearing}}}
+pub use bus_dialogue.declared.exchange.{Leaving.{Leaving}, Messages.{Messages}, Next.{Next}, Phase.{Phase}, Plan.{Plan}}
+pub use bus_dialogue.declared.exchange.Task.{Task}
+use Rattle.bus_due.proofs as bus_due_proofs
+pub use bus_due_proofs.Cases.{command_given_up_due, command_given_up_due_rows, command_struck_twice_due}
+pub use bus_due_proofs.Cases.{command_struck_twice_due_rows, data_in_given_up_due, data_in_given_up_due_rows}
+pub use bus_due_proofs.Cases.{data_out_given_up_due, data_out_given_up_due_rows, device_reset_by_message_due}
+pub use bus_due_proofs.Cases.{device_reset_by_message_due_rows, field_in_a_command_due, field_in_a_command_due_rows}
+pub use bus_due_proofs.Cases.{full_queue_due, full_queue_due_rows, hold_of_a_unit_due, hold_of_a_unit_due_rows}
+pub use bus_due_proofs.Cases.{lost_due, lost_due_rows, offset_255_due, offset_255_due_rows, pulsed_read_struck_due}
+pub use bus_due_proofs.Cases.{pulsed_read_struck_due_rows, pulsed_write_struck_due, pulsed_write_struck_due_rows}
+pub use bus_due_proofs.Cases.{reselected_id_struck_due, reselected_id_struck_due_rows, selected_id_struck_due}
+pub use bus_due_proofs.Cases.{selected_id_struck_due_rows, status_struck_due, status_struck_due_rows, struck_names_due}
+pub use bus_due_proofs.{Cases.{struck_names_due_rows, tag_aborted_due, tag_aborted_due_rows}, Leasts.{least_none}}
+pub use bus_due_proofs.{Plains.{prompt_plain, run_state_plain}, Seams.{onto}}
+use Rattle.bus_due.specs as bus_due
+pub use bus_due.{Allowed.{allowed}, Defs.{opening, target_def_of}, Due.{is_reset_past, reset_from}, Faithful.{faithful}}
+pub use bus_due.{Faithful.{has_ends}, Goals.{is_good}, Least.{IsLeast}, Next.{IsEnded, IsPrompt, due}, Own.{Own}}
+pub use bus_due.{Own.{own_after, own_of}, Plain.{AreOfDevices, IsPlain}, RunState.{RunState, array_of, bus_of}}
+pub use bus_due.RunState.{carried_here, item_of, or_start, process_item, process_served}
+pub use bus_due.RunSteps.{array_after_events, exchange_after, item_if, leaving_of, may_negotiate, naming_of, opening_of}
+pub use bus_due.{RunSteps.{run_state, served_after}, Sights.{hearing_of, leaving, serving_at}, Tasks.{task_of}}
+pub use bus_due.{Telling.{is_true_telling, same_event, telling}, Wants.{initiator_if, ready_of, target_if, target_of}}
+use Rattle.progress_laws.specs.scsi_device.proofs as scsi_device_proofs
+pub use scsi_device_proofs.{Finds.{all_more}, FitLines.{command_fits, obeys_fits, seats_are, units_are}}
+pub use scsi_device_proofs.LineReads.{reset_by}
+use Rattle.progress_laws.specs.scsi_device.specs as scsi_device
+pub use scsi_device.{Lines.{FitsBus, IsHostLine, IsTargetLine}, Writes.{writers}}
+use Rattle.progress_laws.specs.target_units.proofs as target_units_proofs
+pub use target_units_proofs.{LiveQueue.{id_turned}, Rooms.{lines_always}}
+use Rattle.progress_laws.specs.target_units.specs as target_units
+pub use target_units.Rooms.{AreOfLines, IsOfLine}
+use Rattle.target_course.proofs as target_course_proofs
+pub use target_course_proofs.ServedEnds.{ends_are}
+use Rattle.progress_laws.specs.bus_books.proofs as bus_books_proofs
+pub use bus_books_proofs.{Aims.{connected_aims}, CarriedRows.{process_id}, InConnection.{reading_is}, Lookups.{id_is}}
+pub use bus_books_proofs.{Lookups.{self_id}, Senses.{self_nexus}, Traces.{trace_faithful}}
+use Rattle.progress_laws.specs.bus_books.specs as bus_books
+pub use bus_books.FullQueues.{finds_full_queue, finds_full_queue_if, has_cause, has_event, was_refused}
+pub use bus_books.{Hearing.{LeavesWhole, is_in_phase}, Listening.{nothing_understood, understanding, understood}}
+pub use bus_books.{Rows.{IsRowIn, RowKind, crosses, still, strikes, turns}, Speaking.{AreWordsFor, IsSpeaking, opens}}
+pub use bus_books.{Traces.{RowOf, apart, begins, ends, goes_on, under_reset}, WrongParity.{fault_rows, gives_up}}
+pub use bus_books.WrongParity.{has_more_faults, is_complaint, is_failure, is_fault_of, is_left_as_due, is_left_by}
+pub use bus_books.WrongParity.{is_loss, is_struck_phase, is_wrong_phase, left_as_due, serves}
+use Rattle.progress_laws.specs.bus_laws.proofs as bus_laws_proofs
+pub use bus_laws_proofs.{Apart.{change_plain}, Dues.{is_at}, FromAnswer.{from_answered, from_resumed, from_withdrawn}}
+pub use bus_laws_proofs.{FromArbitration.{from_arbitration}, FromCalling.{from_asking, from_calls}}
+pub use bus_laws_proofs.{FromFree.{from_free}, FromReset.{off_at}, FromWon.{from_won}, Limits.{obeys_latencies}}
+pub use bus_laws_proofs.{Prompt.{least_is}, Resets.{due_calm, due_holding, due_there, own_reset_is}, Rows.{drives_own}}
+pub use bus_laws_proofs.Together.{by_calm, reset_or_calm}
+use Rattle.progress_laws.specs.bus_laws.specs as bus_laws
+pub use bus_laws.{Callings.{calling_lines, won_call}, Reactions.{reset_due, reset_due_if, unreset_due}}
+pub use bus_laws.{Rows.{row_of_lines}, Stages.{BusStage, CalmStanding, HasShortLatencies, after_answer}}
+pub use bus_laws.Stages.{after_arbitration, after_takeover, after_withdrawal, awaiting_answer, in_arbitration}
+pub use bus_laws.Stages.{in_connection, in_reset, is_connected, on_free_bus, with_both_ids}
+use Rattle.progress_laws.specs.link_laws.proofs as link_laws_proofs
+pub use link_laws_proofs.{FromLink.{from_link}, PhaseEnds.{AfterLink, frees}, RunLengths.{runs_are_short}}
+pub use link_laws_proofs.Traces.{link_calm}
+use Rattle.progress_laws.specs.link_laws.specs as link_laws
+pub use link_laws.{Books.{KeepsBooksIn}, LinkStages.{AnyStage, linked}}
+use Rattle.progress_laws.specs.trace_laws.proofs as trace_laws_proofs
+pub use trace_laws_proofs.Common.{Impossible.{none_some}, PhaseLines.{command_phase}, Tests.{plus_one}}
+pub use trace_laws_proofs.Events.{Arriving.{not_running}, Others.{executed, reply_at}, Replies.{accepted, refused}}
+pub use trace_laws_proofs.Events.{Replies.{running_id, settles}, Units.{MayWait, StaysSo, each_settled, events_all}}
+pub use trace_laws_proofs.Events.{Units.{unit_has}, Writers.{append_all, kept_all, without_all}}
+pub use trace_laws_proofs.Items.{Facts.{aimed_next}, Fresh.{calm_before, items_open}, Open.{item_is, same_process}}
+pub use trace_laws_proofs.Items.{Over.{ends_over, ends_senses, events_checked, events_grow, in_append}, Sent.{AllOf}}
+pub use trace_laws_proofs.{Items.Sent.{carried_of_item, process_in, row_of}, Lines.Called.{IsDueCall, sel_of_call}}
+pub use trace_laws_proofs.Lines.{Connections.{connection_row}, Crossings.{RowFacts, ends_here, stays}}
+pub use trace_laws_proofs.{Lines.Joint.{NextStood, Stood}, Places.Ready.{on_running}, Pointers.Waits.{change_over}}
+pub use trace_laws_proofs.{Pointers.Waits.{connection_sent}, Undone.Answers.{same_phase_of}, Whole.{Whole}}
+pub use trace_laws_proofs.{Whole.{standing_next, whole}, Writes.Arrivals.{ArrivesNow, arrives_first}}
+use Rattle.progress_laws.specs.trace_laws.specs as trace_laws
+pub use trace_laws.{DataPointers.{is_marked}, ItemFacts.{AllP, AreChecked, IsChecked, IsNext, IsQueued, Items, RunsP}}
+pub use trace_laws.{ItemFacts.{UnitsP, is_abort, is_sense}, Items.{IsServedOpen}, Places.{AnsweredOpen, Closes}}
+pub use trace_laws.Places.{IsAtRest, IsAway, IsTaken, IsUnanswered, IsUntouched, OnGuests, OnUnit, OnUnits, PlacedAsked}
+pub use trace_laws.Places.{PlacedBefore, PlacedIf, PlacedIn, Runs, RunsOpen, Waits, completes, disconnects}
+pub use trace_laws.{Statuses.{IsStatusIn, IsStatusOf}, WriteFacts.{AllUnits, IsOther, IsWrittenUnit}}
+use Rattle.progress_laws.proofs as progress_laws_proofs
+pub use progress_laws_proofs.{Answered.{AreUnwanted, sense_wanted}, DebtEvents.{AllPay, Paid, events_pay}}
+pub use progress_laws_proofs.{DebtNext.{sense_is, senses_same}, DebtSteps.{debt_before, is_checked, is_not_over}}
+pub use progress_laws_proofs.{DebtSteps.{same_debt, same_debts}, DebtTraces.{Indebted, indebted, row_pays}}
+pub use progress_laws_proofs.{Ended.{Joined, free_when_ended, joined, unwanted_when_ended}, Entries.{WantsAreItems}}
+pub use progress_laws_proofs.{FetchedSenses.{sense_cdb}, Owed.{nexus_at}, OwedEvents.{OfCommand, of_command}}
+pub use progress_laws_proofs.{OwedEvents.{running_own}, OwedRows.{Holds, changed}, QueueRows.{WasOpen, before}}
+pub use progress_laws_proofs.{QueueRows.{fewer_open, open_before}, Rooms.{target_there}}
+use Rattle.progress_laws.specs as progress_laws
+pub use progress_laws.Debts.{Debts, IsDebt, PaysWell, is_owed, nexus_of_command}
+use Rattle.right_laws.proofs as right_laws_proofs
+pub use right_laws_proofs.Ran.{Crossings.{GoesSo, IsNew, here_goes, known_served, new_here}, Facts.{Known, ended_next}}
+pub use right_laws_proofs.Ran.{Right.{AreJoined, all_joined, joined_last}, Undone.{load_next, load_start}}
+pub use right_laws_proofs.Samples.{Callings.{asks_row, reset_sel, struck_out, waits_row}, Calls.{GoesOn, call_goes}}
+pub use right_laws_proofs.Samples.{Moments.{apart_of}, Resets.{CalmRow, ResetRow, calm_row, lets_go, raises, reacts}}
+pub use right_laws_proofs.{Samples.Resets.{resets}, Statuses.Facts.{status_at_end, status_next, status_start}}
+use Rattle.right_laws.specs as right_laws
+pub use right_laws.{Loads.{UndoLoadFacts}, Open.{OnEvents}, Runs.{HasEnded}, StatusBytes.{StatusFacts}}
+use Rattle.initiator.proofs as initiator_proofs
+pub use initiator_proofs.StoryEnds.{AreEnded, are_ended, change_keeps, ended_if, ending_after, event_ends, events_keep}
+pub use initiator_proofs.StoryEnds.{unended_connection, unended_linked, with_ending_at}
+use Rattle.initiator.specs as initiator
+pub use initiator.Causes.{has_bus_reset, has_command_abort, has_loss, has_sense_abort, has_sense_stop, has_status}
+pub use initiator.Causes.{is_bus_reset, is_command_abort, is_loss_of, is_sense_abort, is_status_of}
+use Rattle.delivery_laws.specs as delivery_laws
+pub use delivery_laws.Delivery.{HasRun, IsDelivered, IsGiven, IsOwnSense, RanSo, calling_faults, checked_sense}
+pub use delivery_laws.Delivery.{command_faults, failed, fault_limit, fault_sense, is_call_for, is_calling_fault}
+pub use delivery_laws.Delivery.{is_calm_event, is_for_item, is_given_up_by, is_selecting, limit_with, ran}
+pub use delivery_laws.Endings.{HasReplyOf, arrive_by_room, arrives_by_room, calls_in_vain, ending_outcome_if}
+pub use delivery_laws.Endings.{event_ending, events_ending, first_ending, first_of, first_outcome, is_by_status}
+pub use delivery_laws.Endings.{is_end_in_vain, is_full, is_sense_stop, is_tried_out, is_unanswered, is_unheard}
+pub use delivery_laws.Endings.{is_unheard_call, own_sense_of, sense_if, status_outcome, was_sense_stopped, was_sent}
+pub use delivery_laws.{Openings.{opening_since, opening_with, plan_at}, Recoveries.{IsLeaving, free_unless}}
+pub use delivery_laws.Recoveries.{is_named_again, is_tried_again, phase_after, phase_after_wrong, status_unless}
+pub use delivery_laws.Resets.{are_lines, are_releases, began_reset, begins_reset, ends_reset, has_line, has_reset}
+pub use delivery_laws.Resets.{is_line_of, is_release, is_reset_over, is_reset_row}

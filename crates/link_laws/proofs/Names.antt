@@ -1,0 +1,136 @@
+-- The names of other crates, and of this crate's definitions, that its proofs speak of, each by its home.
+-- A proof takes them by `use proofs.Names.{..}`; tools/checks/imports.py brings in those that a proof imports by their home.
+use Rattle.std.proofs as std_proofs
+pub use std_proofs.Common.{Bool, Err, List, None, Ok, Option, Some, [], ap, arith, drop, false, inl, inr, length, not}
+pub use std_proofs.Common.{refl, subst, suc, sym, take, true, zero, ℕ, ◌%◌, ◌&&◌, ◌*◌, ◌++◌, ◌+◌, ◌-◌, ◌<◌, ◌==◌, ◌^◌}
+pub use std_proofs.{Common.{◌||◌, ◌∙◌, ◌∷◌, ◌≡◌, ◌≢◌, ◌≤◌, ◌⊎◌}, lemmas.Bool.{and_parts, cases_eq, eq-eqb, eqb-true}}
+pub use std_proofs.lemmas.Bool.{le-leb, lt-ltb, ltb-true, ne_eqb, not-true, true≢false, Decides.{nat_tests}}
+pub use std_proofs.lemmas.{List.{length-append, length-replicate, length-take}, Option.{none-some, same_Some}}
+use Rattle.std.specs as std
+pub use std.{Int.{Bits.{or_self, or_zero_r}, RustNames.{bit_or}}, List.{AllByRecursion}, Prelude.{Result}}
+pub use std.Prelude.{if◌then◌else◌, is_none, is_some, max, min, nat_le, nat_lt, slice_index_or}
+use Rattle.bus_due.specs.bus_base.proofs as bus_base_proofs
+pub use bus_base_proofs.Tests.{and_false, eq_self, implication_parts, implied, next_some, none_number, or_false}
+pub use bus_base_proofs.Tests.{or_true, wrong', zero_of}
+use Rattle.bus_due.specs.bus_base.specs as bus_base
+pub use bus_base.{Faults.{counted_on}, declared.{AbortKind.{AbortKind}, Event.{Event}, ProcId.{ProcId}}}
+use Rattle.bus_due.specs.bus_trace.proofs as bus_trace_proofs
+pub use bus_trace_proofs.{Ages.{since_le}, Buses.{bus_none, bus_two}, OneRow.{drives-fault}, Sets.{same_self}}
+use Rattle.bus_due.specs.bus_trace.specs as bus_trace
+pub use bus_trace.{Agreements.{fast_times, slow_times, times_of, times_or_slow}, Changes.{change_of, drives_data}}
+pub use bus_trace.{Changes.{falls, implies, rises}, LineSet.{LineSet, bit_value, data_of, none, parity_of, same, union}}
+pub use bus_trace.{Phases.{changes_phase, is_data, is_message_out}, Terms.{call, connection, connection_after}}
+pub use bus_trace.{Terms.{free_since, is_fault, raised, receiver, receiver_in, receiver_of, when}, Trace.{bus, drives}}
+pub use bus_trace.Trace.{last_time, line_times, newer, newer_line, phase_time, since, since_line, times_after}
+pub use bus_trace.declared.{Kind.TheVariants.{Drives, Fault}, Row.{Row}, agreements.Agreement.{Agreement}}
+pub use bus_trace.declared.agreements.{TheConstants.{UNLIMITED_OFFSET}, TransferTimes.{TransferTimes}}
+pub use bus_trace.declared.{changes.Change.{Change}, connection.Connection.{Connection}}
+pub use bus_trace.declared.{line_times.LineTimes.{LineTimes}, selection.Call.{Call}}
+use Rattle.bus_due.specs.bus_lines.proofs as bus_lines_proofs
+pub use bus_lines_proofs.Early.{push_length, struck_length, struck_same}
+use Rattle.bus_due.specs.bus_lines.specs as bus_lines
+pub use bus_lines.Handshakes.{Handshakes, answered, answered_if, asked, asked_if, first_of, handshakes}
+pub use bus_lines.Handshakes.{handshakes_after, is_struck, no_handshakes, opened, or_now, or_zero, room_by, strikes}
+pub use bus_lines.{Handshakes.{strikes_if, strikes_last, time_of}, Stage.{stage}, declared.handshakes.Request.{Request}}
+pub use bus_lines.declared.stage.Stage.TheVariants.{InConnection, OnFreeBus}
+use Rattle.bus_due.specs.cdb_codec.specs as cdb_codec
+pub use cdb_codec.{Blocks.{blocks_moved}, Cdb.{command_of}, Replies.{capacity_data, inquiry_data, sense_data}}
+pub use cdb_codec.declared.{Sense.{Sense}, command.{CdbFault.{CdbFault}, Command.{Command}}}
+pub use cdb_codec.declared.{replies.TheConstants.{INQUIRY_LEN, SENSE_LEN}, sense.TheConstants.{ABORTED_COMMAND}}
+pub use cdb_codec.declared.status.TheConstants.{CHECK_CONDITION, GOOD}
+use Rattle.bus_due.specs.msg_grammar.specs as msg_grammar
+pub use msg_grammar.declared.message.MsgIn.{MsgIn}
+use Rattle.bus_due.specs.bus_phases.specs as bus_phases
+pub use bus_phases.Dialogue.{agreed, byte_crosses, byte_in, byte_out, dialogue, dialogue_after, dialogue_on}
+pub use bus_phases.{Dialogue.{heard_with_command, phase_begins}, Half.{is_nil}, Phases.{count_after, duty, duty_after}}
+pub use bus_phases.Phases.{duty_if_held, duty_left, is_attention_held, no_pulses, pulses, pulses_after, pulses_on}
+pub use bus_phases.{Phases.{turned, turned_after}, Reading.{reading_of}, declared.attention.Duty.{Duty}}
+pub use bus_phases.declared.{dialogue.Dialogue.{Dialogue}, pulses.Pulses.{Pulses}, reading.Reading.{Reading}}
+pub use bus_phases.declared.spoken.CommandBytes.{CommandBytes}
+use Rattle.bus_due.specs.bus_rules.proofs as bus_rules_proofs
+pub use bus_rules_proofs.First.{all_kept, none_broken}
+use Rattle.bus_due.specs.bus_rules.specs as bus_rules
+pub use bus_rules.{Messages.{is_owed, keeps_command, keeps_messages}, Order.{is_of_device}, Rules.{broken_rule}}
+pub use bus_rules.{Rules.{first_broken, judged_rules, keeps, lowest_broken}, Seen.{drives_bsy, id_since}}
+pub use bus_rules.{Seen.{initiator_data, initiator_of, others_in_call, seen, target_data}, Transfer.{has_parity}}
+pub use bus_rules.{Transfer.{is_after}, declared.seen.Seen.{Seen}}
+unfoldable pub use bus_rules.Seen.{seen_with}
+use Rattle.bus_due.specs.scenario.specs as scenario
+pub use scenario.{Lookups.{unit_of}, Reasons.{is_block_in}, Value.{ScenarioValue}, declared.value.FillDef.{FillDef}}
+pub use scenario.declared.value.{HostDef.{HostDef}, Policy.{Policy}, TargetDef.{TargetDef}, UnitDef.{UnitDef}}
+use Rattle.bus_due.specs.disk_array.specs as disk_array
+pub use disk_array.Contents.{Contents, blank_contents, block_at, bytes_at, filled_contents, no_contents, touched_block}
+pub use disk_array.{Contents.{touched_with, with_block, with_bytes, zero_block}, Execution.{CommandContext, Execution}}
+pub use disk_array.Execution.{Reply, attention_execution, block_out_of_range, cdb_execution, check_condition}
+pub use disk_array.Execution.{command_execution, commands_cleared, execution, good, heeds_attention, invalid_field}
+pub use disk_array.Execution.{invalid_opcode, is_good_range, is_request_sense, needs_unit, queue_full, range_execution}
+pub use disk_array.Execution.{range_of, reply_execution, returned_sense, sense_of, unit_not_supported, write_execution}
+pub use disk_array.{Order.{choice}, Processes.{Process, process_of}, Units.{Array, Nexus, RunningProcess, UnitState}}
+pub use disk_array.Units.{guest_at, has_no_current, is_held, nexus_of, nexuses_without, sense_of_nexus, senses_without}
+pub use disk_array.Units.{settled_array, starting_array, starting_units, unit_state_at, units_after_choice}
+pub use disk_array.Units.{with_current, with_unit}
+use Rattle.bus_due.specs.bus_story.proofs as bus_story_proofs
+pub use bus_story_proofs.StorySteps.{events_link}
+use Rattle.bus_due.specs.bus_story.specs as bus_story
+pub use bus_story.{BusState.{RowReading, row_reading}, CarriedBytes.{carried_of}, HistoryEvents.{bus_free_events}}
+pub use bus_story.HistoryEvents.{carried_if, connection_events, end_events, is_complete, is_completion, link_events}
+pub use bus_story.{HistoryEvents.{phase_events, row_events_by}, Items.{Item, abort, process}, Links.{Link}}
+pub use bus_story.{Samples.{latency_of}, Story.{Story}, TraceHistory.{story_on_bus}}
+use Rattle.bus_due.specs.bus_reactions.specs as bus_reactions
+pub use bus_reactions.{Ends.{initiator_due, owes_release, sample_due, target_due}, Initiator.{ack_negation}}
+pub use bus_reactions.Initiator.{ack_pulse_end, attends_by, byte_release, initiator_byte, initiator_handshake}
+pub use bus_reactions.{Initiator.{initiator_pulse, received_byte_ack, sent_byte_ack}, Reactions.{due_at}}
+pub use bus_reactions.Target.{bits_if, byte_bits, byte_change, first_byte, first_req, next_req, phase_end, pulse_turn}
+pub use bus_reactions.Target.{req_assertion, req_negation, req_pulse_end, target_handshake, target_pulse}
+pub use bus_reactions.declared.{due.{Due.{Due}, Myself.{Myself}}, ends.{Answering.{Answering}, Offering.{Offering}}}
+pub use bus_reactions.declared.{ends.Pace.{Pace}, sight.Sight.{Sight}}
+use Rattle.bus_due.specs.bus_dialogue.specs as bus_dialogue
+pub use bus_dialogue.{Arrivals.{policy_of}, DataRuns.{run_by, run_byte, run_in, run_length, runs_in_all}}
+pub use bus_dialogue.{Ends.{answering_by, is_pulsed_phase, lag_by, offering_by, pace_by}, Exchange.{bytes_of_messages}}
+pub use bus_dialogue.{Exchange.{one_message, two_messages}, Hearing.{begun, begun_after}, NextPhase.{Serving}}
+pub use bus_dialogue.NextPhase.{after_arrival, after_messages, after_offer, after_run, bus_free, command_leaving}
+pub use bus_dialogue.NextPhase.{data_in_leaving, data_out_leaving, disconnect_messages, disconnection, message_in_entry}
+pub use bus_dialogue.NextPhase.{message_out_leaving, message_repetition, next_data_phase, phase_entry, phase_leaving}
+pub use bus_dialogue.NextPhase.{phase_lines, phase_of, pointer_restoration, recovery, recovery_limit}
+pub use bus_dialogue.{NextPhase.{request_or_command, unless_attention, with_task}, PhaseBytes.{data_byte, follows_in}}
+pub use bus_dialogue.{PhaseBytes.{lines_by, run_length_if}, Sending.{Sending, byte_to_send}, Words.{is_naming}}
+pub use bus_dialogue.{Words.{request_by, target_answer}, declared.exchange.{Arrival.{Arrival}, Cause.{Cause}}}
+pub use bus_dialogue.declared.exchange.{Leaving.{Leaving}, Next.{Next}, Phase.{Phase}, Task.{Task}}
+use Rattle.bus_due.proofs as bus_due_proofs
+pub use bus_due_proofs.{Leasts.{some_eq}, Plains.{run_state_plain}, Stills.{keeps_wishes}}
+use Rattle.bus_due.specs as bus_due
+pub use bus_due.{Connected.{end_due, initiator_end_due, is_receiver, target_end_due}, Defs.{host_of, target_def_of}}
+pub use bus_due.{Due.{self_of, stage_due}, LastingState.{progress_in}, Least.{IsLeast}, Next.{IsPrompt, due}, Own.{Own}}
+pub use bus_due.{Own.{own_after, own_of}, Plain.{AreOfDevices, crossed, crossed_if}, RunState.{RunState, array_of}}
+pub use bus_due.RunState.{bus_of, carried_here, item_of, or_start, process_here, process_item, process_served}
+pub use bus_due.RunSteps.{array_after_events, leaving_of, progress_after, progress_by_leaving, run_state, served_after}
+pub use bus_due.{Sights.{flip_of, sending_by, sending_of, serving_at, sight_of}, Tasks.{given_if, is_writing}}
+pub use bus_due.{Tasks.{moved_count, reply_now, task_if, task_with}, Wants.{want_time}, Wishes.{IsStill, Wishes}}
+use Rattle.bus_laws.specs.scsi_device.proofs as scsi_device_proofs
+pub use scsi_device_proofs.{FitLines.{obeys_fits, unit_fits}, SentBytes.{process_few}}
+use Rattle.bus_laws.specs.scsi_device.specs as scsi_device
+pub use scsi_device.Lines.{FitsBus, IsUnitLine}
+use Rattle.bus_laws.proofs as bus_laws_proofs
+pub use bus_laws_proofs.{Apart.{change_plain}, Dues.{free_due_is, is_at, is_entry, is_there}, Limits.{obeys_latencies}}
+pub use bus_laws_proofs.{Periods.{offset_is_byte}, Prompt.{least_is}, ResetSteps.{raises}, Resets.{own_fault}}
+pub use bus_laws_proofs.{Resets.{own_other}, Rows.{change_is, drives_other, drives_own, fault_change, own_time_fault}}
+pub use bus_laws_proofs.Rows.{own_time_other, own_time_own, since_is, stage_is, stands_after, stands_by}
+pub use bus_laws_proofs.Together.{ahead_with_resets, by_calm, by_reset, from_stage, reset_or_calm, stage_first}
+pub use bus_laws_proofs.Together.{standing_after, standing_first, standing_next}
+use Rattle.bus_laws.specs as bus_laws
+pub use bus_laws.Ends.{BeginsConnection, BeginsSelected, EndLines, Linked, by_reselection, by_selection, connected_bus}
+pub use bus_laws.{Ends.{ends_selected, initiator_side, target_side}, Reactions.{device_with, own_time, unreset_due}}
+pub use bus_laws.{Reactions.{unreset_due_if}, Rows.{Stands, change_to, row_of_fault, row_of_lines}, Stages.{AreAhead}}
+pub use bus_laws.Stages.{BusStage, CalmStanding, FreeBus, HasDevice, HasShortLatencies, NextRow, Standing, after_answer}
+pub use bus_laws.Stages.{after_arbitration, after_takeover, after_withdrawal, awaiting_answer, in_arbitration}
+pub use bus_laws.Stages.{in_connection, in_reset, is_connected, on_free_bus, with_both_ids}
+use Rattle.link_laws.specs as link_laws
+pub use link_laws.Books.{KeepsBooksIn, free_in_time, frees_in_time, has_odd_byte, has_whole_command, has_whole_messages}
+pub use link_laws.Books.{have_odd_bytes, have_whole_commands, have_whole_messages, in_connections, is_row_of_connection}
+pub use link_laws.LinkStages.{AnyStage, LinkStage, NextAny, apart, linked, when_offering, when_pulsing, when_selected}
+pub use link_laws.{LinkStages.{when_settling, when_shaking, when_turning}, Phases.{HasDriven, HasTurned, InPhase}}
+pub use link_laws.Phases.{Offering as OfferingStage, OneSide, Settling, Shaking, Turning, ends, fits_duty, is_owed_out}
+pub use link_laws.{Phases.{shaking_time}, Pulses.{EndsAhead, HasDrivenPulsed, NoSooner, PulseFacts, Pulsing, Reached}}
+pub use link_laws.Pulses.{answers_at, byte_in_run, drives_at, drives_by, given_here, initiator_next, initiator_next_at}
+pub use link_laws.Pulses.{initiator_time, next_bits, offset_here, pulses_of, run_count, target_next, target_next_at}
+pub use link_laws.Pulses.{target_time, times_here}

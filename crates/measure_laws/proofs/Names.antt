@@ -1,0 +1,220 @@
+-- The names of other crates, and of this crate's definitions, that its proofs speak of, each by its home.
+-- A proof takes them by `use proofs.Names.{..}`; tools/checks/imports.py brings in those that a proof imports by their home.
+use Rattle.std.proofs as std_proofs
+pub use std_proofs.Common.{Bool, Err, List, None, Ok, Option, Result, Some, [], ap, arith, false, inl, inr, length}
+pub use std_proofs.Common.{length-append, max, refl, subst, suc, sym, true, zero, ℕ, ◌&&◌, ◌<◌, ◌∙◌, ◌∷◌, ◌≡◌, ◌≢◌, ◌≤◌}
+pub use std_proofs.{Common.{◌⊎◌}, lemmas.Bool.{and_parts, cases_eq, eqb-true, ltb-true, ne_eqb, or_parts}}
+pub use std_proofs.lemmas.{Bool.Decides.{nat_tests}, Grind.{common_steps, elements}, List.Sums.{sum_by-cons}}
+pub use std_proofs.lemmas.{Nat.{div_below}, Option.{none-some, same_Some}}
+use Rattle.std.specs as std
+pub use std.{Int.Bits.{or_zero_r}, List.{AllByRecursion, find, list_any, sum_by}, Prelude.{drop, if◌then◌else◌}}
+pub use std.Prelude.{is_none, is_some, min, nat_le, nat_lt, not, slice_index, slice_index_or, slice_set, ⊤, ◌%◌, ◌*◌}
+pub use std.Prelude.{◌++◌, ◌+◌, ◌-◌, ◌/◌, ◌==◌, ◌^◌, ◌||◌}
+use Rattle.bus_due.specs.bus_base.proofs as bus_base_proofs
+pub use bus_base_proofs.Tests.{and_false, and_first, and_second, and_true, eq_self, next_some, none_between}
+pub use bus_base_proofs.Tests.{none_number, not_first, wrong, wrong'}
+use Rattle.bus_due.specs.bus_base.specs as bus_base
+pub use bus_base.{Faults.{counted_on}, declared.{AbortKind.{AbortKind}, Event.{Event}, ProcId.{ProcId}}}
+use Rattle.bus_due.specs.bus_trace.proofs as bus_trace_proofs
+pub use bus_trace_proofs.{Buses.{bus_off, bus_on, bus_one, bus_two}, OneRow.{bus-fault, drives-fault, drives-other}}
+pub use bus_trace_proofs.Sets.{same_self, same_set-eq}
+use Rattle.bus_due.specs.bus_trace.specs as bus_trace
+pub use bus_trace.{Changes.{change_of, falls, rises, same_phase}, LineSet.{LineSet, byte_set, none, same, same_set}}
+pub use bus_trace.{LineSet.{union}, Phases.{changes_phase, is_data, is_message_in, is_message_out}, Terms.{arbitration}}
+pub use bus_trace.Terms.{arbitration_after, call, call_goes_on, connected, connected_by, connected_of, connection}
+pub use bus_trace.Terms.{connection_after, connection_of, drives_two_ids, free_since, is_fault, is_free, new_calling}
+pub use bus_trace.{Terms.{receiver, receiver_in, when}, Trace.{bus, driven_after, drives, free_time, last_time}}
+pub use bus_trace.{Trace.{line_times, since_line}, View.{driven_at}, declared.Kind.{Kind, TheVariants.{Drives, Fault}}}
+pub use bus_trace.declared.{Row.{Row}, agreements.Agreement.{Agreement}, arbitration.Arbitration.{Arbitration}}
+pub use bus_trace.declared.{changes.Change.{Change}, connection.Connection.{Connection}, selection.Call.{Call}}
+pub use bus_trace.declared.selection.Calling.{Calling}
+use Rattle.bus_due.specs.bus_lines.proofs as bus_lines_proofs
+pub use bus_lines_proofs.Early.{struck_length}
+use Rattle.bus_due.specs.bus_lines.specs as bus_lines
+pub use bus_lines.Handshakes.{Handshakes, answered, answered_if, asked, asked_if, handshakes, handshakes_after}
+pub use bus_lines.{Handshakes.{no_handshakes, opened, strikes_if}, Stage.{stage, stage_by}}
+pub use bus_lines.declared.{handshakes.Request.{Request}, stage.Stage.{Stage, TheVariants.{InAnswer, InArbitration}}}
+pub use bus_lines.declared.stage.Stage.TheVariants.{InCalling, InReset, OnFreeBus}
+use Rattle.bus_due.specs.cdb_codec.specs as cdb_codec
+pub use cdb_codec.{Blocks.{blocks_moved}, Cdb.{command_of, has_group_len, is_len}, declared.command.CdbFault.{CdbFault}}
+pub use cdb_codec.declared.{command.Command.{Command}, status.TheConstants.{CHECK_CONDITION, GOOD}}
+use Rattle.bus_due.specs.msg_grammar.specs as msg_grammar
+pub use msg_grammar.{Messages.{out_bytes}, declared.message.{MsgIn.{MsgIn}, MsgOut.{MsgOut}}}
+use Rattle.bus_due.specs.bus_phases.specs as bus_phases
+pub use bus_phases.Dialogue.{byte_crosses, byte_else, byte_in, byte_out, dialogue, heard_with_command, phase_begins}
+pub use bus_phases.declared.{dialogue.Dialogue.{Dialogue}, spoken.CommandBytes.{CommandBytes}}
+use Rattle.bus_due.specs.bus_rules.specs as bus_rules
+pub use bus_rules.{Order.{is_of_device}, Reset.{only_rst}, Rules.{broken_rule}}
+use Rattle.bus_due.specs.scenario.proofs as scenario_proofs
+pub use scenario_proofs.{Obeying.{all_needs, each_need}, Steps.{bind_ok, guard_ok, ok_is}}
+use Rattle.bus_due.specs.scenario.specs as scenario
+pub use scenario.Forms.{Said, abort_line, cmd_line, end_line, fault_line, fill_line, initiator_line, reset_line}
+pub use scenario.{Forms.{scsi_line, target_line, unit_line}, Lookups.{has_device, has_target, unit_of}}
+pub use scenario.{Needs.{block_bytes, is_write, moved, moved_by}, Reading.{Progress, abort_def, fill_def, fits_version}}
+pub use scenario.Reading.{full_cmd_def, guard, has_abort_room, host_def, in_8, in_order, kind_of, nothing, rank}
+pub use scenario.{Reading.{target_def, time_in, unit_def, within}, Value.{ScenarioValue}, Writing.{Obeys, built, saids}}
+pub use scenario.declared.value.{AbortDef.{AbortDef}, CmdDef.{CmdDef}, FaultDef.{FaultDef}, HostDef.{HostDef}}
+pub use scenario.declared.value.{Policy.{Policy}, ResetDef.{ResetDef}, Tag.{Tag}, TargetDef.{TargetDef}}
+pub use scenario.declared.value.UnitDef.{UnitDef}
+unfoldable pub use scenario.{Needs.{need_of, sent_of}, Reading.{added, fault_def, reset_def, said_after}}
+use Rattle.bus_due.specs.disk_array.proofs as disk_array_proofs
+pub use disk_array_proofs.{SeatLookups.{none_at}, SeatReplies.{id_self}}
+use Rattle.bus_due.specs.disk_array.specs as disk_array
+pub use disk_array.{ArrayHistory.{array_after}, Contents.{Contents}, Execution.{execution, is_good_range, range_of}}
+pub use disk_array.{Order.{range_in}, Processes.{Process, command_at, command_process, process_by, process_if}}
+pub use disk_array.{Processes.{process_of, same_bool, same_id, sense_block, sense_process}, Seats.{is_initiator}}
+pub use disk_array.{Steps.{context_at, has_ended}, Units.{Array, UnitState, nexus_of, unit_state_at}}
+use Rattle.bus_due.specs.bus_story.proofs as bus_story_proofs
+pub use bus_story_proofs.StorySteps.{ends_checks, event_sent}
+use Rattle.bus_due.specs.bus_story.specs as bus_story
+pub use bus_story.Budget.{budget, bytes_of_all, data_runs, longest_need, runs_at, runs_by, runs_of, runs_of_all}
+pub use bus_story.{Budget.{runs_over}, BusState.{RowReading, row_reading}, CarriedBytes.{CarriedBytes, carried_of}}
+pub use bus_story.HistoryEvents.{abort_line_at, abort_line_events, bus_free_events, carried_if, connection_events}
+pub use bus_story.HistoryEvents.{end_events, is_complete, is_completion, item_abort_events, item_loss_events}
+pub use bus_story.{HistoryEvents.{link_events, phase_events, row_events_by}, Items.{Item, Sent, abort, command_id}}
+pub use bus_story.Items.{command_item, count_item, has_item, is_done, is_open, process, same_item, sense_item}
+pub use bus_story.{Links.{LastMessage, Link, abortive, complete, disconnect, link_of, plain}, Samples.{faults_in_order}}
+pub use bus_story.{Samples.{host_latency, latency_of, target_latency, with_fault}, Story.{Ending, Story, by_abort}}
+pub use bus_story.Story.{by_reset, by_status, is_aborted, is_sense_stopped, story_after_event, story_after_events}
+pub use bus_story.{Story.{story_with_end, story_with_ends, story_with_over, with_check}, TraceHistory.{aim_of}}
+pub use bus_story.TraceHistory.{is_arbitration_entry, is_counted, retries_of, story_after_calling, story_by_change}
+pub use bus_story.TraceHistory.{story_in_connection, story_on_bus, story_on_free_bus, story_with_aim}
+pub use bus_story.TraceHistory.{story_with_restored, story_with_sent, story_with_try, story_without_answer}
+use Rattle.bus_due.specs.bus_reactions.specs as bus_reactions
+pub use bus_reactions.{Calling.{answered_due}, Ends.{sample_due}, FreeBus.{contender_lines}, Linking.{bus_clear}}
+pub use bus_reactions.{Reactions.{due_at, earlier_due, fault_or, sooner_time, time_if}, Target.{bits_if, byte_bits}}
+pub use bus_reactions.declared.{due.Due.{Due}, ends.{Answering.{Answering}, Offering.{Offering}}}
+use Rattle.bus_due.specs.bus_dialogue.specs as bus_dialogue
+pub use bus_dialogue.{Arrivals.{policy_of}, DataRuns.{DataRun, run_by, run_in, runs_in, runs_in_all}}
+pub use bus_dialogue.{Ends.{is_pulsed_phase}, Exchange.{Exchange, Speech, attends_with, bytes_of_messages, from_byte}}
+pub use bus_dialogue.Exchange.{message_bytes, no_messages, nothing_heard, one_message, plan_after_message, plan_anew}
+pub use bus_dialogue.Exchange.{plan_anew_if, said_with_if, speech_after_byte, speech_after_request, speech_of}
+pub use bus_dialogue.{Exchange.{struck_plan}, Hearing.{begun, begun_after}, NextPhase.{Serving, after_messages}}
+pub use bus_dialogue.NextPhase.{bus_free, leaving_by, phase_entry, phase_leaving, phase_lines, phase_of}
+pub use bus_dialogue.{NextPhase.{unless_attention}, PhaseBytes.{follows_in, has_whole_block, lines_by, one_if}}
+pub use bus_dialogue.{PhaseBytes.{run_length_if}, Planning.{cause_after, first_plan, plan_after, plan_in_message_out}}
+pub use bus_dialogue.{Planning.{plan_in_phase, plan_with_byte}, Sending.{Sending}, Speaking.{speech_after}}
+pub use bus_dialogue.{Speaking.{speech_in_phase, words_after}, Wants.{Ready}, Words.{abort_bytes, abort_opening}}
+pub use bus_dialogue.Words.{answer_bytes, detected_error, naming_messages, offer_if, parity_error, process_opening}
+pub use bus_dialogue.{Words.{tag_bytes, tag_named}, declared.exchange.{Cause.{Cause}, Hearing.{Hearing}}}
+pub use bus_dialogue.declared.exchange.{Leaving.{Leaving}, Messages.{Messages}, Next.{Next}, Phase.{Phase}, Plan.{Plan}}
+pub use bus_dialogue.declared.exchange.Task.{Task}
+use Rattle.bus_due.proofs as bus_due_proofs
+pub use bus_due_proofs.{Plains.{run_state_plain}, Stills.{keeps_wishes, still_talk}}
+use Rattle.bus_due.specs as bus_due
+pub use bus_due.{Defs.{host_of, opening, target_def_of}, Due.{is_reset_past, reset_from}, Goals.{RunsEnd, StaysWithin}}
+pub use bus_due.{LastingState.{ProcessProgress, progress_in, progress_with}, Least.{IsLeast}, Next.{IsEnded, IsPrompt}}
+pub use bus_due.{Next.{due, next_by}, Own.{Own, own_after, own_at, own_of}, Plain.{AreOfDevices, IsPlain}, Run.{Run}}
+pub use bus_due.{Run.{one_more, run_by_due}, RunState.{RunState, agreement_of, array_of, bus_of, carried_here}}
+pub use bus_due.{RunState.{drives_of, item_of, or_start, process_item, process_served}, RunSteps.{array_after_events}}
+pub use bus_due.RunSteps.{exchange_after, first_exchange, first_run_state, item_if, leaving_of, may_negotiate}
+pub use bus_due.RunSteps.{messages_if, progress_after, progress_by_leaving, run_state, run_state_with_events}
+pub use bus_due.{RunSteps.{served_after}, Sights.{answering_of, flip_of, hearing_of, leaving, offering_of, pace_of}}
+pub use bus_due.{Sights.{sending_of, serving_at, serving_of}, Tasks.{blocks_in, is_writing, moved_count, reply_now}}
+pub use bus_due.{Tasks.{size_of, task_if, task_of, task_with}, Wants.{abort_target, callee, initiator_if, ready_of}}
+pub use bus_due.{Wants.{target_if, target_of, want_time}, Wishes.{IsStill, Wishes, wishes_of}}
+unfoldable pub use bus_due.Run.{run_from}
+use Rattle.progress_laws.specs.scsi_device.proofs as scsi_device_proofs
+pub use scsi_device_proofs.{FitLines.{command_fits, obeys_fits}, LineReads.{fault_by, reset_by}}
+use Rattle.progress_laws.specs.scsi_device.specs as scsi_device
+pub use scsi_device.Lines.{FitsBus, IsCommandLine, IsHostLine}
+use Rattle.progress_laws.specs.target_units.proofs as target_units_proofs
+pub use target_units_proofs.Rooms.{IsByLine, by_line, good_range}
+use Rattle.progress_laws.specs.target_units.specs as target_units
+pub use target_units.Rooms.{AreOfLines, IsOfLine}
+use Rattle.progress_laws.specs.bus_books.proofs as bus_books_proofs
+pub use bus_books_proofs.{Aims.{aims_are}, Blocks.{follows_block}, InConnection.{InConnection, in_connection}}
+pub use bus_books_proofs.{InConnection.{reading_is, same_phase_is}, Reactions.{out_over}}
+use Rattle.progress_laws.specs.bus_books.specs as bus_books
+pub use bus_books.{Hearing.{HasPhase, is_in_phase, is_out_phase}, Items.{IsItem, is_process}, Knowing.{Knows}}
+pub use bus_books.{Rows.{IsRowIn, RowKind, crosses, reading_in, still, strikes, turns}, Traces.{Begins, Ends, GoesOn}}
+pub use bus_books.Traces.{IsAimedAt, RowOf, apart, begins, ends as row_ends, goes_on, under_reset}
+pub use bus_books.WrongParity.{complains_truly, is_complaining, is_complaint, is_left, is_refusing, is_struck_phase}
+pub use bus_books.WrongParity.{is_true_complaint}
+use Rattle.progress_laws.specs.bus_laws.proofs as bus_laws_proofs
+pub use bus_laws_proofs.{Apart.{change_plain, free_by, nothing_shown, on_free}, CallDues.{after_withdrawal_due}}
+pub use bus_laws_proofs.CallDues.{answers_due, aside_due, asks_due, before_due, calls_due, flip_at, gives_up_due}
+pub use bus_laws_proofs.CallDues.{goes_on_due, is_calling, loser_due, quiet_due, struck_due, waits_due, want_at}
+pub use bus_laws_proofs.Dues.{due_in_reset, free_due_is, idle_due, is_at, is_entry, is_entry_in, is_there, win_due}
+pub use bus_laws_proofs.FromAnswer.{from_answered, from_resumed, from_withdrawn, only_caller_acts}
+pub use bus_laws_proofs.{FromArbitration.{from_arbitration}, FromCalling.{from_asking, from_calls, ids_not_zero}}
+pub use bus_laws_proofs.{FromCalling.{only_caller}, FromFree.{from_free, row_is}, FromReset.{off_at}}
+pub use bus_laws_proofs.{FromWon.{from_won}, Held.{entries_is, winner_is}, Limits.{obeys_latencies}}
+pub use bus_laws_proofs.{Obeys.{reselected_lines, selected, won_lines}, Prompt.{least_is}, Resets.{due_calm}}
+pub use bus_laws_proofs.Resets.{due_holding, due_there, one_of, own_reset_is, released_own, reset_after, rst_own}
+pub use bus_laws_proofs.Rows.{drives_other, drives_own, fault_change, stage_is, stands_after, stands_by}
+pub use bus_laws_proofs.{Together.{always_is, by_calm, calm_first, reset_or_calm}, TwoIds.{IsCall, is_call}}
+use Rattle.progress_laws.specs.bus_laws.specs as bus_laws
+pub use bus_laws.Callings.{answer_lines, answered_calling, arbitration_bus, awaiting_call, begun_call, both_ids}
+pub use bus_laws.Callings.{call_with, calling_lines, new_calling_at, resumed_calling, withdrawn_call, won_bus, won_call}
+pub use bus_laws.Ends.{BeginsConnection, BeginsSelected, EndLines, Linked, by_reselection, by_selection, connected_bus}
+pub use bus_laws.{Ends.{ends_selected, initiator_side, target_side}, Reactions.{device_with, own_time, reset_due}}
+pub use bus_laws.{Reactions.{unreset_due}, Rows.{Stands, change_to, row_of_fault, row_of_lines}, Stages.{Arbitrating}}
+pub use bus_laws.Stages.{ArbitrationWon, AwaitsAnswer, BusStage, Calls, CalmStanding, FreeBus, HasDevice}
+pub use bus_laws.Stages.{HasShortLatencies, HoldsReset, IsAnswered, IsContender, IsLoser, IsUnderRst, NextCalmRow}
+pub use bus_laws.Stages.{Standing, UnderRst, after_answer, after_arbitration, after_takeover, after_withdrawal}
+pub use bus_laws.Stages.{awaiting_answer, holds, in_arbitration, in_reset, lingers, on_free_bus, quiet, with_both_ids}
+use Rattle.progress_laws.specs.link_laws.proofs as link_laws_proofs
+pub use link_laws_proofs.{DataRows.{DataRow, bytes_stay, count_stays, sending_stays}, EndDues.{answering_with, due_of}}
+pub use link_laws_proofs.EndDues.{initiator_is, initiator_plain, is_sampling, offering_with, pace_with, sight_with}
+pub use link_laws_proofs.{EndDues.{target_is, target_plain}, Faults.{linked_fault}, FromLink.{some_byte}}
+pub use link_laws_proofs.{Leaves.{may_leave}, LinkObeys.{same_phases}, Moves.{InPhaseRow, TermsAfter}}
+pub use link_laws_proofs.Moves.{initiator_in_phase, initiator_moves, no_rise, phase_same, target_in_phase, target_moves}
+pub use link_laws_proofs.{Moves.{terms_after, terms_of}, PhaseEnds.{leaves_lines}, PulseDues.{given_bits}}
+pub use link_laws_proofs.{RunLengths.{runs_are_short}, Shakes.{initiator_row, target_row}, Traces.{link_calm}}
+pub use link_laws_proofs.Traces.{sides_are}
+use Rattle.progress_laws.specs.link_laws.specs as link_laws
+pub use link_laws.LinkStages.{AnyStage, LinkStage, apart as any_apart, linked, when_offering, when_pulsing}
+pub use link_laws.{LinkStages.{when_selected, when_settling, when_shaking, when_turning}, Phases.{Offering as Offered}}
+pub use link_laws.{Phases.{Settling, Shaking, Turning, ends}, Pulses.{Pulsing, byte_in_run, next_bits, offset_here}}
+pub use link_laws.Pulses.{run_count}
+use Rattle.progress_laws.specs.trace_laws.proofs as trace_laws_proofs
+pub use trace_laws_proofs.{Bytes.Blocks.{commands_are}, Closes.Ends.{EndsHere, ends_low, ends_row, lost_by, lost_in}}
+pub use trace_laws_proofs.Commands.{Counts.{refusal_offers_none}, Facts.{same_process, served_process}}
+pub use trace_laws_proofs.Common.{Impossible.{none_some}, PhaseLines.{in_phase, is_data_phase, is_out_next, out_lines}}
+pub use trace_laws_proofs.{Common.Tests.{none_both, some_zero, zero_times}, Complaints.Turns.{IsAttended, attended_for}}
+pub use trace_laws_proofs.Items.{Facts.{FallsQuiet, aimed_next, beginning, falls_quiet}, First.{next_unended}}
+pub use trace_laws_proofs.Items.{First.{next_unsent}, Fresh.{calm_after, calm_before, items_open, items_ready}}
+pub use trace_laws_proofs.Items.{Open.{item_is}, Over.{events_grow, in_append, lost_over, sense_apart}}
+pub use trace_laws_proofs.Items.{Row.{inside_sent, over_after}, Sent.{AllOf, carried_of_item, free_keeps, more_has}}
+pub use trace_laws_proofs.Items.Sent.{own_has, process_in, restored_sent, row_of, self_item, sent_grows}
+pub use trace_laws_proofs.{Items.Steps.{free_still}, Lines.{Attention.{lines_are}, Called.{IsCalled, IsDueCall}}}
+pub use trace_laws_proofs.Lines.{Called.{callee_at, link_none}, Connections.{RowKindOf, begins_now, connection_row}}
+pub use trace_laws_proofs.Lines.{Connections.{goes_now, row_kind, stage_of_connection}, Crossings.{Goes, RowFacts}}
+pub use trace_laws_proofs.Lines.{Crossings.{byte_is, ends_here, offering_is, stays}, First.{made_is, under_rst}}
+pub use trace_laws_proofs.Lines.{Joint.{NextStood, Stood, link_connection, link_phase}, Kept.{EndRow, data_row}}
+pub use trace_laws_proofs.Lines.Kept.{dialogue_stays, initiator_end, row_in, still_row, target_end, turn}
+pub use trace_laws_proofs.Lines.{Phases.{PhaseRow, phase_row}, Plans.{Planned}, Rows.{LinkRow, is_pulsed, is_unasked}}
+pub use trace_laws_proofs.Lines.{Rows.{link_row}, Turns.{freed_connection}, UnderRst.{bsy_stands, drives_next}}
+pub use trace_laws_proofs.{Lines.UnderRst.{ends_apart, raises_or_stands}, Offers.Facts.{refuses_later}}
+pub use trace_laws_proofs.{Places.{EndTells.{EndTold, end_told}, Ends.{free_shown}}, Pointers.Begins.{first_made}}
+pub use trace_laws_proofs.{Pointers.{Leavings.{is_attended}, Waits.{connection_sent}}, Runs.Begins.{enters_run}}
+pub use trace_laws_proofs.Runs.{Counts.{handshakes_begin, or_left}, Done.{counted_runs, done_in_data, same_runs}}
+pub use trace_laws_proofs.Runs.{Facts.{task_here}, Fits.{FitsRuns, fits_runs, lines_now}, Rows.{served_id}}
+pub use trace_laws_proofs.{Runs.Steps.{pulsed_as}, Talks.First.{FirstSent, first_sent, sent_with}, Whole.{Whole}}
+pub use trace_laws_proofs.Whole.{standing_next, steps, whole}
+use Rattle.progress_laws.specs.trace_laws.specs as trace_laws
+pub use trace_laws.{Commands.{StandsIn, TakesBlock}, Complaints.{ComplaintsBy, Refuses}, ItemFacts.{IsNext, IsQueued}}
+pub use trace_laws.{ItemFacts.{Items, is_abort, is_command, is_sense}, ItemTalks.{TalksBy, frees_bus, is_plain}}
+pub use trace_laws.{ItemTalks.{talk_of}, Items.{IsServedOpen}, LastTalks.{EndsWell, LastBy, LastGiven, closed, closes}}
+pub use trace_laws.{LastTalks.{saves, still_stays, to_close, to_save}, RunCounts.{pulses_here}, Tells.{IsLeaving}}
+pub use trace_laws.Tells.{IsServed, Tells, TellsAsLeft, of_abort, of_process}
+use Rattle.progress_laws.proofs as progress_laws_proofs
+pub use progress_laws_proofs.{DebtNext.{ends_open, known_served}, DebtRows.{NoEnds, Shown, completes, no_ends}}
+pub use progress_laws_proofs.{DebtRows.{row_shown}, EndedOver.{all_over}, OwedRows.{changed}, Rooms.{initiator_there}}
+use Rattle.right_laws.proofs as right_laws_proofs
+pub use right_laws_proofs.DataIn.{Entries.{enters_read}, Facts.{ReadBooks, read_books}, Runs.{fits_reads, whole_now}}
+pub use right_laws_proofs.{Offers.Steps.{is_data_in}, Ran.Lengths.{given_few, most_given, need_is}}
+pub use right_laws_proofs.{Replies.Blocks.{HasWhole}, Samples.{Callings.{struck_out}, Ends.{initiator_lines}}}
+pub use right_laws_proofs.Samples.{Ends.{target_lines}, Moments.{apart_of}, NoFaults.{of_lines}}
+use Rattle.measure_laws.specs as measure_laws
+pub use measure_laws.Future.{abort_left, aborts_left, awaits_reset, bytes_after, bytes_over, command_left}
+pub use measure_laws.Future.{commands_left, cut_bytes, future_left, is_in_data, one_where, open_left, range_if}
+pub use measure_laws.{Future.{resets_left, sense_left, serves_item, size_if, unsent_left}, Measure.{Falls}}
+pub use measure_laws.{Measure.{StartsWithin, connection_if, measure, measure_by}, Turns.{after_next, after_refused}}
+pub use measure_laws.Turns.{after_words, bytes_if_begun, connection_left, disconnects, has_first_byte, has_next_byte}
+pub use measure_laws.Turns.{is_asked, is_disconnect, is_driven, phase_left, phases_in, phases_left, repeated}
+pub use measure_laws.Turns.{requests_by, requests_left, reselection_if, sense_bytes_left, struck_left, under_way}
+pub use measure_laws.{Turns.{waiting_left, words_left}, Ways.{again_if, answer_left, calling_left, drivers, stage_left}}
+pub use measure_laws.{Ways.{way_left}, Weights.{for_byte, for_calling, for_fault, for_free_bus, for_item, for_phase}}
+pub use measure_laws.Weights.{for_reselection, for_reset, for_struck_phase}

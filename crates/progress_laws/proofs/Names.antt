@@ -1,0 +1,179 @@
+-- The names of other crates, and of this crate's definitions, that its proofs speak of, each by its home.
+-- A proof takes them by `use proofs.Names.{..}`; tools/checks/imports.py brings in those that a proof imports by their home.
+use Rattle.std.proofs as std_proofs
+pub use std_proofs.Common.{Bool, List, None, Ok, Option, Some, [], ap, arith, false, inl, inr, length, not, one-add}
+pub use std_proofs.Common.{refl, subst, suc, sym, true, zero, ℕ, ◌%◌, ◌&&◌, ◌++◌, ◌+◌, ◌<◌, ◌^◌, ◌||◌, ◌∙◌, ◌∷◌, ◌≡◌}
+pub use std_proofs.{Common.{◌≢◌, ◌≤◌, ◌⊎◌}, Math.Nat.{mod-le}, lemmas.Bool.{and_from, and_right, cases_eq, eqb-true}}
+pub use std_proofs.lemmas.Bool.{le-leb, not-true, or_cases, or_from, or_left, or_parts, or_right, true≢false}
+pub use std_proofs.lemmas.{Bool.Decides.{nat_tests}, Nat.{pow_below, pow_pos}, Option.{none-some, same_Some}}
+use Rattle.std.specs as std
+pub use std.{List.{AllByRecursion, find, list_all, list_any}, Prelude.{cond, if◌then◌else◌, is_none, is_some, max}}
+pub use std.Prelude.{nat_le, nat_lt, slice_index, slice_set, ⊤, ◌==◌}
+use Rattle.bus_due.specs.bus_base.proofs as bus_base_proofs
+pub use bus_base_proofs.Tests.{and_false, and_first, and_more, and_second, and_true, either_stays, eq_self, implied}
+pub use bus_base_proofs.Tests.{none_number, not_later, or_other, or_second, or_true, plus_none, true_by_test, wrong}
+pub use bus_base_proofs.Tests.{wrong', zero_of}
+use Rattle.bus_due.specs.bus_base.specs as bus_base
+pub use bus_base.declared.{AbortKind.{AbortKind}, Event.{Event}, ProcId.{ProcId}, events.Pick.{Pick}}
+use Rattle.bus_due.specs.bus_trace.proofs as bus_trace_proofs
+pub use bus_trace_proofs.{Buses.{bus_data_below, bus_none, bus_off, bus_on}, OneRow.{drives-other, drives-own}}
+pub use bus_trace_proofs.Sets.{same_set-eq}
+use Rattle.bus_due.specs.bus_trace.specs as bus_trace
+pub use bus_trace.{Changes.{change_of, falls, implies, is_within, rises}, LineSet.{LineSet, has_id_above, none, union}}
+pub use bus_trace.{Phases.{changes_phase, is_message_in}, Terms.{arbitration, arbitration_after, call, call_goes_on}}
+pub use bus_trace.Terms.{called_goes_on, caller_goes_on, calling_after, connection, connection_after, free_since}
+pub use bus_trace.{Terms.{is_free, receiver_in}, Trace.{bus, driven_after, drives, last_time}, declared.Kind.{Kind}}
+pub use bus_trace.declared.{Kind.TheVariants.{Drives, Fault}, Row.{Row}, arbitration.Arbitration.{Arbitration}}
+pub use bus_trace.declared.{changes.Change.{Change}, connection.Connection.{Connection}, selection.Call.{Call}}
+pub use bus_trace.declared.selection.Calling.{Calling}
+use Rattle.bus_due.specs.bus_lines.specs as bus_lines
+pub use bus_lines.{Handshakes.{handshakes}, Stage.{stage}, declared.stage.Stage.TheVariants.{InArbitration, InCalling}}
+pub use bus_lines.declared.stage.Stage.TheVariants.{OnFreeBus}
+use Rattle.bus_due.specs.cdb_codec.specs as cdb_codec
+pub use cdb_codec.{Cdb.{command_of}, declared.{Sense.{Sense}, sense.TheConstants.{ABORTED_COMMAND}}}
+pub use cdb_codec.declared.status.TheConstants.{CHECK_CONDITION, GOOD}
+use Rattle.bus_due.specs.msg_grammar.specs as msg_grammar
+pub use msg_grammar.declared.message.{MsgIn.{MsgIn}, MsgOut.{MsgOut}}
+use Rattle.bus_due.specs.bus_rules.proofs as bus_rules_proofs
+pub use bus_rules_proofs.First.{row_none}
+use Rattle.bus_due.specs.bus_rules.specs as bus_rules
+pub use bus_rules.Connected.{initiator_released, initiator_released_of, target_released, target_released_of}
+pub use bus_rules.{FreeBus.{is_cleared}, Lawful.{IsLawful}, Order.{is_in_order}, Reset.{is_quiet_in_reset, is_reset}}
+pub use bus_rules.{Reset.{only_rst}, Rules.{broken_rule, end_test, judged_rules, keeps_at_end, obeys_at_end}}
+pub use bus_rules.{Rules.{stands_in_reset}, Seen.{end_row, seen}, declared.seen.Seen.{Seen}}
+unfoldable pub use bus_rules.Seen.{seen_with}
+use Rattle.bus_due.specs.scenario.proofs as scenario_proofs
+pub use scenario_proofs.Steps.{bind_ok, guard_ok, ok_is, within_ok}
+use Rattle.bus_due.specs.scenario.specs as scenario
+pub use scenario.Forms.{Said, abort_line, cmd_line, end_line, fault_line, fill_line, initiator_line, reset_line}
+pub use scenario.{Forms.{scsi_line, target_line, unit_line}, Lookups.{has_device, has_target, unit_of}}
+pub use scenario.Reading.{Progress, abort_def, fault_def, fill_def, fits_version, full_cmd_def, guard, in_8, in_order}
+pub use scenario.Reading.{kind_of, nothing, period_in, rank, reset_def, size_in, target_def, within}
+pub use scenario.{Value.{ScenarioValue}, Writing.{Obeys, built, saids}, declared.bounds.TheConstants.{BLOCK_LIMIT}}
+pub use scenario.declared.bounds.TheConstants.{DEPTH_LIMIT, HOST_OFFSET_LIMIT, LAG_LIMIT, LATENCY_LIMIT, OPEN_LIMIT}
+pub use scenario.declared.{bounds.TheConstants.{RETRY_LIMIT}, value.{AbortDef.{AbortDef}, CmdDef.{CmdDef}}}
+pub use scenario.declared.value.{HostDef.{HostDef}, TargetDef.{TargetDef}, UnitDef.{UnitDef}}
+unfoldable pub use scenario.{Needs.{need_of, sent_of}, Reading.{added, host_def, said_after, unit_def}}
+use Rattle.bus_due.specs.disk_array.proofs as disk_array_proofs
+pub use disk_array_proofs.ArrayReplies.{abort_lists, end_lists, fail_lists, loss_lists, reset_lists, took}
+pub use disk_array_proofs.{ArrayUnits.{cleared_units, unit_reset_units}, SeatLookups.{nexus_put_at, nexuses_without_at}}
+pub use disk_array_proofs.{SeatLookups.{none_at, same_nexus_is}, SeatSteps.{any_none, choice_target}}
+pub use disk_array_proofs.SoundArrays.{step_sound}
+use Rattle.bus_due.specs.disk_array.specs as disk_array
+pub use disk_array.{ArrayHistory.{array_after, array_step, reply_in}, Execution.{CommandContext, Execution, Reply}}
+pub use disk_array.Execution.{attention_execution, check_condition, execution, is_request_sense, needs_unit, queue_full}
+pub use disk_array.{Execution.{reply_execution, sense_of, unit_not_supported}, Order.{choice, chosen_place, entries_of}}
+pub use disk_array.Order.{entry_of, is_head, last_head, last_of, may_run_after, picked_place, process_at, process_at_if}
+pub use disk_array.{Order.{runnable_after, runnable_by}, Processes.{Process, command_at, command_process, process_by}}
+pub use disk_array.Processes.{process_if, process_of, same_bool, same_id, sense_block, sense_process}
+pub use disk_array.Seats.{current_of, in_hold, is_initiator, nexus_at, unit_mapped, unit_with_choice, waits_in}
+pub use disk_array.SoundArray.{AllOwn, AllOwnUnits, AreApart, HasSeats, IsOwn, IsOwnRunning, IsOwnUnit, IsSound}
+pub use disk_array.{Steps.{has_ended, has_tag, is_of_unit, running_if}, Units.{Array, Nexus, RunningProcess, UnitState}}
+pub use disk_array.Units.{guest_at, has_no_current, is_at_unit, is_held, nexus_of, nexuses_without, same_nexus}
+pub use disk_array.Units.{senses_without, starting_array, starting_units, unit_state_at, units_after_choice}
+pub use disk_array.{Units.{with_current, with_unit}, declared.entries.Entry.{Entry}}
+unfoldable pub use disk_array.Seats.{is_any_held}
+use Rattle.bus_due.specs.bus_story.proofs as bus_story_proofs
+pub use bus_story_proofs.StorySteps.{begun_aims, calling_aims, ends_checks, event_sent, events_aims, restored_sent}
+use Rattle.bus_due.specs.bus_story.specs as bus_story
+pub use bus_story.{BusState.{RowReading, row_reading}, CarriedBytes.{CarriedBytes, is_status_phase, is_whole_block}}
+pub use bus_story.HistoryEvents.{abort_line_at, abort_line_events, bus_free_events, carried_if, end_events, is_complete}
+pub use bus_story.HistoryEvents.{is_completion, is_refuse, item_abort_events, item_loss_events, link_events}
+pub use bus_story.HistoryEvents.{phase_events, queue_event, queue_events, row_events_by, status_event, status_events}
+pub use bus_story.Items.{Item, Sent, abort, command_id, command_item, count_item, has_item, is_done, is_of_host}
+pub use bus_story.Items.{is_open, item_at, open_limit_of, process, same_item, sense_from, sense_id, sense_item}
+pub use bus_story.Links.{LastMessage, Link, abortive, complete, disconnect, link_after_name, link_of, plain}
+pub use bus_story.Outcomes.{Outcome, ending_of, outcome_if, outcome_of, outcomes, outcomes_from}
+pub use bus_story.{Samples.{host_latency, latency_of, target_latency}, Story.{Ending, Story, by_abort, by_loss}}
+pub use bus_story.Story.{by_reset, by_status, is_aborted, is_ended, is_sense_stopped, story_after_event}
+pub use bus_story.Story.{story_after_events, story_with_end, story_with_end_if, story_with_ends, story_with_over}
+pub use bus_story.{Story.{unanswered, with_check, with_ending}, TraceHistory.{aim_of, carried_after_byte_if}}
+pub use bus_story.TraceHistory.{carried_after_fault_if, is_arbitration_entry, is_counted, is_parity_error, retries_of}
+pub use bus_story.TraceHistory.{story, story_after_byte, story_after_calling, story_after_calling_by}
+pub use bus_story.TraceHistory.{story_after_connection, story_after_fault, story_after_in, story_after_out}
+pub use bus_story.TraceHistory.{story_by_change, story_in_connection, story_on_bus, story_on_free_bus, story_with_aim}
+pub use bus_story.TraceHistory.{story_with_carried, story_with_restored, story_with_sent, story_with_try}
+pub use bus_story.TraceHistory.{story_without_answer}
+use Rattle.tag_queue.proofs as tag_queue_proofs
+pub use tag_queue_proofs.Chosen.{first_runs}
+use Rattle.bus_due.specs.bus_reactions.specs as bus_reactions
+pub use bus_reactions.{Calling.{answered_due, calling_start}, Ends.{sample_due}, FreeBus.{contender_lines, free_due}}
+pub use bus_reactions.{Reactions.{due_at, due_where, sooner_time, time_if}, declared.due.{Due.{Due}, Myself.{Myself}}}
+pub use bus_reactions.declared.due.Want.{Want}
+use Rattle.bus_due.specs.bus_dialogue.specs as bus_dialogue
+pub use bus_dialogue.{Exchange.{one_message}, Hearing.{begun}, NextPhase.{phase_of, recovery_limit}, Wants.{Ready}}
+pub use bus_dialogue.Wants.{abort_since, command_since, first_ready, is_reached, is_ready_before, may_follow, open_in}
+pub use bus_dialogue.{Wants.{ready_by, ready_in}, declared.exchange.{Cause.{Cause}, Phase.{Phase}, Task.{Task}}}
+use Rattle.bus_due.proofs as bus_due_proofs
+pub use bus_due_proofs.{Leasts.{least_none}, Plains.{run_state_plain}}
+use Rattle.bus_due.specs as bus_due
+pub use bus_due.{Defs.{host_of, target_def_of}, Least.{IsLeast}, Next.{IsEnded, IsPrompt, due}, Plain.{AreOfDevices}}
+pub use bus_due.{Plain.{IsPlain}, RunState.{RunState, array_of, bus_of, carried_here, item_of, or_start, process_item}}
+pub use bus_due.{RunState.{process_served}, RunSteps.{array_after_events, item_if, run_state, run_state_after}}
+pub use bus_due.{RunSteps.{served_after}, Sights.{leaving}, Tasks.{task_if, task_of}, Telling.{is_true_telling}}
+pub use bus_due.{Telling.{same_event, telling}, Wants.{abort_target, initiator_if, item_want_time, own_aborts}}
+pub use bus_due.Wants.{own_command, own_commands, ready_among, ready_at, ready_of, ready_time, seek_of, since_of}
+pub use bus_due.Wants.{target_if, target_of, want_time}
+use Rattle.trace_laws.specs.scsi_device.proofs as scsi_device_proofs
+pub use scsi_device_proofs.{Finds.{all_are, all_more}, FitLines.{abort_fits, command_fits, obeys_fits, seats_are}}
+pub use scsi_device_proofs.{FitLines.{units_are}, LineReads.{host_by, unit_by}}
+use Rattle.trace_laws.specs.scsi_device.specs as scsi_device
+pub use scsi_device.Lines.{FitsBus, IsCommandLine}
+use Rattle.trace_laws.specs.target_units.proofs as target_units_proofs
+pub use target_units_proofs.UnitTimes.{place_found}
+use Rattle.trace_laws.specs.bus_books.proofs as bus_books_proofs
+pub use bus_books_proofs.{Aims.{aims_are, connected_aims}, GiveUps.{failure_is, loss_by, lost_calm}}
+pub use bus_books_proofs.{InConnection.{reading_is}, Lookups.{id_is, self_id}, ReadyProcesses.{reselects_by}}
+pub use bus_books_proofs.Senses.{running_own, self_nexus}
+use Rattle.trace_laws.specs.bus_books.specs as bus_books
+pub use bus_books.{Accounts.{is_served_by}, FullQueues.{has_event}, Hearing.{is_in_phase}, Items.{IsItem, is_abort}}
+pub use bus_books.{Items.{is_process}, Knowing.{Knows}, Traces.{Begins, Ends, IsReadyFor, RowOf, begins, ends, goes_on}}
+pub use bus_books.{Traces.{under_reset}, WrongParity.{gives_up, is_failure, is_left, is_left_as_due, is_left_by}}
+pub use bus_books.WrongParity.{is_loss, is_past_limit, is_struck_phase, is_wrong_phase, leaves_wrong_phase, left_as_due}
+pub use bus_books.WrongParity.{serves, wrong_phases}
+use Rattle.trace_laws.specs.bus_laws.proofs as bus_laws_proofs
+pub use bus_laws_proofs.{Apart.{GoesApart, KeepsAll, change_plain, entry_keeps, still_keeps}, CallDues.{asks_due}}
+pub use bus_laws_proofs.{CallDues.{calls_due, gives_up_due, goes_on_due, waits_due, want_at}, Dues.{due_in}}
+pub use bus_laws_proofs.Dues.{free_due_is, idle_due, is_at, is_entry, is_entry_in, is_there, win_due}
+pub use bus_laws_proofs.{FromReset.{off_at}, Prompt.{least_is}, Resets.{comes_by, due_calm, due_holding}}
+pub use bus_laws_proofs.{Rows.{drives_own, stage_is}, Together.{by_calm, not_linked, reset_or_calm}}
+use Rattle.trace_laws.specs.bus_laws.specs as bus_laws
+pub use bus_laws.{Callings.{answered_calling, calling_lines, resumed_calling, won_call}, Ends.{EndLines, Linked}}
+pub use bus_laws.{Reactions.{device_with, own_time, reset_due, unreset_due}, Rows.{row_of_lines}, Stages.{Arbitrating}}
+pub use bus_laws.Stages.{ArbitrationWon, BusStage, CalmStanding, FreeBus, HasDevice, IsContender, Standing, UnderRst}
+pub use bus_laws.Stages.{after_answer, after_arbitration, after_takeover, after_withdrawal, awaiting_answer}
+pub use bus_laws.Stages.{in_arbitration, in_connection, in_reset, is_connected, on_free_bus, with_both_ids}
+use Rattle.trace_laws.specs.link_laws.proofs as link_laws_proofs
+pub use link_laws_proofs.EndDues.{initiator_is, initiator_plain, target_is, target_plain}
+pub use link_laws_proofs.PulseDues.{initiator_choice, pulsed_initiator_in, pulsed_initiator_out, pulsed_target_in}
+pub use link_laws_proofs.{PulseDues.{pulsed_target_out, target_choice}, StageDues.{answered_target}}
+pub use link_laws_proofs.StageDues.{asking_initiator_in, asking_initiator_out, between_target, ending_initiator_in}
+pub use link_laws_proofs.StageDues.{ending_initiator_out, giving_initiator_out, offering_target, selected_target}
+pub use link_laws_proofs.{StageDues.{settling_target, turning_target}, Traces.{link_calm, sides_are}}
+use Rattle.trace_laws.specs.link_laws.specs as link_laws
+pub use link_laws.LinkStages.{AnyStage, LinkStage, apart, linked, when_offering, when_pulsing, when_selected}
+pub use link_laws.{LinkStages.{when_settling, when_shaking, when_turning}, Phases.{Shaking}, Pulses.{Pulsing}}
+pub use link_laws.Pulses.{offset_here, run_count}
+use Rattle.trace_laws.proofs as trace_laws_proofs
+pub use trace_laws_proofs.Common.{EachLine.{Any, each_line}, Impossible.{none_some, some_none}, Tests.{plus_one, risen}}
+pub use trace_laws_proofs.{Ends.Facts.{host_found}, Events.{Others.{executed, reply_at}, Queued.{is_dropped}}}
+pub use trace_laws_proofs.Events.Queues.{Spares, chosen_all, kept_all, left_all, replied_all, waits_last, with_unit_all}
+pub use trace_laws_proofs.{Events.Replies.{accepted, running_id, settles}, Items.{Aims.{set_other}, Facts.{aimed_next}}}
+pub use trace_laws_proofs.Items.{Facts.{rst_raised}, Fresh.{calm_after, calm_before, items_open}, Open.{item_is}}
+pub use trace_laws_proofs.Items.{Open.{opened, same_process}, Over.{Grows, ends_over, ends_senses, events_checked}}
+pub use trace_laws_proofs.Items.{Over.{events_grow, in_append, later, lost_over, not_grown, sense_apart}, Sent.{AllOf}}
+pub use trace_laws_proofs.Items.Sent.{IsOf, carried_of_item, free_keeps, more_has, own_has, row_of, self_item}
+pub use trace_laws_proofs.Lines.{Called.{callee_at, own_units}, First.{under_rst}, Joint.{NextStood, Stood}}
+pub use trace_laws_proofs.Lines.{Joint.{link_connection}, UnderRst.{drives_next, line_off, quiet_at_end, reset_rule}}
+pub use trace_laws_proofs.Places.{EndTells.{end_begun}, Ends.{IsEndAsked, free_shown}, Facts.{end_asked}}
+pub use trace_laws_proofs.{Places.Ready.{MayBeReady, ready_runs}, Pointers.{Ends.{command_over}, Waits.{change_over}}}
+pub use trace_laws_proofs.{Pointers.Waits.{connection_sent}, Talks.First.{FirstSent, first_sent, sent_with}}
+pub use trace_laws_proofs.{Talks.InMoves.{alternating}, Whole.{RowSteps, Whole, standing_next, steps, whole}}
+use Rattle.trace_laws.specs as trace_laws
+pub use trace_laws.{Ends.{AreEnds, HasEnds}, ItemFacts.{AreChecked, IsChecked, IsNext, ItemFacts, Items, is_command}}
+pub use trace_laws.{ItemFacts.{is_sense}, ItemTalks.{TalksBy, awaits, talk_of}, Places.{Closes, HasPlaces, IsTaken}}
+pub use trace_laws.Places.{PlaceFacts, PlacedBefore, PlacedIf, PlacedIn, completes, disconnects, is_in_queue, is_queued}
+pub use trace_laws.{Statuses.{IsStatusOf}, WriteFacts.{AllUnits}}
+use Rattle.progress_laws.specs as progress_laws
+pub use progress_laws.Debts.{AreFetched, DebtBooks, Debts, IsDebt, NoDebt, PaysWell, is_owed, nexus_of_command}
+pub use progress_laws.Queued.{AreOwed, AreQueued, IsOwed}

@@ -1,0 +1,105 @@
+-- The data runs of a process that does not write: a read of blocks that ends GOOD gives all their bytes (6.6.6, 7.5).
+use Rattle.right_laws.proofs
+use proofs.Names.{ℕ, ◌≡◌, ◌*◌, Bool, true, false, not, ◌&&◌, ◌==◌, ◌∙◌, List, length, Option, Some, None, Result, Ok}
+use proofs.Names.{Err, refl, sym, ap, subst, arith, eqb-true, same_Some, if◌then◌else◌, wrong, Event, blocks_moved}
+use proofs.Names.{command_of, Sense, CdbFault, Command, GOOD, is_write, ScenarioValue, Obeys, array_after, bytes_at}
+use proofs.Names.{CommandContext, attention_execution, block_out_of_range, cdb_execution, check_condition}
+use proofs.Names.{command_execution, execution, heeds_attention, is_good_range, needs_unit, range_of, reply_execution}
+use proofs.Names.{unit_not_supported, range_in, Process, contents_of, context_at, Array, UnitState, nexus_of}
+use proofs.Names.{unit_state_at, length_bytes, RunState, array_of, or_start, blocks_in, is_writing, moved_count}
+use proofs.Names.{reply_now, size_of, policy_for, task_here, policies_most, FitsRuns, lines_now, size_is, step_in}
+use proofs.Replies.Blocks.{HasWhole, whole_always, whole_start}
+
+-- ---- the bytes of a read
+
+read_gives : (m : CommandContext) (cdb sent : List ℕ) (c : Command) (lba n : ℕ) → command_of cdb ≡ Ok c → (command_execution m c sent).reply.bytes ≡ bytes_at m.contents lba n → (execution m cdb sent).reply.status ≡ GOOD → (execution m cdb sent).reply.bytes ≡ bytes_at m.contents lba n
+read_gives m cdb sent c lba n is gives good = all (not m.present && needs_unit cdb) good
+  where
+    Is : Rattle.bus_due.specs.disk_array.specs.Execution.Execution → Type 0
+    Is x = x.reply.status ≡ GOOD → x.reply.bytes ≡ bytes_at m.contents lba n
+
+    in_range : (y : Bool) → Is (if y then command_execution m c sent else reply_execution m (check_condition block_out_of_range))
+    in_range true e = gives
+    in_range false e = absurd (omega (arith, e))
+
+    plain : Is (cdb_execution m (command_of cdb) sent)
+    plain = subst Is (ap (λ (r : Result Command CdbFault). cdb_execution m r sent) (sym is)) (in_range (is_good_range m.contents.count (range_of c)))
+
+    attended : (o : Option Sense) → Is (attention_execution m o cdb sent)
+    attended None = plain
+    attended (Some sense) = go (heeds_attention cdb)
+      where
+        go : (y : Bool) → Is (if y then record { contents = m.contents; reported = true; reply = check_condition sense } else cdb_execution m (command_of cdb) sent)
+        go true e = absurd (omega (arith, e))
+        go false e = plain e
+
+    all : (y : Bool) → Is (if y then reply_execution m (check_condition unit_not_supported) else attention_execution m m.attention cdb sent)
+    all true e = absurd (omega (arith, e))
+    all false e = attended m.attention e
+
+-- Of so many blocks.
+record IsRead (r : Result Command CdbFault) (blocks : ℕ) : Type 0 where
+  command : Command
+  command_is : r ≡ Ok command
+  lba : ℕ
+  gives : (m : CommandContext) (sent : List ℕ) → (command_execution m command sent).reply.bytes ≡ bytes_at m.contents lba blocks
+
+no_blocks : {A : Type 0} (blocks : ℕ) → (let o : Option ℕ = None in o) ≡ Some blocks → A
+no_blocks blocks e = absurd cc
+
+is_read : (r : Result Command CdbFault) (blocks : ℕ) → is_write r ≡ false → blocks_in (range_in r) ≡ Some blocks → IsRead r blocks
+is_read (Err fault) blocks w e = no_blocks blocks e
+is_read (Ok Command.TestUnitReady) blocks w e = no_blocks blocks e
+is_read (Ok (Command.RequestSense room)) blocks w e = no_blocks blocks e
+is_read (Ok (Command.Read6 lba count)) blocks w e = record {
+  command = Command.Read6 lba count;
+  command_is = refl;
+  lba = lba;
+  gives = λ m sent. ap (bytes_at m.contents lba) (same_Some (blocks_moved (Command.Read6 lba count)) blocks e);
+}
+is_read (Ok (Command.Write6 lba count)) blocks w e = wrong w
+is_read (Ok (Command.Inquiry room)) blocks w e = no_blocks blocks e
+is_read (Ok Command.ReadCapacity) blocks w e = no_blocks blocks e
+is_read (Ok (Command.Read10 lba count)) blocks w e = record {
+  command = Command.Read10 lba count;
+  command_is = refl;
+  lba = lba;
+  gives = λ m sent. ap (bytes_at m.contents lba) (same_Some count blocks e);
+}
+is_read (Ok (Command.Write10 lba count)) blocks w e = wrong w
+
+-- ---- what it moves
+
+moved_reads : (a : Array) (q : Process) (blocks : ℕ) → HasWhole a → is_writing q ≡ false → blocks_in (range_in (command_of q.cdb)) ≡ Some blocks → (moved_count q (reply_now a q) == 0) ≡ false → moved_count q (reply_now a q) ≡ blocks * size_of (unit_state_at a.units q.target q.unit)
+moved_reads a q blocks whole reads is some = go ((reply_now a q).status == GOOD) refl
+  where
+    moved : (g : Bool) → ((reply_now a q).status == GOOD) ≡ g → moved_count q (reply_now a q) ≡ (if g then length (reply_now a q).bytes else 0)
+    moved g e = λ i. if e i then (if reads i then length q.sent else length (reply_now a q).bytes) else 0
+
+    r : IsRead (command_of q.cdb) blocks
+    r = is_read (command_of q.cdb) blocks reads is
+
+    at : (x : Option UnitState) → unit_state_at a.units q.target q.unit ≡ x → (execution (context_at a (nexus_of q) x) q.cdb q.sent).reply.status ≡ GOOD → length (execution (context_at a (nexus_of q) x) q.cdb q.sent).reply.bytes ≡ blocks * size_of x
+    at None e good =
+        ap (λ (b : List ℕ). length b) (read_gives (context_at a (nexus_of q) None) q.cdb q.sent r.command r.lba blocks r.command_is (r.gives (context_at a (nexus_of q) None) q.sent) good)
+        ∙ length_bytes (contents_of None) (λ lba. refl) r.lba blocks
+    at (Some u) e good =
+        ap (λ (b : List ℕ). length b) (read_gives (context_at a (nexus_of q) (Some u)) q.cdb q.sent r.command r.lba blocks r.command_is (r.gives (context_at a (nexus_of q) (Some u)) q.sent) good)
+        ∙ length_bytes u.contents (subst (λ (x : Option UnitState). (lba : ℕ) → length (Rattle.bus_due.specs.disk_array.specs.Contents.block_at (contents_of x) lba) ≡ (contents_of x).size) e (whole q.target q.unit)) r.lba blocks
+
+    go : (g : Bool) → ((reply_now a q).status == GOOD) ≡ g → moved_count q (reply_now a q) ≡ blocks * size_of (unit_state_at a.units q.target q.unit)
+    go false e = wrong (sym (ap (λ (x : ℕ). x == 0) (moved false e)) ∙ some)
+    go true e = moved true e ∙ at (unit_state_at a.units q.target q.unit) refl (eqb-true (reply_now a q).status GOOD e)
+
+pub whole_now : (s : ScenarioValue) (history : List Event) (o : Option Array) → Obeys s → array_after s history ≡ o → HasWhole (or_start s o)
+whole_now s history None o e = whole_start s o
+whole_now s history (Some a) o e = whole_always s history a o e
+
+pub fits_reads : (s : ScenarioValue) (k : RunState) (q : Process) → Obeys s → k.array ≡ array_after s k.story.history → is_writing q ≡ false → FitsRuns s k q (task_here s k q)
+fits_reads s k q o e reads = record {
+  fit = record {
+    moved = λ blocks is some. moved_reads (array_of s k) q blocks (whole_now s k.story.history k.array o (sym e)) reads is some;
+    most = policies_most s q.target o;
+  };
+  step = ap (λ (x : ℕ). step_in (policy_for s q) (blocks_in (range_in (command_of q.cdb))) x) (size_is s (array_of s k) q.target q.unit (lines_now s k.story.history k.array (sym e)));
+}

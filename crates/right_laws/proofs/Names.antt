@@ -1,0 +1,271 @@
+-- The names of other crates, and of this crate's definitions, that its proofs speak of, each by its home.
+-- A proof takes them by `use proofs.Names.{..}`; tools/checks/imports.py brings in those that a proof imports by their home.
+use Rattle.std.proofs as std_proofs
+pub use std_proofs.Common.{Bool, Err, List, None, Ok, Option, Result, Some, [], ap, append-nil, append_assoc, arith}
+pub use std_proofs.Common.{cond, drop, false, inl, inr, length, length-append, max, not, refl, subst, suc, sym, take}
+pub use std_proofs.Common.{true, true≢false, zero, ℕ, ◌%◌, ◌&&◌, ◌*◌, ◌++◌, ◌+◌, ◌-◌, ◌<◌, ◌==◌, ◌^◌, ◌||◌, ◌∙◌, ◌∷◌}
+pub use std_proofs.{Common.{◌≡◌, ◌≢◌, ◌≤◌, ◌⊎◌}, lemmas.Bool.{and_from, and_left, and_parts, and_right, cases_eq}}
+pub use std_proofs.lemmas.Bool.{eqb-true, ltb-false, ltb-true, ne_eqb, not-false, not-true, or_parts}
+pub use std_proofs.lemmas.{Bool.Decides.{nat_tests}, List.{length-drop, length-replicate, length-take, reverse-append}}
+pub use std_proofs.lemmas.{List.{reverse-reverse}, Option.{same_Some}}
+use Rattle.std.specs as std
+pub use std.{Int.RustNames.{bit_or, count_ones}, List.{AllByRecursion, find, list_any}, Prelude.{if◌then◌else◌}}
+pub use std.Prelude.{is_none, is_some, min, nat_le, nat_lt, reverse, slice_index, slice_index_or, slice_set, ⊤}
+use Rattle.bus_due.specs.bus_base.proofs as bus_base_proofs
+pub use bus_base_proofs.Tests.{all_three, and_false, eq_self, eq_turned, not_first, nothing_below, plus_none, wrong}
+pub use bus_base_proofs.Tests.{wrong', zero_of}
+use Rattle.bus_due.specs.bus_base.specs as bus_base
+pub use bus_base.{Faults.{counted_on}, declared.{AbortKind.{AbortKind}, Event.{Event}, ProcId.{ProcId}}}
+use Rattle.bus_due.specs.bus_trace.proofs as bus_trace_proofs
+pub use bus_trace_proofs.{Buses.{bus_off, bus_on, bus_one}, Connections.{connection_stays}, OddParity.{byte_back}}
+pub use bus_trace_proofs.{OneRow.{bus-fault, drives-fault, drives-other}, Sets.{same_eq, same_self, same_set-eq}}
+use Rattle.bus_due.specs.bus_trace.specs as bus_trace
+pub use bus_trace.{Agreements.{fast_times, slow_times, times_of, times_or_slow}, Changes.{change_of, falls, rises}}
+pub use bus_trace.LineSet.{LineSet, byte_set, has_id_above, ids_set, none, same, same_set, union}
+pub use bus_trace.{Phases.{changes_phase, is_command, is_data, is_message_in, is_message_out}, Terms.{arbitration}}
+pub use bus_trace.Terms.{call, call_goes_on, called_goes_on, caller_goes_on, calling_after, connection}
+pub use bus_trace.Terms.{connection_after, drives_two_ids, free_since, is_fault, new_calling, receiver, receiver_in}
+pub use bus_trace.{Terms.{receiver_of, when}, Trace.{bus, driven_after, drives, last_time, line_times, phase_time}}
+pub use bus_trace.{Trace.{since_line}, declared.{Kind.{Kind, TheVariants.{Drives, Fault}}, Row.{Row}}}
+pub use bus_trace.declared.{agreements.Agreement.{Agreement}, arbitration.Arbitration.{Arbitration}}
+pub use bus_trace.declared.{changes.Change.{Change}, connection.Connection.{Connection}}
+pub use bus_trace.declared.delays.TheConstants.{ARBITRATION_DELAY, BUS_SETTLE_DELAY, BUS_SET_DELAY, ENTRY_DELAY}
+pub use bus_trace.declared.{delays.TheConstants.{QUIET_TIME, SET_UP_TIME, TWO_DESKEW}, selection.Call.{Call}}
+pub use bus_trace.declared.selection.Calling.{Calling}
+unfoldable pub use bus_trace.View.{union_below}
+use Rattle.bus_due.specs.bus_lines.proofs as bus_lines_proofs
+pub use bus_lines_proofs.Early.{struck_same}
+use Rattle.bus_due.specs.bus_lines.specs as bus_lines
+pub use bus_lines.Handshakes.{Handshakes, answered_if, asked_if, handshakes, handshakes_after, no_handshakes}
+pub use bus_lines.{Handshakes.{strikes_if}, Stage.{answer_stage, call_stage, stage, stage_by}}
+pub use bus_lines.declared.stage.Stage.{Stage, TheVariants.{InAnswer, InArbitration, InCalling, InReset, OnFreeBus}}
+use Rattle.bus_due.specs.cdb_codec.specs as cdb_codec
+pub use cdb_codec.{Blocks.{blocks_moved}, Cdb.{command_of, fields_of, has_group_len, sized_of}}
+pub use cdb_codec.{Operations.{operation_of}, Replies.{inquiry_data, sense_data}, declared.Sense.{Sense}}
+pub use cdb_codec.declared.{command.{CdbFault.{CdbFault}, Command.{Command}}, operation.Operation.{Operation}}
+pub use cdb_codec.declared.operation.TheConstants.{INQUIRY, READ_10, READ_6, READ_CAPACITY, REQUEST_SENSE}
+pub use cdb_codec.declared.operation.TheConstants.{TEST_UNIT_READY, WRITE_10, WRITE_6}
+pub use cdb_codec.declared.{replies.TheConstants.{INQUIRY_LEN, SENSE_LEN}, sense.TheConstants.{ABORTED_COMMAND}}
+pub use cdb_codec.declared.sense.TheConstants.{INITIATOR_DETECTED_ERROR, PARITY_ERROR}
+pub use cdb_codec.declared.status.TheConstants.{CHECK_CONDITION, GOOD}
+use Rattle.bus_due.specs.msg_grammar.specs as msg_grammar
+pub use msg_grammar.{Messages.{got_in, got_out}, declared.message.{MsgIn.{MsgIn}, MsgOut.{MsgOut}}}
+unfoldable pub use msg_grammar.Messages.{form_in}
+use Rattle.bus_due.specs.bus_phases.specs as bus_phases
+pub use bus_phases.Dialogue.{byte_else, byte_in, byte_out, dialogue, fresh_bytes, heard_with_command}
+pub use bus_phases.declared.dialogue.Dialogue.{Dialogue}
+use Rattle.bus_due.specs.bus_rules.proofs as bus_rules_proofs
+pub use bus_rules_proofs.First.{row_none}
+use Rattle.bus_due.specs.bus_rules.specs as bus_rules
+pub use bus_rules.{Order.{is_of_device}, Reset.{only_rst}, Rules.{broken_rule}}
+use Rattle.bus_due.specs.scenario.proofs as scenario_proofs
+pub use scenario_proofs.Steps.{bind_ok, ok_is}
+use Rattle.bus_due.specs.scenario.specs as scenario
+pub use scenario.Forms.{Said, abort_line, cmd_line, end_line, fault_line, fill_line, initiator_line, reset_line}
+pub use scenario.{Forms.{scsi_line, target_line, unit_line}, Lookups.{has_target, unit_of}, Needs.{is_write, moved_by}}
+pub use scenario.Reading.{Progress, abort_def, fault_def, fill_def, fits_version, full_cmd_def, guard, host_def}
+pub use scenario.{Reading.{in_order, kind_of, nothing, rank, reset_def, target_def, unit_def}, Value.{ScenarioValue}}
+pub use scenario.{Writing.{Obeys, built, saids}, declared.value.{AbortDef.{AbortDef}, CmdDef.{CmdDef}}}
+pub use scenario.declared.value.{FaultDef.{FaultDef}, FillDef.{FillDef}, HostDef.{HostDef}, Policy.{Policy}}
+pub use scenario.declared.value.{TargetDef.{TargetDef}, UnitDef.{UnitDef}}
+unfoldable pub use scenario.{Needs.{need_of}, Reading.{added, said_after}}
+use Rattle.bus_due.specs.disk_array.proofs as disk_array_proofs
+pub use disk_array_proofs.{ArrayReplies.{end_lists, loss_lists}, SeatContexts.{choice_keeps, settled_context}}
+pub use disk_array_proofs.SeatLaws.{abort_law, accept_law, device_law, end_law, fail_law, loss_law, other_law}
+pub use disk_array_proofs.{SeatLaws.{refuse_law, reset_law, run_law}, SoundArrays.{history_sound, is_own, step_sound}}
+pub use disk_array_proofs.Touched.{block_same}
+use Rattle.bus_due.specs.disk_array.specs as disk_array
+pub use disk_array.ArrayHistory.{array_after, array_step, disks_of, reply_in, reply_of, shows_run}
+pub use disk_array.Contents.{Contents, blank_contents, block_at, bytes_at, filled_contents, no_contents, with_block}
+pub use disk_array.{Contents.{with_bytes}, Execution.{CommandContext, Execution, Reply, attention_execution}}
+pub use disk_array.Execution.{block_out_of_range, cdb_execution, check_condition, command_execution, execution}
+pub use disk_array.Execution.{heeds_attention, invalid_field, is_good_range, is_opcode, is_request_sense, needs_unit}
+pub use disk_array.Execution.{queue_full, range_execution, range_of, reply_execution, returned_sense, sense_of}
+pub use disk_array.{Execution.{unit_not_supported}, Order.{choice, range_in}, Processes.{Process, process_of, same_id}}
+pub use disk_array.Seats.{Seat, contents_of, context_of, current_of, guests_at, is_of_other_unit, seat_if, seat_of}
+pub use disk_array.{Seats.{settled_seat, settled_seat_if}, SoundArray.{AllOwn, AllOwnGuests, AllOwnUnits, AreApart}}
+pub use disk_array.{SoundArray.{HasSeats, IsOwn, IsOwnRunning, IsOwnUnit, IsSound}, Steps.{context_at, has_ended}}
+pub use disk_array.{Steps.{has_tag, is_of_unit, process_count, running_if, step}, Units.{Array, Nexus, RunningProcess}}
+pub use disk_array.Units.{UnitState, guest_at, has_no_current, is_held, nexus_of, sense_of_nexus, settled_array}
+pub use disk_array.Units.{starting_array, starting_unit, starting_units, unit_after_choice, unit_state_at}
+pub use disk_array.Units.{units_after_choice, with_current, without_reply}
+use Rattle.bus_due.specs.bus_story.proofs as bus_story_proofs
+pub use bus_story_proofs.{CarriedLists.{carried_id, carried_with}, StorySteps.{check_carried, ends_carried}}
+pub use bus_story_proofs.StorySteps.{free_carried, message_id}
+use Rattle.bus_due.specs.bus_story.specs as bus_story
+pub use bus_story.BusState.{RowReading, message_in, message_out, row_reading, whole_in, whole_out}
+pub use bus_story.CarriedBytes.{Area, CarriedBytes, area_with, bytes_with, carried_after_byte, carried_after_fault}
+pub use bus_story.CarriedBytes.{carried_after_message, carried_of, carried_or_nothing, is_status_phase, is_whole_block}
+pub use bus_story.{CarriedBytes.{nothing_carried, with_carried, with_restored_pointers}, HistoryEvents.{abort_line_at}}
+pub use bus_story.HistoryEvents.{abort_line_events, bus_free_events, carried_if, connection_events, end_events}
+pub use bus_story.HistoryEvents.{is_complete, is_completion, is_refuse, item_abort_events, item_loss_events}
+pub use bus_story.HistoryEvents.{link_events, phase_events, queue_event, queue_events, row_events_by, status_event}
+pub use bus_story.{Items.{Item, abort, has_item, process, sense_item}, Links.{LastMessage, Link, abortive, complete}}
+pub use bus_story.Links.{disconnect, is_open_sense, last_in, last_out, link_after_name, link_of, plain}
+pub use bus_story.{Outcomes.{outcomes}, Right.{Right, all_carried, carried_by, has_run, is_carried, is_run_of}}
+pub use bus_story.{Right.{moved_bytes, same_bytes}, Samples.{Sample, Strike, expected_strikes, faults_in_order}}
+pub use bus_story.Samples.{first_from, host_latency, is_kept_by_reset, is_sampled_before, kept_samples, latency_of}
+pub use bus_story.Samples.{row_strikes, samples, samples_with_byte, samples_with_ids, samples_with_ids_after}
+pub use bus_story.Samples.{samples_with_ids_of, strike_of, strikes_by, target_latency, with_fault, with_first_strike}
+pub use bus_story.{Samples.{with_sample, with_strike, without_first}, Story.{Story, by_abort, by_reset, is_aborted}}
+pub use bus_story.Story.{is_sense_stopped, marked_refused, marked_shown, story_after_event, story_after_events}
+pub use bus_story.{Story.{story_with_end}, TraceHistory.{aim_of, carried_after_byte_if, carried_after_fault_if}}
+pub use bus_story.TraceHistory.{carried_after_message_if, is_parity_error, story, story_after_byte}
+pub use bus_story.TraceHistory.{story_after_connection, story_after_fault, story_after_in, story_after_message}
+pub use bus_story.TraceHistory.{story_after_out, story_by_change, story_in_connection, story_on_bus, story_with_carried}
+pub use bus_story.TraceHistory.{story_with_restored, story_with_sent, trace_history}
+use Rattle.disk_unit.proofs as disk_unit_proofs
+pub use disk_unit_proofs.Parts.{length_bytes}
+use Rattle.disk_unit.specs as disk_unit
+pub use disk_unit.Disk.{blocks_written, blocks_written_by, written_of}
+use Rattle.bus_due.specs.bus_reactions.specs as bus_reactions
+pub use bus_reactions.Calling.{answer, answer_due, answered_due, bsy_takeover, called_due, caller_due, calling_abort}
+pub use bus_reactions.Calling.{calling_start, is_called, loser_release, reselection_end, selection_end, unanswered_due}
+pub use bus_reactions.{Calling.{with_calling_mark, withdrawal}, Ends.{bsy_release, initiator_due, message_out_start}}
+pub use bus_reactions.{Ends.{owes_release, sample_due, target_due}, FreeBus.{arbitration_due, entry, free_due}}
+pub use bus_reactions.{FreeBus.{later_entry_if, win}, Initiator.{ack_negation, ack_pulse, ack_pulse_end, byte_release}}
+pub use bus_reactions.Initiator.{initiator_byte, initiator_handshake, initiator_pulse, initiator_turn, pulsed_byte}
+pub use bus_reactions.Initiator.{received_byte_ack, received_byte_pulse, rose_with_ack, sent_byte_ack, sent_byte_pulse}
+pub use bus_reactions.{Linking.{bus_clear, link_due_by}, Reactions.{due_at, due_where, earlier_due, fault_due}}
+pub use bus_reactions.{Reactions.{fault_or}, Target.{bits_if, byte_bits, byte_change, first_byte, first_req}}
+pub use bus_reactions.Target.{has_io_turned, next_req, phase_end, pulse_turn, pulsed_phase_end, req_assertion}
+pub use bus_reactions.Target.{req_negation, req_pulse, req_pulse_end, target_handshake, target_pulse, target_turn}
+pub use bus_reactions.declared.{due.{Due.{Due}, Myself.{Myself}, Want.{Want}}, ends.Answering.{Answering}}
+pub use bus_reactions.declared.{ends.{Offering.{Offering}, Pace.{Pace}}, sight.Sight.{Sight}}
+use Rattle.bus_due.specs.bus_dialogue.specs as bus_dialogue
+pub use bus_dialogue.{Arrivals.{policy_of}, DataRuns.{run_at, run_in, run_length, runs_in, runs_in_all}}
+pub use bus_dialogue.{Ends.{follows_by, is_pulsed_phase}, Events.{is_status_next}, Exchange.{Exchange}}
+pub use bus_dialogue.{Exchange.{bytes_of_messages, from_byte, message_bytes, one_message, plan_anew}, Hearing.{begun}}
+pub use bus_dialogue.{Hearing.{begun_after}, NextPhase.{Serving, after_messages, after_run, disconnect_messages}}
+pub use bus_dialogue.NextPhase.{disconnection, leaving_by, phase_entry, phase_leaving, phase_lines, phase_of}
+pub use bus_dialogue.{NextPhase.{unless_attention, with_task}, PhaseBytes.{data_byte, follows_in, lines_by, one_if}}
+pub use bus_dialogue.{PhaseBytes.{phase_byte, run_length_if}, Planning.{cause_after, first_plan, plan_in_message_out}}
+pub use bus_dialogue.{Planning.{plan_in_phase}, declared.exchange.{Cause.{Cause}, Leaving.{Leaving}}}
+pub use bus_dialogue.declared.exchange.{Messages.{Messages}, Next.{Next}, Phase.{Phase}, Plan.{Plan}, Task.{Task}}
+use Rattle.bus_due.proofs as bus_due_proofs
+pub use bus_due_proofs.{Leasts.{least_none}, Plains.{run_state_plain}}
+use Rattle.bus_due.specs as bus_due
+pub use bus_due.{Connected.{is_receiver}, Defs.{host_of, target_def_of}, Due.{reset_from}}
+pub use bus_due.{LastingState.{ProcessProgress, progress_in}, Least.{IsLeast}, Next.{IsPrompt, due}, Own.{Own}}
+pub use bus_due.{Plain.{AreOfDevices, IsPlain, crossed, crossed_if}, RunState.{RunState, array_of, bus_of}}
+pub use bus_due.{RunState.{carried_here, or_start, process_item, process_served}, RunSteps.{array_after_events}}
+pub use bus_due.RunSteps.{exchange_after, first_exchange, is_for_process, item_if, leaving_of, may_negotiate, naming_of}
+pub use bus_due.RunSteps.{progress_after, progress_by_leaving, run_state, run_state_after, served_after}
+pub use bus_due.{Sights.{flip_of, hearing_of, leaving, offering_of, serving_at, serving_of, want_of}, Tasks.{blocks_in}}
+pub use bus_due.Tasks.{given_if, given_of, is_writing, moved_count, reply_now, size_of, task_if, task_of, task_with}
+pub use bus_due.{Telling.{is_true_telling, telling}, Wants.{ready_of}}
+use Rattle.trace_laws.specs.scsi_device.proofs as scsi_device_proofs
+pub use scsi_device_proofs.{Finds.{all_are, all_more}, FitLines.{obeys_fits, seats_are}, LineReads.{unit_read}}
+use Rattle.trace_laws.specs.scsi_device.specs as scsi_device
+pub use scsi_device.{Heard.{Instructions, instructions, instructions_after}, Lines.{FitsBus}, Writes.{Writer}}
+pub use scsi_device.Writes.{block_size, is_data_out, is_of_size, start_of_run, writers}
+use Rattle.trace_laws.specs.target_units.proofs as target_units_proofs
+pub use target_units_proofs.{AbsentReplies.{replies}, ReplySteps.{accept_same, run_replies}, Rooms.{lines_always}}
+pub use target_units_proofs.{Rooms.{sends}, Starts.{line_filled, start_settled}, UnitTellings.{context_same}}
+use Rattle.trace_laws.specs.target_units.specs as target_units
+pub use target_units.{Absent.{absent_reply_by, data_or_refusal, inquiry_room, sense_room}, Fillings.{AreFilled}}
+pub use target_units.Rooms.{AreOfLines, IsOfLine}
+use Rattle.trace_laws.specs.bus_books.proofs as bus_books_proofs
+pub use bus_books_proofs.{Areas.{puts}, Blocks.{block_is_all}, CarriedBlocks.{own_of}, CarriedRows.{process_id}}
+pub use bus_books_proofs.{CarriedSteps.{IsKept, no_link, row_carried}, Gives.{requests_rise, requests_stay}}
+pub use bus_books_proofs.InConnection.{InConnection, dialogue_by, in_connection, reading_is, same_phase_is}
+pub use bus_books_proofs.Lookups.{id_is, self_id}
+use Rattle.trace_laws.specs.bus_books.specs as bus_books
+pub use bus_books.{Accounts.{is_served_by, policy_for}, Carrying.{IsFilled, TakesBlock}, Giving.{AreGiven, OnMessage}}
+pub use bus_books.{Hearing.{LeavesWhole, is_in_phase}, Knowing.{Knows}, Reactions.{IsOver}, Rows.{IsFirstRow, IsRowIn}}
+pub use bus_books.{Rows.{RowKind, crosses, reading_in, still, strikes, turns}, Traces.{Begins, Books, GoesOn, RowOf}}
+pub use bus_books.Traces.{apart, begins, goes_on, under_reset, RowOf.{apart as row_apart}}
+use Rattle.trace_laws.specs.bus_laws.proofs as bus_laws_proofs
+pub use bus_laws_proofs.{Apart.{change_plain}, CallDues.{answers_due, aside_due, asks_due, before_due, flip_at}}
+pub use bus_laws_proofs.{CallDues.{waits_due}, Dues.{due_in, due_in_reset, is_at, is_there}, FromAnswer.{from_answered}}
+pub use bus_laws_proofs.{FromAnswer.{from_resumed, from_withdrawn}, FromArbitration.{from_arbitration}}
+pub use bus_laws_proofs.FromCalling.{answer_exists, from_asking, from_calls, ids_not_zero, only_caller}
+pub use bus_laws_proofs.{FromFree.{from_free, row_is}, FromReset.{off_at, resets_of_own}, FromWon.{from_won}}
+pub use bus_laws_proofs.{Limits.{obeys_latencies}, Prompt.{least_is}, Resets.{comes_by, comes_by_first, due_calm}}
+pub use bus_laws_proofs.Resets.{due_holding, due_there, one_of, own_fault, own_other, own_reset_is, released_own}
+pub use bus_laws_proofs.{Resets.{reset_after}, Rows.{drives_other, drives_own, fault_change, since_is, stage_is}}
+pub use bus_laws_proofs.{Rows.{stands_after}, Together.{always_is, by_calm, calm_first, from_stage, reset_or_calm}}
+use Rattle.trace_laws.specs.bus_laws.specs as bus_laws
+pub use bus_laws.Callings.{answer_lines, awaiting_call, begun_call, both_ids, calling_lines, new_calling_at, won_call}
+pub use bus_laws.Ends.{BeginsConnection, EndLines, Linked, by_reselection, by_selection, connected_bus, ends_selected}
+pub use bus_laws.{Ends.{initiator_side, target_side}, Reactions.{device_with, own_time, reset_due, unreset_due}}
+pub use bus_laws.{Rows.{row_of_fault, row_of_lines}, Stages.{AwaitsAnswer, BusStage, Calls, CalmStanding}}
+pub use bus_laws.Stages.{HasShortLatencies, NextRow, Standing, after_answer, after_arbitration, after_takeover}
+pub use bus_laws.Stages.{after_withdrawal, awaiting_answer, in_arbitration, in_reset, on_free_bus, with_both_ids}
+use Rattle.trace_laws.specs.link_laws.proofs as link_laws_proofs
+pub use link_laws_proofs.{Asks.{counted_some}, EndDues.{Mover, answering_with, by_fault, by_initiator, by_target}}
+pub use link_laws_proofs.EndDues.{due_of, initiator_is, initiator_plain, is_sampling, mover_is, offering_with}
+pub use link_laws_proofs.{EndDues.{pace_with, sight_with, target_is, target_plain}, Faults.{linked_fault}}
+pub use link_laws_proofs.{Leaves.{may_leave}, LinkObeys.{same_phases}, Moves.{initiator_in_phase, initiator_moves}}
+pub use link_laws_proofs.{Moves.{no_rise, target_in_phase, target_moves, terms_of}, PhaseEnds.{leaves_lines}}
+pub use link_laws_proofs.{RunLengths.{runs_are_short}, Shakes.{initiator_row, target_row}, Traces.{link_calm}}
+pub use link_laws_proofs.Traces.{sides_are}
+use Rattle.trace_laws.specs.link_laws.specs as link_laws
+pub use link_laws.LinkStages.{AnyStage, LinkStage, linked, when_offering, when_pulsing, when_selected, when_settling}
+pub use link_laws.{LinkStages.{when_shaking, when_turning}, Phases.{ends}, Pulses.{run_count}}
+use Rattle.trace_laws.proofs as trace_laws_proofs
+pub use trace_laws_proofs.{Attended.Asks.{away_guest}, Bytes.{Arrays.{IsOf}, Facts.{byte_values}}}
+pub use trace_laws_proofs.{Closes.Stays.{said_then}, Common.Impossible.{none_some, some_none}}
+pub use trace_laws_proofs.Common.PhaseLines.{command_phase, in_phase, message_line, out_in, out_line, out_lines}
+pub use trace_laws_proofs.Common.{PhaseLines.{out_no_status, out_phase}, Tests.{none_both, not_unless, risen}}
+pub use trace_laws_proofs.{Common.Tests.{zero_below, zero_times}, Events.{Answered.{leaves}, Arriving.{Arrives}}}
+pub use trace_laws_proofs.Events.{Arriving.{arrives, as_guest, in_queue, not_running, queued_rests}, Kept.{no_array}}
+pub use trace_laws_proofs.Events.{Others.{same_after, untouched_at_start}, Processes.{Admits, AdmitsEvent, each_after}}
+pub use trace_laws_proofs.Events.{Queued.{stays_queued, step_units}, Replies.{accepted, listed_on, replies_to}}
+pub use trace_laws_proofs.Events.{Replies.{running_id}, Units.{MayWait, StaysSo, each_settled, events_all}}
+pub use trace_laws_proofs.Events.Writers.{HoldsIt, IsElsewhere, Stands, append_all, empty_stays, kept_all, map_all}
+pub use trace_laws_proofs.Events.Writers.{map_units, none_at, stands_each, start_empty, without_all}
+pub use trace_laws_proofs.{Instructed.Steps.{told_with}, Items.{Facts.{beginning}, Fresh.{data_premises, items_fresh}}}
+pub use trace_laws_proofs.{Items.{Fresh.{items_open}, Over.{ends_over}, Sent.{sent_grows}}, Last.Rows.{KeptPlan, Stays}}
+pub use trace_laws_proofs.{Last.{Rows.{stays_as}, Turns.{from_ends}}, Lines.Called.{sel_of_call}}
+pub use trace_laws_proofs.Lines.Connections.{ConnectionRow, GoingRow, RowKindOf, begins_now, connection_row, goes_now}
+pub use trace_laws_proofs.Lines.{Connections.{going_row, row_kind, stage_of_connection}, Crossings.{RowFacts}}
+pub use trace_laws_proofs.Lines.Crossings.{ends_here, leaving_is, no_answer, no_byte, no_pulse, offering_is}
+pub use trace_laws_proofs.Lines.{Driven.{same_ends}, First.{IsFirst, made_is, quiet_sel, under_rst}, Joint.{NextStood}}
+pub use trace_laws_proofs.Lines.{Joint.{Stood, link_connection, link_phase}, Kept.{initiator_end, target_end}}
+pub use trace_laws_proofs.Lines.{Plans.{is_directed, writes_of, writes_out, writes_there}, Rows.{LinkRow, is_pulsed}}
+pub use trace_laws_proofs.Lines.{Rows.{is_unasked, link_row}, Turns.{freed_connection}, UnderRst.{carries_none}}
+pub use trace_laws_proofs.{Lines.UnderRst.{drives_next, ends_apart, quiet_at_end}, Offers.Steps.{stays_out}}
+pub use trace_laws_proofs.Places.{Ready.{on_running}, Stays.{stay_shown}, Turns.{command_not_out}}
+pub use trace_laws_proofs.{Places.Unshown.{unshown_ready}, Pointers.Ends.{command_over, writer_plain}}
+pub use trace_laws_proofs.Pointers.{Steps.{byte_id, byte_moves, byte_story, fault_id, in_known}, Stories.{story_row}}
+pub use trace_laws_proofs.{Pointers.{Turns.{runs_more}, Waits.{over_row}}, Runs.AllSent.{runs_blocks, some_run}}
+pub use trace_laws_proofs.Runs.{AllSent.{zero_blocks}, Asks.{out_step, rise_of}, Begins.{same_length}, Begun.{no_more}}
+pub use trace_laws_proofs.Runs.{Counts.{handshakes_begin, or_left}, Data.{crossing_stands}, Events.{RunsFrom}}
+pub use trace_laws_proofs.Runs.Events.{RunsInPhase, answered, moved_all, reads, run_turn, runs_from, writes}
+pub use trace_laws_proofs.Runs.Facts.{LinesOf, active_is, crossing_begun, kind_next, lines_of, raised_rst, task_here}
+pub use trace_laws_proofs.Runs.{Facts.{turns_by}, Fits.{FitsRuns, fits_runs, lines_now, none_sent, policies_most}}
+pub use trace_laws_proofs.Runs.{Fits.{size_is}, Left.{left_next, left_start}, Parts.{RunsFit, byte_within, has_byte}}
+pub use trace_laws_proofs.Runs.{Parts.{start_is}, Rows.{runs_first, served_id}, Whole.{last_run}}
+pub use trace_laws_proofs.{Sent.Stays.{is_in_next}, Statuses.Offers.{falls_is, left_req, side_is, unrisen, zero_even}}
+pub use trace_laws_proofs.{Statuses.Offers.{zero_is}, Talks.Bytes.{no_completion}, Tells.Facts.{front_length}}
+pub use trace_laws_proofs.{Tells.Rows.{no_events}, Undone.Facts.{in_of, undo_asks, undo_next, undo_start}}
+pub use trace_laws_proofs.Undone.{Leavings.{is_to_message_in}, Rows.{IsKeptInside, SameIn, empty_front}}
+pub use trace_laws_proofs.{Undone.Turns.{not_out}, Whole.{Whole, row_attendance, standing_next, whole}}
+pub use trace_laws_proofs.Writes.{Arrivals.{ArrivesNow, arrives_first}, Facts.{known_before}, Premises.{write_premises}}
+pub use trace_laws_proofs.Writes.Turns.{progress_turns}
+use Rattle.trace_laws.specs as trace_laws
+pub use trace_laws.{Commands.{CommandFacts, StandsIn}, DataFacts.{DataFacts}, DataPointers.{IsPlainIn, IsServedAnew}}
+pub use trace_laws.DataPointers.{PointersAsked, PointersIf, PointersIn, PointersOf, PointersRefused, ServedPointers}
+pub use trace_laws.DataPointers.{calm, closes_again, disconnects_again, is_marked, named, restores, restores_again}
+pub use trace_laws.DataPointers.{run_policy, run_start, saved, saves_again, step_in, still_calm, unnamed}
+pub use trace_laws.{Ends.{AreEnds, HasEnds}, Instructed.{Instructed, InstructedFacts, KnownIn}, ItemFacts.{AllP}}
+pub use trace_laws.{ItemFacts.{ItemFacts, RunsP, UnitsP}, ItemTalks.{frees_bus}, Items.{IsFresh}, LastTalks.{EndsWell}}
+pub use trace_laws.LastTalks.{LastBy, LastFacts, LastGiven, closed, closes, saves, stays, still_stays, to_close}
+pub use trace_laws.{LastTalks.{to_save}, Named.{Named, NamedFacts, known, refused, said}, Offers.{OfferFacts}}
+pub use trace_laws.Places.{AnsweredOpen, Closes, Each, HasPlaces, IsAtRest, IsAway, IsOutside, IsTaken, IsUntouched}
+pub use trace_laws.Places.{MayRun, OnGuests, OnUnits, PlaceFacts, PlacedAsked, PlacedBefore, PlacedIf, PlacedIn, Runs}
+pub use trace_laws.{Places.{RunsOpen, Waits, completes, disconnects}, RunCounts.{AreCounted, CountFacts, pulses_here}}
+pub use trace_laws.{RunFacts.{IsServedWell, RunsBy}, RunsLeft.{HasRunLeft, RunsLeftOf, run_total}, RunsWhole.{IsWhole}}
+pub use trace_laws.{RunsWhole.{ends_badly, sends_all, sends_none}, TellFacts.{TellFacts}, Tells.{AreRepliesShown}}
+pub use trace_laws.{WholeRuns.{bytes_come}, WriteFacts.{AllUnits, IsEmptyUnit, IsOther, IsWrittenUnit}}
+use Rattle.right_laws.specs as right_laws
+pub use right_laws.{Asked.{AllMove, GivesAtRun, IsRunning, SendsAtRun}, Awaited.{awaited, awaited_by, awaited_ids}}
+pub use right_laws.{Awaited.{byte_at, ids_at, ids_of, is_asked, listed}, Given.{GivenFacts, GivenIn, GivesAsked}}
+pub use right_laws.Given.{GivesAtCrossing, GivesNext, HasGiven, HasReplyStill, IsFront, NoneAtArrival}
+pub use right_laws.GivenPointers.{AllGiveBy, GivesBy, HasReplyThen, PointsAtCrossing, PointsAtEnd, PointsAtRun}
+pub use right_laws.{GivenPointers.{abort_may_change, any_may_change, may_change}, InTurn.{faults_left, left_if}}
+pub use right_laws.{InTurn.{strike_if, strikes_in_turn}, Loads.{Load, UndoLoadFacts, UndoesLoads, load}}
+pub use right_laws.{Open.{BlockFacts, HasBlock, IfOpen, OnEvents, OnOpen}, Runs.{HasEnded, HasRun, IsEnded, MovesAtRun}}
+pub use right_laws.{Runs.{RanBooks, RightFacts, StatusAtEnd}, SoFar.{StrikesSoFar}, Standing.{AllStandIn}}
+pub use right_laws.StatusBytes.{HasOne, IsReady, IsSmall, StatusAsked, StatusBy, StatusFacts, StatusSays, StatusTalks}

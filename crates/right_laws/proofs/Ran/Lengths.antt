@@ -1,0 +1,140 @@
+-- A command gives no more bytes than it moves at the line of its unit, and a write gives none (7.3, 8.2, 9.2).
+use Rattle.right_laws.proofs
+use proofs.Names.{ℕ, ◌≡◌, ◌≤◌, ◌+◌, ◌*◌, ◌-◌, Bool, true, false, not, ◌&&◌, ◌∙◌, List, length, take, Option, Some, None}
+use proofs.Names.{Result, Ok, Err, refl, sym, ap, subst, arith, and_parts, length-take, if◌then◌else◌, min, nat_le}
+use proofs.Names.{nat_lt, blocks_moved, command_of, inquiry_data, sense_data, Sense, CdbFault, Command, INQUIRY}
+use proofs.Names.{INQUIRY_LEN, SENSE_LEN, has_target, unit_of, is_write, moved_by, need_of, ScenarioValue, CmdDef}
+use proofs.Names.{UnitDef, Contents, bytes_at, no_contents, CommandContext, Reply, attention_execution}
+use proofs.Names.{block_out_of_range, cdb_execution, check_condition, command_execution, execution, heeds_attention}
+use proofs.Names.{invalid_field, is_good_range, is_opcode, needs_unit, range_execution, range_of, reply_execution}
+use proofs.Names.{returned_sense, unit_not_supported, Process, contents_of, context_at, Array, UnitState, nexus_of}
+use proofs.Names.{sense_of_nexus, unit_state_at, length_bytes, replies, absent_reply_by, data_or_refusal, inquiry_room}
+use proofs.{Names.{sense_room, AreOfLines, IsOfLine}, Replies.Blocks.{AreWhole, HasWhole}}
+
+-- What a command may give at the line of its unit.
+abbrev pub most_given : Result Command CdbFault → Option UnitDef → ℕ
+most_given r o = if is_write r then 0 else moved_by r o
+
+pub none_few : (most : ℕ) → 0 ≤ most
+none_few most = omega arith
+
+data_few : (room most : ℕ) (bytes : List ℕ) → length (take (min room most) bytes) ≤ min room most
+data_few room most bytes = let long = length-take (min room most) bytes in omega (arith, long)
+
+-- ---- a unit that is absent
+
+inquired_few : (r : Result Command CdbFault) (bytes : List ℕ) (sense : Sense) → length (data_or_refusal (inquiry_room r) INQUIRY_LEN bytes sense).bytes ≤ most_given r None
+inquired_few (Ok (Command.Inquiry room)) bytes sense = data_few room INQUIRY_LEN bytes
+inquired_few (Ok Command.TestUnitReady) bytes sense = none_few 0
+inquired_few (Ok (Command.RequestSense room)) bytes sense = none_few (min room SENSE_LEN)
+inquired_few (Ok (Command.Read6 lba count)) bytes sense = none_few 0
+inquired_few (Ok (Command.Write6 lba count)) bytes sense = none_few 0
+inquired_few (Ok Command.ReadCapacity) bytes sense = none_few 0
+inquired_few (Ok (Command.Read10 lba count)) bytes sense = none_few 0
+inquired_few (Ok (Command.Write10 lba count)) bytes sense = none_few 0
+inquired_few (Err fault) bytes sense = none_few 0
+
+sensed_few : (r : Result Command CdbFault) (bytes : List ℕ) (sense : Sense) → length (data_or_refusal (sense_room r) SENSE_LEN bytes sense).bytes ≤ most_given r None
+sensed_few (Ok (Command.RequestSense room)) bytes sense = data_few room SENSE_LEN bytes
+sensed_few (Ok Command.TestUnitReady) bytes sense = none_few 0
+sensed_few (Ok (Command.Inquiry room)) bytes sense = none_few (min room INQUIRY_LEN)
+sensed_few (Ok (Command.Read6 lba count)) bytes sense = none_few 0
+sensed_few (Ok (Command.Write6 lba count)) bytes sense = none_few 0
+sensed_few (Ok Command.ReadCapacity) bytes sense = none_few 0
+sensed_few (Ok (Command.Read10 lba count)) bytes sense = none_few 0
+sensed_few (Ok (Command.Write10 lba count)) bytes sense = none_few 0
+sensed_few (Err fault) bytes sense = none_few 0
+
+absent_few : (stored : Option Sense) (inquires : Bool) (r : Result Command CdbFault) → length (absent_reply_by stored inquires r).bytes ≤ most_given r None
+absent_few stored true r = inquired_few r (inquiry_data false) invalid_field
+absent_few stored false r = sensed_few r (sense_data (returned_sense false stored)) unit_not_supported
+
+-- ---- a unit that is there
+
+read_few : (c : Contents) (u : UnitDef) (lba n : ℕ) → c.count ≡ u.blocks → c.size ≡ u.size → AreWhole c → (nat_lt lba c.count && nat_le (lba + n) c.count) ≡ true
+    → length (bytes_at c lba n) ≤ (if nat_le (lba + n) u.blocks then n * u.size else 0)
+read_few c u lba n count size whole e = subst (λ (q : Bool). length (bytes_at c lba n) ≤ (if q then n * u.size else 0)) (sym inside) (few (length (bytes_at c lba n)) (n * u.size) long)
+  where
+    few : (a b : ℕ) → a ≡ b → a ≤ b
+    few a b f = omega (arith, f)
+
+    long : length (bytes_at c lba n) ≡ n * u.size
+    long = length_bytes c whole lba n ∙ ap (λ (x : ℕ). n * x) size
+
+    inside : nat_le (lba + n) u.blocks ≡ true
+    inside = ap (λ (x : ℕ). nat_le (lba + n) x) (sym count) ∙ (and_parts (nat_lt lba c.count) (nat_le (lba + n) c.count) e).1
+
+-- The unit is the one of this line, and its blocks are whole.
+record MeetsLine (m : CommandContext) (u : UnitDef) : Type 0 where
+  count : m.contents.count ≡ u.blocks
+  size : m.contents.size ≡ u.size
+  whole : AreWhole m.contents
+
+command_few : (m : CommandContext) (u : UnitDef) (c : Command) (sent : List ℕ) → MeetsLine m u → is_good_range m.contents.count (range_of c) ≡ true → length (command_execution m c sent).reply.bytes ≤ most_given (Ok c) (Some u)
+command_few m u Command.TestUnitReady sent h e = none_few 0
+command_few m u (Command.RequestSense room) sent h e = data_few room SENSE_LEN (sense_data (returned_sense m.present m.stored))
+command_few m u (Command.Read6 lba count) sent h e = read_few m.contents u lba (blocks_moved (Command.Read6 lba count)) h.count h.size h.whole e
+command_few m u (Command.Write6 lba count) sent h e = none_few 0
+command_few m u (Command.Inquiry room) sent h e = data_few room INQUIRY_LEN (inquiry_data m.present)
+command_few m u Command.ReadCapacity sent h e = omega arith
+command_few m u (Command.Read10 lba count) sent h e = read_few m.contents u lba count h.count h.size h.whole e
+command_few m u (Command.Write10 lba count) sent h e = none_few 0
+
+range_few : (m : CommandContext) (u : UnitDef) (c : Command) (sent : List ℕ) → MeetsLine m u → length (range_execution m c sent).reply.bytes ≤ most_given (Ok c) (Some u)
+range_few m u c sent h = go (is_good_range m.contents.count (range_of c)) refl
+  where
+    go : (q : Bool) → is_good_range m.contents.count (range_of c) ≡ q
+        → length (if q then command_execution m c sent else reply_execution m (check_condition block_out_of_range)).reply.bytes ≤ most_given (Ok c) (Some u)
+    go true e = command_few m u c sent h e
+    go false e = none_few (most_given (Ok c) (Some u))
+
+cdb_few : (m : CommandContext) (u : UnitDef) (r : Result Command CdbFault) (sent : List ℕ) → MeetsLine m u → length (cdb_execution m r sent).reply.bytes ≤ most_given r (Some u)
+cdb_few m u (Ok c) sent h = range_few m u c sent h
+cdb_few m u (Err CdbFault.Opcode) sent h = none_few 0
+cdb_few m u (Err CdbFault.Length) sent h = none_few 0
+cdb_few m u (Err CdbFault.Field) sent h = none_few 0
+
+attention_few : (m : CommandContext) (u : UnitDef) (o : Option Sense) (cdb sent : List ℕ) → MeetsLine m u → length (attention_execution m o cdb sent).reply.bytes ≤ most_given (command_of cdb) (Some u)
+attention_few m u None cdb sent h = cdb_few m u (command_of cdb) sent h
+attention_few m u (Some x) cdb sent h = go (heeds_attention cdb)
+  where
+    go : (q : Bool) → length (if q then record { contents = m.contents; reported = true; reply = check_condition x } else cdb_execution m (command_of cdb) sent).reply.bytes ≤ most_given (command_of cdb) (Some u)
+    go true = none_few (most_given (command_of cdb) (Some u))
+    go false = cdb_few m u (command_of cdb) sent h
+
+execution_few : (m : CommandContext) (u : UnitDef) (cdb sent : List ℕ) → MeetsLine m u → length (execution m cdb sent).reply.bytes ≤ most_given (command_of cdb) (Some u)
+execution_few m u cdb sent h = go (not m.present && needs_unit cdb)
+  where
+    go : (q : Bool) → length (if q then reply_execution m (check_condition unit_not_supported) else attention_execution m m.attention cdb sent).reply.bytes ≤ most_given (command_of cdb) (Some u)
+    go true = none_few (most_given (command_of cdb) (Some u))
+    go false = attention_few m u m.attention cdb sent h
+
+-- ---- at its unit of the array
+
+pub given_few : (s : ScenarioValue) (a : Array) (p : Process) → AreOfLines s a → HasWhole a
+    → length (execution (context_at a (nexus_of p) (unit_state_at a.units p.target p.unit)) p.cdb p.sent).reply.bytes ≤ most_given (command_of p.cdb) (unit_of s p.target p.unit)
+given_few s a p lines whole = go (unit_of s p.target p.unit) (unit_state_at a.units p.target p.unit) (lines p.target p.unit) (whole p.target p.unit)
+  where
+    stored : Option Sense
+    stored = sense_of_nexus a.senses (nexus_of p)
+
+    attention : Option Sense
+    attention = sense_of_nexus a.attentions (nexus_of p)
+
+    absent : length (execution (record { present = false; contents = no_contents; stored = stored; attention = attention }) p.cdb p.sent).reply.bytes ≤ most_given (command_of p.cdb) None
+    absent =
+        subst (λ (r : Reply). length r.bytes ≤ most_given (command_of p.cdb) None) (sym (replies stored attention no_contents p.cdb p.sent))
+        (absent_few stored (is_opcode p.cdb INQUIRY) (command_of p.cdb))
+
+    go : (o : Option UnitDef) (x : Option UnitState) → IsOfLine o x → AreWhole (contents_of x) → length (execution (context_at a (nexus_of p) x) p.cdb p.sent).reply.bytes ≤ most_given (command_of p.cdb) o
+    go None None h w = absent
+    go None (Some v) h w = absurd h
+    go (Some u) None h w = absurd h
+    go (Some u) (Some v) h w = execution_few (context_at a (nexus_of p) (Some v)) u p.cdb p.sent (record { count = h.0; size = h.1; whole = w })
+
+-- ---- what it needs
+
+-- By the line of its unit, where its target is one of the scenario.
+pub need_is : (s : ScenarioValue) (c : CmdDef) → has_target s c.target ≡ true → need_of s c ≡ moved_by (command_of c.cdb) (unit_of s c.target c.unit)
+unfolding need_of
+need_is s c t = λ i. if t i then moved_by (command_of c.cdb) (unit_of s c.target c.unit) else 0

@@ -1,0 +1,93 @@
+-- The target of each unit of a scenario that obeys the rules of its text is a target of it.
+use Rattle.right_laws.proofs
+use proofs.Names.{ℕ, ◌≡◌, Bool, true, false, cond, ◌||◌, ◌∙◌, List, [], ◌∷◌, ◌++◌, Some, Ok, refl, sym, ap, subst, ◌==◌}
+use proofs.Names.{◌&&◌, true≢false, eqb-true, AllByRecursion, find, list_any, bind_ok, ok_is, Said, scsi_line}
+use proofs.Names.{initiator_line, target_line, unit_line, fill_line, cmd_line, abort_line, reset_line, fault_line}
+use proofs.Names.{end_line, has_target, unit_of, Progress, guard, host_def, target_def, unit_def, fill_def}
+use proofs.Names.{full_cmd_def, abort_def, reset_def, fault_def, added, said_after, fits_version, in_order, rank}
+use proofs.Names.{kind_of, nothing, ScenarioValue, saids, built, Obeys, TargetDef, UnitDef, all_are, all_more}
+use proofs.Names.{unit_read, none_some}
+
+-- Lines of targets, of which one is of this device.
+abbrev pub is_there : List TargetDef → ℕ → Bool
+is_there targets dev = list_any (λ (t : TargetDef). t.dev == dev) targets
+
+abbrev pub AreTargeted : ScenarioValue → Type 0
+AreTargeted s = AllByRecursion (λ (u : UnitDef). has_target s u.target ≡ true) s.units
+
+there_still : (targets : List TargetDef) (more : TargetDef) (dev : ℕ) → is_there targets dev ≡ true → is_there (targets ++ more ∷ []) dev ≡ true
+there_still [] more dev e = absurd (true≢false (sym e))
+there_still (t ∷ targets) more dev e = go (t.dev == dev) e (λ z. there_still targets more dev z)
+  where
+    go : (q : Bool) → (q || is_there targets dev) ≡ true → (is_there targets dev ≡ true → is_there (targets ++ more ∷ []) dev ≡ true) → (q || is_there (targets ++ more ∷ []) dev) ≡ true
+    go true z still = refl
+    go false z still = still z
+
+-- ---- any line more
+
+targeted_added : (d z : Progress) (x : Said) → added d x ≡ Ok z → AreTargeted d.scenario → AreTargeted z.scenario
+unfolding added
+targeted_added d z (scsi_line v) e a = subst (λ (p : Progress). AreTargeted p.scenario) (ok_is _ z e) a
+targeted_added d z (initiator_line f) e a =
+    let b = bind_ok (host_def d.scenario f) _ z e in
+    subst (λ (p : Progress). AreTargeted p.scenario) (ok_is _ z b.2) a
+targeted_added d z (target_line f) e a =
+    let b = bind_ok (target_def d.scenario f) _ z e in
+    subst (λ (p : Progress). AreTargeted p.scenario) (ok_is _ z b.2)
+    (all_are (λ (u : UnitDef). is_there d.scenario.targets u.target ≡ true) (λ (u : UnitDef). is_there (d.scenario.targets ++ b.0 ∷ []) u.target ≡ true) d.scenario.units (λ u t. there_still d.scenario.targets b.0 u.target t) a)
+targeted_added d z (unit_line f) e a =
+    let b = bind_ok (unit_def d.scenario f) _ z e in
+    subst (λ (p : Progress). AreTargeted p.scenario) (ok_is _ z b.2)
+    (all_more (λ (u : UnitDef). is_there d.scenario.targets u.target ≡ true) d.scenario.units b.0 a (unit_read d.scenario (unit_line f) b.0 b.1).known)
+targeted_added d z (fill_line f) e a =
+    let b = bind_ok (fill_def d.scenario f) _ z e in
+    subst (λ (p : Progress). AreTargeted p.scenario) (ok_is _ z b.2) a
+targeted_added d z (cmd_line f) e a =
+    let b = bind_ok (full_cmd_def d.scenario d.needs f) _ z e in
+    subst (λ (p : Progress). AreTargeted p.scenario) (ok_is _ z b.2) a
+targeted_added d z (abort_line f) e a =
+    let b = bind_ok (abort_def d.scenario f) _ z e in
+    subst (λ (p : Progress). AreTargeted p.scenario) (ok_is _ z b.2) a
+targeted_added d z (reset_line f) e a =
+    let b = bind_ok (reset_def d.scenario f) _ z e in
+    subst (λ (p : Progress). AreTargeted p.scenario) (ok_is _ z b.2) a
+targeted_added d z (fault_line f) e a =
+    let b = bind_ok (fault_def d.scenario f) _ z e in
+    subst (λ (p : Progress). AreTargeted p.scenario) (ok_is _ z b.2) a
+targeted_added d z end_line e a = subst (λ (p : Progress). AreTargeted p.scenario) (ok_is d z e) a
+
+-- ---- all lines
+
+targeted_after : (d z : Progress) (x : Said) → said_after d x ≡ Ok z → AreTargeted d.scenario → AreTargeted z.scenario
+unfolding said_after
+targeted_after d z x e a =
+    let v = bind_ok (guard 2 (fits_version d.scenario.version x)) _ z e in
+    let o = bind_ok (guard 3 (in_order (rank d.last) (rank (kind_of x)))) _ z v.2 in
+    let b = bind_ok (added d x) _ z o.2 in
+    subst (λ (p : Progress). AreTargeted p.scenario) (ok_is _ z b.2) (targeted_added d b.0 x b.1 a)
+
+targeted_built : (d z : Progress) (xs : List Said) → built d xs ≡ Ok z → AreTargeted d.scenario → AreTargeted z.scenario
+targeted_built d z [] e a = subst (λ (p : Progress). AreTargeted p.scenario) (ok_is d z e) a
+targeted_built d z (x ∷ xs) e a = let b = bind_ok (said_after d x) _ z e in targeted_built b.0 z xs b.2 (targeted_after d b.0 x b.1 a)
+
+pub are_targeted : (s : ScenarioValue) → Obeys s → AreTargeted s
+are_targeted s o =
+    let b = bind_ok (built nothing (saids s)) _ s o.lawful in
+    subst AreTargeted (ok_is b.0.scenario s b.2) (targeted_built nothing b.0 (saids s) b.1 tt)
+
+-- ---- of the unit that is found
+
+found_targeted : (s : ScenarioValue) (units : List UnitDef) (t n : ℕ) (u : UnitDef) → AllByRecursion (λ (v : UnitDef). has_target s v.target ≡ true) units → find (λ (v : UnitDef). v.target == t && v.unit == n) units ≡ Some u → has_target s t ≡ true
+found_targeted s [] t n u a e = none_some u e
+found_targeted s (v ∷ units) t n u a e = go (v.target == t && v.unit == n) refl e (λ z. found_targeted s units t n u a.1 z)
+  where
+    first : (x y : Bool) → (x && y) ≡ true → x ≡ true
+    first true y z = refl
+    first false y z = z
+
+    go : (q : Bool) → (v.target == t && v.unit == n) ≡ q → cond q (Some v) (find (λ (w : UnitDef). w.target == t && w.unit == n) units) ≡ Some u → (find (λ (w : UnitDef). w.target == t && w.unit == n) units ≡ Some u → has_target s t ≡ true) → has_target s t ≡ true
+    go true f z rest = ap (has_target s) (sym (eqb-true v.target t (first (v.target == t) (v.unit == n) f))) ∙ a.0
+    go false f z rest = rest z
+
+pub unit_targeted : (s : ScenarioValue) (t n : ℕ) (u : UnitDef) → Obeys s → unit_of s t n ≡ Some u → has_target s t ≡ true
+unit_targeted s t n u o e = found_targeted s s.units t n u (are_targeted s o) e

@@ -1,0 +1,2 @@
+-- Between connections nothing has struck a process that is open and has no reply (`clear`).
+pub mod Facts

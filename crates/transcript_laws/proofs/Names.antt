@@ -1,0 +1,200 @@
+-- The names of other crates, and of this crate's definitions, that its proofs speak of, each by its home.
+-- A proof takes them by `use proofs.Names.{..}`; tools/checks/imports.py brings in those that a proof imports by their home.
+use Rattle.std.proofs as std_proofs
+pub use std_proofs.Common.{Bool, List, None, Option, Some, [], ap, arith, false, inl, inr, length, not, refl, reverse}
+pub use std_proofs.Common.{subst, suc, sym, take, true, zero, ℕ, ◌%◌, ◌&&◌, ◌++◌, ◌+◌, ◌-◌, ◌<◌, ◌==◌, ◌||◌, ◌∙◌, ◌∷◌}
+pub use std_proofs.{Common.{◌≡◌, ◌≤◌, ◌⊎◌}, lemmas.Bool.{and_from, and_parts, and_right, eq-eqb, eqb-true, not-true}}
+pub use std_proofs.lemmas.{Bool.{or_left, or_parts, or_right, Decides.{nat_tests}}, Grind.{flat_map-append}}
+pub use std_proofs.lemmas.List.{append-nil, append_assoc, length-append, length-reverse, reverse-append}
+pub use std_proofs.lemmas.Option.{same_Some}
+use Rattle.std.specs as std
+pub use std.{BTreeMap.{insert_entry, is_at}, List.{flat_map, list_any}, Map.{lookup}, Ordering.{is_eq, match_ordering}}
+pub use std.Prelude.{if◌then◌else◌, is_none, is_some, nat_lt, slice_index, slice_index_or, slice_set, ⊤}
+pub use std.declared.cmp.Ordering.{Ordering, TheVariants.{Equal, Greater, Less}}
+use Rattle.bus_due.specs.bus_base.proofs as bus_base_proofs
+pub use bus_base_proofs.Tests.{and_false, and_first, and_second, and_true, eq_self, eq_turned, implication, implied}
+pub use bus_base_proofs.Tests.{is_nothing, length_more, next_some, nil_of, nothing_below, or_false, or_second, or_true}
+pub use bus_base_proofs.Tests.{rises_some, second_false, wrong, wrong', zero_of}
+use Rattle.bus_due.specs.bus_base.specs as bus_base
+pub use bus_base.{Faults.{counted_on}, declared.{AbortKind.{AbortKind}, Event.{Event}, ProcId.{ProcId}}}
+use Rattle.bus_due.specs.bus_trace.specs as bus_trace
+pub use bus_trace.{Changes.{change_of, falls, rises}, LineSet.{LineSet}, Phases.{changes_phase, is_command, is_data}}
+pub use bus_trace.{Phases.{is_message_in, is_message_out}, Terms.{call, call_after, connection, connection_after}}
+pub use bus_trace.{Terms.{is_fault, receiver_in, receiver_of}, Trace.{bus, driven_after, drives, last_time}}
+pub use bus_trace.{View.{driven_at, union_all}, declared.{agreements.Agreement.{Agreement}, changes.Change.{Change}}}
+pub use bus_trace.declared.{connection.Connection.{Connection}, rows.Kind.{Kind, TheVariants.{Drives, Fault}}}
+pub use bus_trace.declared.{rows.Row.{Row}, selection.{Call.{Call}, Calling.{Calling}}}
+use Rattle.bus_due.specs.bus_lines.specs as bus_lines
+pub use bus_lines.Handshakes.{Handshakes, no_handshakes}
+use Rattle.bus_due.specs.cdb_codec.specs as cdb_codec
+pub use cdb_codec.{Cdb.{has_group_len}, declared.sense.TheConstants.{INITIATOR_DETECTED_ERROR, PARITY_ERROR}}
+pub use cdb_codec.declared.status.TheConstants.{CHECK_CONDITION}
+use Rattle.bus_due.specs.msg_grammar.specs as msg_grammar
+pub use msg_grammar.{Messages.{FitsOut, got_in, got_out, out_bytes}, declared.message.{Got.{Got}, MsgIn.{MsgIn}}}
+pub use msg_grammar.declared.message.MsgOut.{MsgOut}
+unfoldable pub use msg_grammar.Messages.{form_in, form_out}
+use Rattle.bus_due.specs.bus_phases.specs as bus_phases
+pub use bus_phases.Dialogue.{asynchronous, byte_crosses, byte_else, byte_in, byte_out, dialogue_after, fresh_bytes}
+pub use bus_phases.{Dialogue.{heard_with_command, phase_begins}, Half.{is_nil, left_of}, Reading.{reading_out}}
+pub use bus_phases.declared.{dialogue.Dialogue.{Dialogue}, reading.Reading.{Reading}}
+use Rattle.bus_due.specs.bus_rules.specs as bus_rules
+pub use bus_rules.Messages.{is_unknown}
+use Rattle.bus_due.specs.scenario.specs as scenario
+pub use scenario.{Value.{ScenarioValue}, Writing.{Obeys}, declared.value.{AbortDef.{AbortDef}, CmdDef.{CmdDef}}}
+pub use scenario.declared.value.{HostDef.{HostDef}, Tag.{Tag}}
+use Rattle.bus_due.specs.disk_array.proofs as disk_array_proofs
+pub use disk_array_proofs.SeatLookups.{none_at, number_same, same_bool_is}
+use Rattle.bus_due.specs.disk_array.specs as disk_array
+pub use disk_array.{ArrayHistory.{array_after, reply_in}, Execution.{Reply}, Order.{same_number, tag_number}}
+pub use disk_array.Processes.{command_at, process_by, process_if, same_bool, same_id}
+use Rattle.bus_due.specs.bus_story.proofs as bus_story_proofs
+pub use bus_story_proofs.{CarriedLists.{carried_id, carried_with}, SameBytes.{bytes_are}, StorySteps.{check_keeps}}
+pub use bus_story_proofs.StorySteps.{ends_checks, ends_keep, event_sent, events_link, events_sent, first_link}
+pub use bus_story_proofs.StorySteps.{message_id, out_link}
+use Rattle.bus_due.specs.bus_story.specs as bus_story
+pub use bus_story.BusState.{BusState, RowReading, bus_state_after, change_by, change_to, message_in, message_out}
+pub use bus_story.{BusState.{row_reading, whole_in, whole_out}, CarriedBytes.{Area, CarriedBytes, area_with}}
+pub use bus_story.CarriedBytes.{bytes_with, carried_after_byte, carried_after_fault, carried_after_message, carried_at}
+pub use bus_story.CarriedBytes.{carried_of, carried_or_nothing, is_status_phase, is_whole_block, nothing_carried}
+pub use bus_story.{CarriedBytes.{with_carried, with_restored_pointers}, HistoryEvents.{abort_line_at}}
+pub use bus_story.HistoryEvents.{abort_line_events, bus_free_events, carried_if, connection_events, end_events}
+pub use bus_story.HistoryEvents.{is_refuse, item_abort_events, link_events, phase_events, row_events_by, status_event}
+pub use bus_story.Items.{Item, Sent, abort, command_id, command_item, has_item, is_clash, is_done, is_open}
+pub use bus_story.{Items.{is_tag_clash, process, same_item, sense_from, sense_id, sense_item}, Links.{LastMessage}}
+pub use bus_story.Links.{Link, abortive, complete, disconnect, is_of_nexus, is_open_sense, last_in, last_out}
+pub use bus_story.{Links.{link_after_name, link_of, named_item_from, plain}, PairAgreements.{agreement_in}}
+pub use bus_story.{Right.{same_bytes}, Story.{Ending, Story, by_abort, by_reset, by_status, is_aborted}}
+pub use bus_story.Story.{is_sense_stopped, marked_refused, marked_shown, story_after_event, story_after_events}
+pub use bus_story.{Story.{story_with_end, story_with_ends, story_with_over}, TraceHistory.{aim_of}}
+pub use bus_story.TraceHistory.{carried_after_byte_if, carried_after_fault_if, carried_after_message_if}
+pub use bus_story.TraceHistory.{is_parity_error, story, story_after_byte, story_after_connection, story_after_crossing}
+pub use bus_story.TraceHistory.{story_after_fault, story_after_in, story_after_message, story_after_out, story_by}
+pub use bus_story.TraceHistory.{story_by_change, story_in_connection, story_on_bus, story_on_free_bus, story_with}
+pub use bus_story.TraceHistory.{story_with_carried, story_with_history, story_with_restored, story_with_sent}
+pub use bus_story.TraceHistory.{trace_history}
+use Rattle.bus_due.specs.bus_dialogue.specs as bus_dialogue
+pub use bus_dialogue.{Arrivals.{policy_of}, DataRuns.{run_length}, Exchange.{Exchange, Speech, attends_with}}
+pub use bus_dialogue.Exchange.{bytes_of_messages, from_byte, message_bytes, no_messages, one_message}
+pub use bus_dialogue.Exchange.{plan_after_message, plan_anew, speech_after_byte, speech_after_request, speech_of}
+pub use bus_dialogue.{Exchange.{struck_plan}, Hearing.{begun}, NextPhase.{Serving, after_messages, after_refusal}}
+pub use bus_dialogue.NextPhase.{bus_free, leaving_by, message_out_leaving, message_repetition, next_data_phase}
+pub use bus_dialogue.{NextPhase.{phase_entry, phase_leaving, phase_of, recovery, with_task}, PhaseBytes.{run_length_if}}
+pub use bus_dialogue.{Planning.{cause_after, first_plan, plan_in_message_out}, Speaking.{speech_in_phase, words_after}}
+pub use bus_dialogue.Words.{abort_bytes, abort_opening, host_answer, is_name, is_naming, naming_messages, offer_if}
+pub use bus_dialogue.{Words.{parity_error, process_opening, tag_bytes, tag_named}, declared.exchange.Cause.{Cause}}
+pub use bus_dialogue.declared.exchange.{Hearing.{Hearing}, Leaving.{Leaving}, Messages.{Messages}, Next.{Next}}
+pub use bus_dialogue.declared.exchange.{Phase.{Phase}, Plan.{Plan}, Said.{Said}, Task.{Task}}
+use Rattle.bus_due.proofs as bus_due_proofs
+pub use bus_due_proofs.{Plains.{run_state_plain}, SameEvents.{kinds_are}, Stills.{still_talk}}
+use Rattle.bus_due.specs as bus_due
+pub use bus_due.{Defs.{host_of, opening, target_def_of}, Next.{IsPrompt}, Plain.{AreOfDevices, IsPlain}}
+pub use bus_due.RunState.{RunState, bus_of, item_of, or_start, process_item, process_served}
+pub use bus_due.RunSteps.{exchange_after, item_if, leaving_of, may_negotiate, messages_if, run_state, run_state_after}
+pub use bus_due.{RunSteps.{served_after}, Sights.{hearing_of, leaving, serving_of}, Tasks.{task_if, task_of}}
+pub use bus_due.{Telling.{same_kind}, Wants.{ready_of}}
+use Rattle.progress_laws.specs.scsi_device.proofs as scsi_device_proofs
+pub use scsi_device_proofs.{FitLines.{obeys_fits, units_are}, PhaseLines.{command_is}}
+use Rattle.progress_laws.specs.scsi_device.specs as scsi_device
+pub use scsi_device.{Heard.{is_command_phase}, Lines.{AreUnits}}
+use Rattle.progress_laws.specs.target_units.proofs as target_units_proofs
+pub use target_units_proofs.LiveQueue.{id_turned}
+use Rattle.progress_laws.specs.bus_books.proofs as bus_books_proofs
+pub use bus_books_proofs.{Aims.{aims_are}, Areas.{with_command_byte}, Blocks.{same_self}, CarriedRows.{process_id}}
+pub use bus_books_proofs.{Given.{in_is_known, in_is_whole}, Gives.{byte_messages, counted, few_messages, in_io}}
+pub use bus_books_proofs.{Gives.{not_both}, Hearable.{heard_next}, InConnection.{InConnection, SamePhase}}
+pub use bus_books_proofs.{InConnection.{in_connection, reading_is, same_phase_is}, Knows.{from_nameless, link_after}}
+pub use bus_books_proofs.{Knows.{nameless_item, others_nameless}, Leavings.{left_messages}, Lookups.{id_is, put_other}}
+pub use bus_books_proofs.{Lookups.{put_own, self_id}, Reading.{nil_is}, RowTies.{item_if_is}, Saying.{says_byte}}
+pub use bus_books_proofs.Saying.{says_more}
+use Rattle.progress_laws.specs.bus_books.specs as bus_books
+pub use bus_books.{Accounts.{is_open_in}, Giving.{AreGiven, Gives, OnMessage, OnMessages}, Hearing.{LeavesWhole}}
+pub use bus_books.{Hearing.{is_in_phase, is_out_phase}, Items.{IsItem, is_process}, Knowing.{IsNoName, Knows}}
+pub use bus_books.Listening.{Understanding, form_messages, half_after, nothing_understood, understood, understood_byte}
+pub use bus_books.{RowTests.{same_item_if}, Rows.{IsRowIn, RowKind, crosses, reading_in, still, strikes, turns}}
+pub use bus_books.Speaking.{AreWordsFor, AreWordsHeard, IsAboutToSpeak, IsSpeaking, Speaks, answers, opens, refuses}
+pub use bus_books.{Speaking.{rejects_data, rejects_status}, Tests.{is_selected}, Traces.{Begins, IsReadyFor, RowOf}}
+pub use bus_books.Traces.{begins}
+use Rattle.progress_laws.specs.bus_laws.proofs as bus_laws_proofs
+pub use bus_laws_proofs.{Apart.{change_plain}, Prompt.{least_is}, Rows.{fault_change}}
+use Rattle.progress_laws.specs.bus_laws.specs as bus_laws
+pub use bus_laws.Ends.{BeginsConnection, EndLines, Linked, by_reselection, by_selection, connected_bus, ends_selected}
+pub use bus_laws.{Ends.{initiator_side, target_side}, Rows.{row_of_fault, row_of_lines}}
+use Rattle.progress_laws.specs.link_laws.proofs as link_laws_proofs
+pub use link_laws_proofs.Moves.{initiator_moves, no_rise, phase_same, target_moves}
+use Rattle.progress_laws.specs.link_laws.specs as link_laws
+pub use link_laws.{Phases.{ends}, Pulses.{run_count}}
+use Rattle.progress_laws.specs.trace_laws.proofs as trace_laws_proofs
+pub use trace_laws_proofs.Closes.{Counts.{counted_row, first_handshakes, turn_handshakes}, Stays.{complete_is}}
+pub use trace_laws_proofs.{Commands.{Messages.{crossed_else}, Turns.{is_command_next}}, Common.Impossible.{none_some}}
+pub use trace_laws_proofs.Common.PhaseLines.{command_phase, in_out, in_phase, message_line, out_in, out_line, out_lines}
+pub use trace_laws_proofs.{Common.PhaseLines.{out_no_status, out_phase}, Failures.Facts.{RestoresNone, is_restore}}
+pub use trace_laws_proofs.{Failures.Left.{fails_as_left}, Items.{Facts.{aimed_next, beginning}, Fresh.{calm_after}}}
+pub use trace_laws_proofs.Items.{Fresh.{calm_before, items_found, items_fresh, items_sent}, Open.{item_is, next_free}}
+pub use trace_laws_proofs.Items.{Open.{opened, same_process}, Over.{Grows, events_grow, grows_same, in_append}}
+pub use trace_laws_proofs.Items.{Over.{not_grown, reset_senses}, Row.{LinkAfter, heard_link, hears, inside_sent}}
+pub use trace_laws_proofs.Items.{Row.{link_crossed, link_still, over_after, says, stays}, Sent.{carried_of_item}}
+pub use trace_laws_proofs.{Items.Sent.{free_keeps, more_has, own_has, restored_sent}, Last.Facts.{last_or}}
+pub use trace_laws_proofs.Lines.Connections.{ConnectionRow, GoingRow, RowKindOf, begins_now, connection_row, goes_now}
+pub use trace_laws_proofs.Lines.{Connections.{going_row, row_kind, stage_of_connection}, Crossings.{RowFacts, Stops}}
+pub use trace_laws_proofs.Lines.{Crossings.{ends_here}, Joint.{NextStood, link_phase, link_unbegun}}
+pub use trace_laws_proofs.Lines.{Plans.{is_in_message}, Rows.{LinkRow, is_unasked}, UnderRst.{raises_or_stands}}
+pub use trace_laws_proofs.Named.Bytes.{Tagged, all_bytes, bare, identify_got, names_first, names_left, numbered}
+pub use trace_laws_proofs.Named.{Bytes.{tagged_is}, Rows.{in_lines}, Steps.{out_last}, Turns.{refusal_is}}
+pub use trace_laws_proofs.Offers.{Bytes.{take_front}, Leavings.{all_said, parity_said}, Steps.{left_is}}
+pub use trace_laws_proofs.{Offers.Turns.{out_by_phase}, Pointers.{Ends.{reset_over}, Steps.{fault_id, in_link}}}
+pub use trace_laws_proofs.Pointers.{Steps.{message_byte, named_story}, Stories.{story_row}, Waits.{change_over}}
+pub use trace_laws_proofs.Runs.{Asks.{answers_all, out_phase as data_out_phase}, Facts.{task_here}}
+pub use trace_laws_proofs.{Sent.Facts.{sent_asks}, Statuses.Leavings.{Completes, completes_from, in_status, left_alone}}
+pub use trace_laws_proofs.{Statuses.Leavings.{refused as refused_again}, Talks.Bytes.{on_message}}
+pub use trace_laws_proofs.{Talks.Steps.{last_before}, Tells.Ends.{goes_on, naming_goes_on, none_heard}}
+pub use trace_laws_proofs.Tells.{Facts.{all_given, front_length, left_tells}, Rows.{IsHeard, is_heard, never_ends}}
+pub use trace_laws_proofs.{Tells.Rows.{no_events, unbegun_lines}, Undone.Answers.{SamePlan, plan_stays}}
+pub use trace_laws_proofs.{Undone.Facts.{in_of}, Whole.{Whole, standing_next, whole}, Writes.Premises.{some_there}}
+use Rattle.progress_laws.specs.trace_laws.specs as trace_laws
+pub use trace_laws.{DataPointers.{is_marked}, ItemFacts.{AreChecked, IsChecked, IsNext, NoClash, is_abort}}
+pub use trace_laws.{ItemFacts.{is_command as is_next_command, is_sense}, ItemTalks.{IsTaken, TalksBy, talk_of}}
+pub use trace_laws.{LastTalks.{LastBy, LastGiven, closed, still_stays, to_close, to_save}, Named.{Named, Names, all}}
+pub use trace_laws.{Named.{known, refused, said, tag_alone}, Offers.{IsHeardOut, answers_it, detects, is_detected}}
+pub use trace_laws.{Offers.{repeats}, Places.{IsUntouched, PlacedIf, PlacedIn}, Statuses.{CarriesBy, HasStatus}}
+pub use trace_laws.Tells.{IsClosing, IsServed, LastIn, Tells, is_short}
+use Rattle.progress_laws.proofs as progress_laws_proofs
+pub use progress_laws_proofs.{Answered.{sense_left}, DebtNext.{ends_open, known_served}, DebtRows.{NoEnds, Shown}}
+pub use progress_laws_proofs.{DebtRows.{completes, no_ends, row_shown}, OwedRows.{changed}, QueueRows.{free_over}}
+use Rattle.bus_transcript.proofs as bus_transcript_proofs
+pub use bus_transcript_proofs.{Inside.{name_same, status_name}, Nexuses.{by_key}, Resets.{change_same, row_bus}}
+use Rattle.bus_transcript.specs as bus_transcript
+pub use bus_transcript.Accounts.{AccountValue, account_after, account_after_all, account_of, after_in, arrived}
+pub use bus_transcript.{Accounts.{is_whole, restored, with_block, with_cdb, with_item}, Events.{TellsHistory}}
+pub use bus_transcript.Events.{event_shown, items_if, items_named, items_told, name_begun, name_sent, named_events}
+pub use bus_transcript.{Events.{named_if, names_begun, refused_name, refused_names, same_name}, Keys.{Key, key_cmp}}
+pub use bus_transcript.{Keys.{key_of}, Nexus.{departure_out, kind_of, last_abort, named, no_summary, summary_after}}
+pub use bus_transcript.Nexus.{summary_in, summary_of, summary_out, tag_in, tag_out, unit_in, unit_out}
+pub use bus_transcript.{Numbers.{next_number}, Opened.{OpenedValue, broken_off, data_parts, held_part, incoming_part}}
+pub use bus_transcript.Opened.{is_complete, is_completion, messages_of, opened_connection, phase_entered, phase_over}
+pub use bus_transcript.Opened.{phase_parts, settled, spoken, with_all_out, with_crossing, with_fault, with_in}
+pub use bus_transcript.Opened.{with_in_if, with_out, with_part, with_phase, with_row, with_said, with_still_row}
+pub use bus_transcript.Processes.{IsLast, process_after, process_of, same_nexus, with_last, with_process}
+pub use bus_transcript.Rows.{TranscriberValue, abort_item, account_parts, closed_if, closed_with, departed, departed_if}
+pub use bus_transcript.Rows.{finished_if, free_items, name_of, on_bus, on_free_bus, reset_items, transcribed}
+pub use bus_transcript.Rows.{transcript_of, unanswered_by, unanswered_items, under_reset, with_bus, with_items}
+pub use bus_transcript.declared.{item.Name.{Name}, part.{Incoming.{Incoming, TheVariants.{Broken}}, Part.{Part}}}
+pub use bus_transcript.declared.part.Part.TheVariants.{Command, Completion, Status, StatusPhase}
+pub use bus_transcript.declared.{process.Process.{Process}, summary.Departure.{Departure, TheVariants.{Abortion}}}
+pub use bus_transcript.declared.summary.{Departure.TheVariants.{Leave, Loss}, Summary.{Summary}}
+unfoldable pub use bus_transcript.Rows.{by_change, closed_by}
+use Rattle.transcript_laws.specs as transcript_laws
+pub use transcript_laws.{Keeping.{HasProcess, IsKept}, Numbered.{AreDistinct, AreNumbered, AreOther, HasLast, OnNames}}
+pub use transcript_laws.Parts.{are_talk, base_parts, held_parts, is_known, is_of, is_talk, is_void, name_process}
+pub use transcript_laws.{Parts.{nexus_of, out_parts, parts_now, summary_by}, Past.{AreApart, AreEventsOf}}
+pub use transcript_laws.Past.{AreEventsSent, AreOwnEvents, AreRefused, IsEventOf, IsEventSent, IsOwnEvent, IsPast}
+pub use transcript_laws.{Past.{items_by}, RowTests.{are_named, arrives_first, closing_parts, ends_all, fit, fits_bus}}
+pub use transcript_laws.RowTests.{fits_crossing, fits_end, fits_first, fits_in, fits_linked, fits_on, fits_out}
+pub use transcript_laws.RowTests.{fits_reading, fits_row, fits_still, fits_turn, gets_known, has_status, is_abortion}
+pub use transcript_laws.RowTests.{is_alike, is_alone, is_broken, is_departure, is_empty, is_fresh, is_line, is_named}
+pub use transcript_laws.RowTests.{is_no_abort, is_open_item, is_open_process, leaves_talk, names_item, says_first}
+pub use transcript_laws.{RowTests.{shares_nexus, undoes_nothing}, Serving.{IsAsBegun, IsBlank, IsRefused, IsServing}}
+pub use transcript_laws.{Serving.{marked_by, marked_with}, Standing.{AreAlike, AreKept, IsAlone, IsBegun, IsFrom}}
+pub use transcript_laws.Standing.{Stage, Standing, StandsApart, StandsBy, StandsLinked, again, anew, apart, first, kept}
+pub use transcript_laws.{Standing.{linked, no_process, of_abort, of_none, of_process, sent_order}, Told.{IsAccountOf}}
+pub use transcript_laws.Told.{IsKeptOf, IsMarked, account_base, first_byte, has_answer, has_refusal, is_answer}
+pub use transcript_laws.Told.{is_listed, is_refusal, shown_items}
