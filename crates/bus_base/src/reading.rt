@@ -12,7 +12,7 @@ use super::input::Source;
 use std::alloc::{AllocError, Global};
 
 /// How many bytes the buffer holds through which a source is read.
-pub const BUFFER: usize = 4096;
+pub const BUFFER: usize = 65_536;
 
 /// Why a source is not read on.
 #[derive(Clone, Copy, Debug, PartialEq, Eq)]

@@ -1,17 +1,19 @@
 -- A row that changes data lines, REQ and ACK alone, and passes the short test, breaks no rule.
-use Rattle.std.proofs.Common.{ℕ, ◌≡◌, ◌+◌, ◌%◌, ◌++◌, [], Bool, true, false, List, ◌∷◌, Option, Some, None, refl, sym, subst, ◌∙◌, arith}
-use Rattle.std.specs.Prelude.{not, ◌&&◌, ◌||◌, ◌==◌, is_some, is_none, nat_le, max, if◌then◌else◌}
+use Rattle.std.proofs.Common.{◌⊎◌, inl, inr, ℕ, ◌≡◌, ◌+◌, ◌%◌, ◌++◌, [], Bool, true, false, List, ◌∷◌, Option, Some, None, refl, sym, subst, ◌∙◌, arith}
+use Rattle.std.specs.Prelude.{not, ◌&&◌, ◌||◌, ◌==◌, is_some, is_none, nat_le, nat_lt, max, if◌then◌else◌}
 use Rattle.bus_trace.specs.LineSet.{LineSet, same, same_set, none, has_odd_parity}
 use Rattle.bus_trace.specs.declared.Row.{Row}
 use Rattle.bus_trace.specs.declared.Kind.{Kind}
 use Rattle.bus_trace.specs.declared.Kind.TheVariants.{Drives, Fault}
-use Rattle.bus_trace.specs.declared.delays.TheConstants.{SET_UP_TIME, BUS_SETTLE_DELAY, BUS_CLEAR_DELAY, RESET_HOLD_TIME, QUIET_TIME, DATA_RELEASE_DELAY, DESKEW_DELAY, TURN_DELAY}
+use Rattle.bus_trace.specs.declared.delays.TheConstants.{SET_UP_TIME, TWO_DESKEW, BUS_SETTLE_DELAY, BUS_CLEAR_DELAY, RESET_HOLD_TIME, QUIET_TIME, DATA_RELEASE_DELAY, DESKEW_DELAY, TURN_DELAY}
 use Rattle.bus_phases.specs.declared.attention.Duty.{Duty}
 use Rattle.bus_phases.specs.declared.attention.Duty.TheVariants as duties
 use Rattle.bus_rules.specs.declared.course.Course.{Course}
 use Rattle.bus_phases.specs.declared.dialogue.Dialogue.{Dialogue}
 use Rattle.bus_phases.specs.declared.raises.Raises.{Raises}
 use Rattle.bus_trace.specs.declared.agreements.Agreement.{Agreement}
+use Rattle.bus_trace.specs.declared.agreements.TransferTimes.{TransferTimes}
+use Rattle.bus_phases.specs.declared.pulses.Pulses.{Pulses}
 use Rattle.std.proofs.lemmas.Bool.{and_parts, and_from, not-true, and_right}
 use Rattle.std.proofs.lemmas.Bool.Decides.{nat_tests}
 use Rattle.bus_trace.specs.Trace.{IsViewOf, drives, driven_after, since, since_line}
@@ -21,7 +23,7 @@ use Rattle.bus_trace.specs.View.{View}
 use Rattle.bus_trace.specs.Trace.{phase_time}
 use Rattle.bus_phases.specs.declared.reading.Reading.TheVariants.{NoMessage}
 use Rattle.bus_rules.specs.declared.seen.Seen.{Seen}
-use Rattle.bus_trace.specs.Changes.{rises, falls, implies, same_phase, raises_none, raises_only, is_within, drives_data}
+use Rattle.bus_trace.specs.Changes.{rises, falls, implies, same_phase, same_stage, raises_none, raises_only, is_within, drives_data}
 use Rattle.bus_rules.specs.Order.{is_in_order, is_news_of}
 use Rattle.bus_rules.specs.FreeBus.{is_entry, enters_well, contends_well}
 use Rattle.bus_rules.specs.Selection.{others_release, is_left, keeps_winner_of, keeps_calling_of, keeps_answer_of, keeps_end_of, keeps_time_out_of, hands_over, takes_over}
@@ -29,10 +31,10 @@ use Rattle.bus_trace.specs.Terms.{is_fault, free_since, raised, raised_next, arb
 use Rattle.bus_phases.specs.Dialogue.{asynchronous, agreed, closed_agreement_by, dialogue, dialogue_after, byte_crosses, byte_out, byte_in, heard_with_command, phase_begins}
 use Rattle.bus_rules.specs.Reset.{is_reset, only_rst}
 use Rattle.bus_trace.specs.Phases.{is_data, is_command, is_message_out, is_message_in, is_reserved, changes_phase}
-use Rattle.bus_phases.specs.Phases.{is_attention_held, duty_left, duty_after, no_pulses, pulses_on, pulses_after, turned_after}
+use Rattle.bus_phases.specs.Phases.{is_attention_held, duty_if_held, duty_left, duty_after, no_pulses, pulses_on, pulses_after, turned_after}
 use Rattle.bus_rules.specs.Connected.{keeps_sides, keeps_lines_of, keeps_data_direction_of, or_new, has_no_initiator_line, has_no_target_line, raises_data, raises_in_turn, initiator_released_of, waits_for_turn, target_released_of, frees_well}
-use Rattle.bus_rules.specs.Messages.{is_owed, is_none_or_all, is_unknown, is_opening, same_bool, opens_well, may_take}
-use Rattle.bus_rules.specs.Transfer.{crosses, is_pulsed, is_asynchronous_transfer, data_stand_since, changes_data, holds_still, is_after, pulses_well, last_crossing}
+use Rattle.bus_rules.specs.Messages.{negates_atn_well, atn_false_since, is_owed, is_none_or_all, is_unknown, is_opening, same_bool, opens_well, may_take}
+use Rattle.bus_rules.specs.Transfer.{alternates, crosses, is_pulsed, is_asynchronous_transfer, data_stand_since, changes_data, holds_still, is_after, pulses_well, last_crossing}
 use Rattle.bus_trace.specs.Agreements.{times_of}
 use Rattle.bus_phases.specs.msg_grammar.specs.Messages.{got_out, got_in}
 use Rattle.bus_phases.specs.Reading.{reading_of, reading_out, reading_in}
@@ -40,7 +42,7 @@ use Rattle.bus_rules.specs.Seen.{seen, seen_with, drives_bsy, initiator_of, init
 use Rattle.bus_trace.specs.Changes.{change_of}
 use Rattle.bus_trace.proofs.Sets.{same_eq}
 use Rattle.bus_rules.specs.Rules.{test, keeps, judged_rules, lowest_broken, broken_rule}
-use Rattle.bus_rules.specs.DataRows.{is_data_row, crosses_in, keeps_side, asks_soon, is_in_turn, has_turned, stand_since, is_shaken, is_pulsed_well, Standing, standing_after, standing_at, may_cross, transfers_well, is_move, passes, passes_of, passes_in, duty_in_data, course_after_transfer}
+use Rattle.bus_rules.specs.DataRows.{crosses_in, is_calm, is_calm_row, keeps_side, has_settled, is_in_turn, has_turned, stand_since, may_ask, is_apart, last_pulse, crosses_well, shakes_well, pulses_in_turn, moves_well, Standing, standing_after, standing_at, may_cross, is_move, passes, passes_of, passes_in, duty_in_data, course_after_transfer}
 use Rattle.bus_phases.specs.Dialogue.{takes_data}
 use Rattle.bus_phases.specs.Tables.{IsRaisesOf}
 use Rattle.bus_rules.specs.Judging.{Running, IsCourseOf, IsTermsOf}
@@ -93,14 +95,137 @@ standing_of s = record {
   begun = s.begun;
 }
 
+-- ---- what the rules ask of such a row
+
+-- REQ rises once the phase has settled, while no MESSAGE OUT is owed and the target alone drives BSY.
+abbrev asks_soon : Connection → Standing → Change → ℕ → Bool
+asks_soon n s c time =
+    implies (rises c.before.req c.after.req) (nat_le (max (phase_time s.times) n.began + BUS_SETTLE_DELAY) time && not (is_owed s.duty) && not s.initiator_bsy)
+
+-- A byte crosses asynchronously.
+abbrev is_shaken : Change → ℕ → ℕ → Bool
+is_shaken c since time =
+    alternates c && implies (crosses_in c) (nat_le (stand_since c since time + SET_UP_TIME) time) && implies (holds_still c.before) (not (changes_data c))
+
+-- A byte crosses by pulses.
+abbrev keeps_count : ℕ → Pulses → Change → Bool
+keeps_count offset p c =
+    implies (rises c.before.req c.after.req) (may_ask offset p) && implies (rises c.before.ack c.after.ack) (nat_lt p.ack p.req)
+
+abbrev is_timed : TransferTimes → Pulses → Change → ℕ → ℕ → ℕ → ℕ → Bool
+is_timed t p c req_since ack_since since time =
+    (pulses_well t c.before.req c.after.req req_since p.last_req time && pulses_well t c.before.ack c.after.ack ack_since p.last_ack time)
+    && (implies (crosses_in c) (nat_le (stand_since c since time + t.set_up) time) && implies (changes_data c) (is_after (last_pulse p c) t.hold time))
+
+abbrev is_pulsed_well : Agreement → Pulses → Change → ℕ → ℕ → ℕ → ℕ → Bool
+is_pulsed_well a p c req_since ack_since since time = keeps_count a.offset p c && is_timed (times_of a.period) p c req_since ack_since since time
+
+-- A DATA phase under an agreement with an offset uses pulses.
+abbrev transfers_well : Standing → Change → ℕ → Bool
+transfers_well s c time =
+    if is_data c.before && not (s.agreement.offset == 0) then is_pulsed_well s.agreement s.pulses c s.times.req s.times.ack s.data_since time
+    else is_shaken c s.data_since time
+
+first_of_two : (p a b : Bool) → implies p (a && b) ≡ true → (implies p a ≡ true) × (implies p b ≡ true)
+first_of_two true a b e = and_parts a b e
+first_of_two false a b e = (refl, refl)
+
+-- the test asks it by what moves
+by_io : (io r a x : Bool) → implies r (implies io x) ≡ true → implies a (io || x) ≡ true → implies (if io then r else a) x ≡ true
+by_io true r a x h k = h
+by_io false r a x h k = k
+
+none_held : (q : Bool) → implies q false ≡ true → not q ≡ true
+none_held true e = e
+none_held false e = refl
+
+still_held : (d h : Bool) → implies d (not h) ≡ true → implies h (not d) ≡ true
+still_held d true e = none_held d e
+still_held d false e = refl
+
+abbrev MovesKept : Connection → Standing → Change → ℕ → Type 0
+MovesKept n s c time =
+    (asks_soon n s c time ≡ true) × (implies (crosses_in c) (may_cross s c) ≡ true) × (transfers_well s c time ≡ true)
+
+moves_kept : (n : Connection) (s : Standing) (c : Change) (time : ℕ) → moves_well n s c time ≡ true → MovesKept n s c time
+moves_kept n s c time e = go (is_data c.before && not (s.agreement.offset == 0)) e
+  where
+    t : TransferTimes
+    t = times_of s.agreement.period
+
+    go : (p : Bool) → (if p then pulses_in_turn n s c (times_of s.agreement.period) time else shakes_well n s c time) ≡ true
+        → (asks_soon n s c time ≡ true) × (implies (crosses_in c) (may_cross s c) ≡ true)
+        × ((if p then is_pulsed_well s.agreement s.pulses c s.times.req s.times.ack s.data_since time else is_shaken c s.data_since time) ≡ true)
+    go true h =
+        let lines = and_parts _ _ h in
+        let ack_falls = and_parts _ _ lines.0 in
+        let ack_rises = and_parts _ _ ack_falls.0 in
+        let req = and_parts _ _ ack_rises.0 in
+        let r = rises c.before.req c.after.req in
+        let a = rises c.before.ack c.after.ack in
+        let ask = may_ask s.agreement.offset s.pulses in
+        let apart = is_apart t s.times.req s.pulses.last_req time in
+        let answer = nat_lt s.pulses.ack s.pulses.req in
+        let spaced = is_apart t s.times.ack s.pulses.last_ack time in
+        let byte = crosses_well s c t.set_up time in
+        let rise = first_of_two r (has_settled n s time && (ask && apart)) (implies c.before.io byte) req.0 in
+        let settled = first_of_two r (has_settled n s time) (ask && apart) rise.0 in
+        let asked = first_of_two r ask apart settled.1 in
+        let reply = first_of_two a (answer && spaced) (c.before.io || byte) ack_rises.1 in
+        let answered = first_of_two a answer spaced reply.0 in
+        let stands = nat_le (stand_since c s.data_since time + t.set_up) time in
+        let crossed = first_of_two (crosses_in c) (may_cross s c) stands (by_io c.before.io r a byte rise.1 reply.1) in (
+          settled.0,
+          crossed.0,
+          and_from _ _ (and_from _ _ asked.0 answered.0)
+              (and_from _ _ (and_from _ _ (and_from _ _ asked.1 req.1) (and_from _ _ answered.1 ack_falls.1)) (and_from _ _ crossed.1 lines.1)),
+        )
+    go false h =
+        let lines = and_parts _ _ h in
+        let ack_falls = and_parts _ _ lines.0 in
+        let ack_rises = and_parts _ _ ack_falls.0 in
+        let req = and_parts _ _ ack_rises.0 in
+        let r = rises c.before.req c.after.req in
+        let a = rises c.before.ack c.after.ack in
+        let byte = crosses_well s c SET_UP_TIME time in
+        let rise = first_of_two r (has_settled n s time && not c.before.ack) (implies c.before.io byte) req.0 in
+        let settled = first_of_two r (has_settled n s time) (not c.before.ack) rise.0 in
+        let reply = first_of_two a c.before.req (c.before.io || byte) ack_rises.1 in
+        let stands = nat_le (stand_since c s.data_since time + SET_UP_TIME) time in
+        let crossed = first_of_two (crosses_in c) (may_cross s c) stands (by_io c.before.io r a byte rise.1 reply.1) in (
+          settled.0,
+          crossed.0,
+          and_from _ _ (and_from _ _ (and_from _ _ (and_from _ _ settled.1 req.1) (and_from _ _ reply.0 ack_falls.1)) crossed.1)
+              (still_held (changes_data c) (holds_still c.before) lines.1),
+        )
+
 -- ---- what such a row leaves as it is
+
+-- A DATA phase, or another one in which nothing is told.
+abbrev pub Calm : Change → Type 0
+Calm c = (is_data c.before ≡ true) ⊎ ((c.before.cd ≡ true) × (c.before.atn ≡ false) × (crosses_in c ≡ false))
+
+calm_is : (c : Change) → is_calm c ≡ true → Calm c
+calm_is c e = go (is_data c.before) refl e
+  where
+    go : (d : Bool) → is_data c.before ≡ d → (d || (c.before.cd && not c.before.atn && not (crosses_in c))) ≡ true → Calm c
+    go true ed h = inl ed
+    go false ed h =
+        let two = and_parts _ _ h in
+        let first = and_parts _ _ two.0 in
+        inr (first.0, not-true _ first.1, not-true _ two.1)
+
+no_msg : (c : Change) → is_data c.before ≡ true → c.before.msg ≡ false
+no_msg c e = not-true _ (and_parts _ _ e).0
+
+no_cd : (c : Change) → is_data c.before ≡ true → c.before.cd ≡ false
+no_cd c e = not-true _ (and_parts _ _ e).1
 
 pub record IsQuiet (c : Change) : Type 0 where
   pub bsy : c.before.bsy ≡ true
   pub sel : c.before.sel ≡ false
   pub rst : c.before.rst ≡ false
-  pub msg : c.before.msg ≡ false
-  pub cd : c.before.cd ≡ false
+  pub calm : Calm c
   pub bsy_after : c.before.bsy ≡ c.after.bsy
   pub sel_after : c.before.sel ≡ c.after.sel
   pub rst_after : c.before.rst ≡ c.after.rst
@@ -112,14 +237,13 @@ pub record IsQuiet (c : Change) : Type 0 where
   pub own_rst : c.own.rst ≡ c.next.rst
   pub own_rst_false : c.own.rst ≡ false
 
-pub is_quiet : (c : Change) → is_data_row c ≡ true → IsQuiet c
+pub is_quiet : (c : Change) → is_calm_row c ≡ true → IsQuiet c
 is_quiet c e =
-    let a = and_parts _ _ e in
+    let all = and_parts _ _ e in
+    let a = and_parts _ _ all.0 in
     let b = and_parts _ _ a.0 in
-    let bus = and_parts _ _ b.0 in
-    let off = and_parts _ _ bus.0 in
+    let off = and_parts _ _ b.0 in
     let on = and_parts _ _ off.0 in
-    let phase = and_parts _ _ bus.1 in
     let move = and_parts _ _ b.1 in
     let held = and_parts _ _ move.0 in
     let hold = and_parts _ _ held.0 in
@@ -134,8 +258,7 @@ is_quiet c e =
       bsy = on.0;
       sel = not-true _ on.1;
       rst = not-true _ off.1;
-      msg = not-true _ phase.0;
-      cd = not-true _ phase.1;
+      calm = calm_is c all.1;
       bsy_after = same_eq _ _ first.0;
       sel_after = same_eq _ _ first.1;
       rst_after = same_eq _ _ hold.1;
@@ -222,6 +345,10 @@ crossing n c = go c.before.io (rises c.before.req c.after.req) (rises c.before.a
     go false r true = refl
     go false r false = refl
 
+no_reserved : (c : Change) → Calm c → is_reserved c.before ≡ false
+no_reserved c (inl h) = λ i. no_msg c h i && not c.before.cd
+no_reserved c (inr h) = and_right c.before.msg (not c.before.cd) (λ i. not (h.0 i))
+
 lines_kept : (s : Seen) (row : Row) (n : Connection) → IsQuiet s.change → keeps_side n row.dev s.change.next ≡ true → asks_soon n (standing_of s) s.change row.time ≡ true → keeps_lines_of s row (Some n) ≡ true
 lines_kept s row n q side asks =
     let still = no_change s q in
@@ -229,7 +356,7 @@ lines_kept s row n q side asks =
   where
     go : (r : Bool) → implies r (nat_le (max (phase_time s.times) n.began + BUS_SETTLE_DELAY) row.time && not (is_owed s.duty) && not s.initiator_bsy) ≡ true
         → implies r (not (changes_phase s.change) && not (is_reserved s.change.before) && nat_le (max (phase_time s.times) n.began + BUS_SETTLE_DELAY) row.time) ≡ true
-    go true e = let soon = (and_parts _ _ (and_parts _ _ e).0).0 in λ i. not (no_change s q i) && not (q.msg i && not s.change.before.cd) && soon i
+    go true e = let soon = (and_parts _ _ (and_parts _ _ e).0).0 in λ i. not (no_change s q i) && not (no_reserved s.change q.calm i) && soon i
     go false e = refl
 
 asking_kept : (s : Seen) (n : Connection) (time : ℕ) → asks_soon n (standing_of s) s.change time ≡ true → (implies (rises s.change.before.req s.change.after.req) (not s.initiator_bsy) ≡ true) × (implies (rises s.change.before.req s.change.after.req && is_owed s.duty) (is_message_out s.change.before) ≡ true)
@@ -246,9 +373,23 @@ reselection_kept : (s : Seen) (row : Row) (n : Connection) → IsQuiet s.change 
 reselection_kept s row n q alone conn asks =
     and_from _ _ (and_from _ _ (λ i. hands_over s row (alone i)) ((λ i. takes_over s row (conn i)) ∙ taken_over s row n q)) (asking_kept s n row.time asks).0
 
+-- ATN stays, and where it is false, no byte of MESSAGE OUT crosses
+no_byte_out : (s : Seen) (time : ℕ) → IsQuiet s.change → (io : Bool) → (if io then rises s.change.before.req s.change.after.req else rises s.change.before.ack s.change.after.ack) ≡ false
+    → implies (s.change.before.msg && s.change.before.cd && not io) (implies (falls s.change.before.atn s.change.after.atn) (not s.change.before.ack) && implies (rises s.change.before.ack s.change.after.ack && not s.change.after.atn) (nat_le (atn_false_since s time + TWO_DESKEW) time)) ≡ true
+no_byte_out s time q true e = never _ _ (and_right (s.change.before.msg && s.change.before.cd) false refl)
+no_byte_out s time q false e =
+    always _ _ (and_from _ _ (never _ _ (no_fall _ _ q.atn_after)) (never _ _ (λ i. e i && not s.change.after.atn)))
+
+negation_kept : (s : Seen) (time : ℕ) → IsQuiet s.change → negates_atn_well s time ≡ true
+negation_kept s time q = go q.calm
+  where
+    go : Calm s.change → negates_atn_well s time ≡ true
+    go (inl h) = never _ _ (λ i. no_msg s.change h i && s.change.before.cd && not s.change.before.io)
+    go (inr h) = no_byte_out s time q s.change.before.io h.2
+
 attention_kept : (s : Seen) (row : Row) (n : Connection) → IsQuiet s.change → asks_soon n (standing_of s) s.change row.time ≡ true → test 24 s row ≡ true
 attention_kept s row n q asks =
-    always _ _ (and_from _ _ (never _ _ (λ i. q.msg i && s.change.before.cd && not s.change.before.io)) (asking_kept s n row.time asks).1)
+    always _ _ (and_from _ _ (negation_kept s row.time q) (asking_kept s n row.time asks).1)
 
 -- the end whose turn it is
 turn_of : (s : Seen) (row : Row) (n : Connection) → keeps_side n row.dev s.change.next ≡ true → is_in_turn (row.dev == n.target) s.change ≡ true → raises_in_turn n s row.dev ≡ true
@@ -280,10 +421,6 @@ turned_kept s row n q conn e =
 
 -- ---- bytes
 
-first_of_two : (p a b : Bool) → implies p (a && b) ≡ true → (implies p a ≡ true) × (implies p b ≡ true)
-first_of_two true a b e = and_parts a b e
-first_of_two false a b e = (refl, refl)
-
 two_of : (p a b : Bool) → implies p a ≡ true → implies p b ≡ true → implies p (a && b) ≡ true
 two_of true a b ea eb = and_from a b ea eb
 two_of false a b ea eb = refl
@@ -311,8 +448,13 @@ stands c since time = go (c.before.data_bits == c.after.data_bits)
     go true = refl
     go false = refl
 
-no_command_phase : (c : Change) → IsQuiet c → is_command c.before ≡ false
-no_command_phase c q = λ i. and_right (not c.before.msg) c.before.cd q.cd i && not c.before.io
+no_command_phase : (c : Change) → is_data c.before ≡ true → is_command c.before ≡ false
+no_command_phase c h = λ i. and_right (not c.before.msg) c.before.cd (no_cd c h) i && not c.before.io
+
+-- no byte of the command crosses
+no_command_byte : (c : Change) (may : Bool) → Calm c → implies (crosses_in c) (implies (is_command c.before) may) ≡ true
+no_command_byte c may (inl h) = always (crosses_in c) _ (never _ _ (no_command_phase c h))
+no_command_byte c may (inr h) = never _ _ h.2
 
 abbrev Crosses : Seen → Type 0
 Crosses s = crosses s ≡ crosses_in s.change
@@ -334,7 +476,7 @@ command_kept s row q cr may =
     let p = crosses_in s.change in
     let rest = (first_of_two p (has_odd_parity s.change.after && s.begun && not s.is_open) (is_none_or_all s.command) may).1 in
     (λ i. implies (cr i) (implies (is_command s.change.before) (may_take s.command (s.change.after.data_bits % 256)) && implies (is_data s.change.before) (is_none_or_all s.command)))
-    ∙ two_of p _ _ (always p _ (never _ _ (no_command_phase s.change q))) (under_more p _ _ rest)
+    ∙ two_of p _ _ (no_command_byte s.change _ q.calm) (under_more p _ _ rest)
 
 parity_kept : (s : Seen) (row : Row) → Crosses s → implies (crosses_in s.change) (may_cross (standing_of s) s.change) ≡ true → test 17 s row ≡ true
 parity_kept s row cr may =
@@ -349,20 +491,20 @@ abbrev Transfers : Seen → Row → Type 0
 Transfers s row = (test 18 s row ≡ true) × (test 19 s row ≡ true) × (test 20 s row ≡ true) × (test 21 s row ≡ true) × (test 22 s row ≡ true)
 
 transfers_kept : (s : Seen) (row : Row) (n : Connection) → IsQuiet s.change → s.connection ≡ Some n → Crosses s → transfers_well (standing_of s) s.change row.time ≡ true → Transfers s row
-transfers_kept s row n q conn cr e = go (s.agreement.offset == 0) refl e
+transfers_kept s row n q conn cr e = go (is_data s.change.before && not (s.agreement.offset == 0)) refl e
   where
-    pulsed : is_pulsed s ≡ not (s.agreement.offset == 0)
-    pulsed = λ i. is_some (conn i) && ((not (q.msg i) && not (q.cd i)) && not (s.agreement.offset == 0))
+    pulsed : is_pulsed s ≡ (is_data s.change.before && not (s.agreement.offset == 0))
+    pulsed = λ i. is_some (conn i) && (is_data s.change.before && not (s.agreement.offset == 0))
 
-    shaken : is_asynchronous_transfer s ≡ not (not (s.agreement.offset == 0))
-    shaken = λ i. is_some (conn i) && not ((not (q.msg i) && not (q.cd i)) && not (s.agreement.offset == 0))
+    shaken : is_asynchronous_transfer s ≡ not (is_data s.change.before && not (s.agreement.offset == 0))
+    shaken = λ i. is_some (conn i) && not (is_data s.change.before && not (s.agreement.offset == 0))
 
     st : data_stand_since s row.time ≡ stand_since s.change s.data_since row.time
     st = stands s.change s.data_since row.time
 
-    go : (b : Bool) → (s.agreement.offset == 0) ≡ b → (if b then is_shaken s.change s.data_since row.time else is_pulsed_well s.agreement s.pulses s.change s.times.req s.times.ack s.data_since row.time) ≡ true → Transfers s row
-    go true eb h =
-        let off : is_pulsed s ≡ false = pulsed ∙ (λ i. not (eb i)) in
+    go : (b : Bool) → (is_data s.change.before && not (s.agreement.offset == 0)) ≡ b → (if b then is_pulsed_well s.agreement s.pulses s.change s.times.req s.times.ack s.data_since row.time else is_shaken s.change s.data_since row.time) ≡ true → Transfers s row
+    go false eb h =
+        let off : is_pulsed s ≡ false = pulsed ∙ eb in
         let bytes = and_parts _ _ h in
         let turns = and_parts _ _ bytes.0 in (
           always _ _ turns.0,
@@ -371,8 +513,8 @@ transfers_kept s row n q conn cr e = go (s.agreement.offset == 0) refl e
           never _ _ off,
           never _ _ off,
         )
-    go false eb h =
-        let off : is_asynchronous_transfer s ≡ false = shaken ∙ (λ i. not (not (eb i))) in
+    go true eb h =
+        let off : is_asynchronous_transfer s ≡ false = shaken ∙ (λ i. not (eb i)) in
         let two = and_parts _ _ h in
         let times = times_of s.agreement.period in (
           never _ _ off,
@@ -397,18 +539,17 @@ not_in_reset s q = λ i. q.rst i || (sym q.rst_after ∙ q.rst) i
 abbrev Passes : Seen → Row → Type 0
 Passes s row = passes (standing_of s) s.change row ≡ true
 
-in_connection : (s : Seen) (row : Row) (n : Connection) → s.reading ≡ NoMessage → s.connection ≡ Some n → s.call ≡ None → s.arbitration ≡ None → is_in_order s row.time ≡ true → is_move s.change row ≡ true → is_data_row s.change ≡ true → passes_in n (standing_of s) s.change row ≡ true → lowest_broken s row ≡ None
+in_connection : (s : Seen) (row : Row) (n : Connection) → s.reading ≡ NoMessage → s.connection ≡ Some n → s.call ≡ None → s.arbitration ≡ None → is_in_order s row.time ≡ true → is_move s.change row ≡ true → is_calm_row s.change ≡ true → passes_in n (standing_of s) s.change row ≡ true → lowest_broken s row ≡ None
 in_connection s row n er conn call arbitration order move quiet h =
     let q = is_quiet s.change quiet in
     let r = is_reset s in
     let two = and_parts _ _ move in
     let rest = and_parts _ _ h in
-    let more = and_parts _ _ rest.0 in
-    let turns = and_parts _ _ more.0 in
-    let side = and_parts _ _ turns.0 in
-    let turn = and_parts _ _ turns.1 in
+    let side = and_parts _ _ rest.0 in
+    let turn = and_parts _ _ side.1 in
+    let moves = moves_kept n (standing_of s) s.change row.time rest.1 in
     let cr : Crosses s = (λ i. is_some (receiver_of (conn i) s.change)) ∙ crossing n s.change in
-    let bytes = transfers_kept s row n q conn cr rest.1 in
+    let bytes = transfers_kept s row n q conn cr moves.2 in
     let released = turned_kept s row n q conn turn.1 in
     none_broken (λ m. keeps m s row) judged_rules (
       order,
@@ -435,15 +576,15 @@ in_connection s row n er conn call arbitration order move quiet h =
                           (
                             true_by_test r _ (time_out_kept s row call),
                             (
-                              true_by_test r _ (reselection_kept s row n q call conn side.1),
+                              true_by_test r _ (reselection_kept s row n q call conn moves.0),
                               (
-                                true_by_test r _ ((λ i. keeps_lines_of s row (or_new (conn i) (connection_after s.connection s.call s.change row))) ∙ lines_kept s row n q side.0 side.1),
+                                true_by_test r _ ((λ i. keeps_lines_of s row (or_new (conn i) (connection_after s.connection s.call s.change row))) ∙ lines_kept s row n q side.0 moves.0),
                                 (
                                   true_by_test r _ (and_from _ _ ((λ i. keeps_data_direction_of s row (conn i)) ∙ turn_of s row n side.0 turn.0) ((λ i. initiator_released_of s row.time (conn i)) ∙ released.0)),
                                   (
                                     true_by_test r _ (and_from _ _ ((λ i. waits_for_turn s row (conn i)) ∙ released.1) ((λ i. target_released_of s row.time (conn i)) ∙ released.2)),
                                     (
-                                      true_by_test r _ (parity_kept s row cr more.1),
+                                      true_by_test r _ (parity_kept s row cr moves.1),
                                       (
                                         true_by_test r _ bytes.0,
                                         (
@@ -457,11 +598,11 @@ in_connection s row n er conn call arbitration order move quiet h =
                                                 (
                                                   true_by_test r _ (leaving_kept s row q),
                                                   (
-                                                    true_by_test r _ (attention_kept s row n q side.1),
+                                                    true_by_test r _ (attention_kept s row n q moves.0),
                                                     (
-                                                      true_by_test r _ (messages_kept s row n q conn er cr more.1),
+                                                      true_by_test r _ (messages_kept s row n q conn er cr moves.1),
                                                       (
-                                                        true_by_test r _ (command_kept s row q cr more.1),
+                                                        true_by_test r _ (command_kept s row q cr moves.1),
                                                         (
                                                           true_by_test r _ ((λ i. frees_well s row (conn i)) ∙ freeing_kept s row n q),
                                                           (
@@ -499,7 +640,7 @@ in_connection s row n er conn call arbitration order move quiet h =
 breaks_none_of : (s : Seen) (row : Row) → s.reading ≡ NoMessage → Passes s row → lowest_broken s row ≡ None
 breaks_none_of s row er e = go s.connection refl a.1
   where
-    a : ((nat_le s.last row.time && is_move s.change row && is_data_row s.change && (is_none s.call && is_none s.arbitration)) ≡ true) × (passes_of (standing_of s) s.change row s.connection ≡ true)
+    a : ((nat_le s.last row.time && is_move s.change row && is_calm_row s.change && (is_none s.call && is_none s.arbitration)) ≡ true) × (passes_of (standing_of s) s.change row s.connection ≡ true)
     a = and_parts _ _ e
 
     go : (n : Option Connection) → s.connection ≡ n → passes_of (standing_of s) s.change row n ≡ true → lowest_broken s row ≡ None
@@ -512,23 +653,38 @@ breaks_none_of s row er e = go s.connection refl a.1
         in_connection s row n er en (is_nothing _ alone.0) (is_nothing _ alone.1) f.0 f.1 d.1 h
 
 no_message : (half : List ℕ) (n : Option Connection) (c : Change) → IsQuiet c → reading_of half n c ≡ NoMessage
-no_message half n c q =
-    (λ i. if is_some (receiver_of n c) then
-    (if q.msg i && c.before.cd && not c.before.io then reading_out (got_out (half ++ c.after.data_bits % 256 ∷ []))
-    else if q.msg i && c.before.cd && c.before.io then reading_in (got_in (half ++ c.after.data_bits % 256 ∷ []))
-    else NoMessage)
-    else NoMessage) ∙ either (is_some (receiver_of n c))
+no_message half n c q = go n q.calm
   where
     either : (x : Bool) → (if x then NoMessage else NoMessage) ≡ NoMessage
     either true = refl
     either false = refl
 
-parts : (t : Standing) (c : Change) (row : Row) → passes t c row ≡ true → (is_data_row c ≡ true) × (t.is_alone ≡ true) × (passes_of t c row t.connection ≡ true)
+    go : (m : Option Connection) → Calm c → reading_of half m c ≡ NoMessage
+    go m (inl h) =
+        (λ i. if is_some (receiver_of m c) then
+        (if no_msg c h i && c.before.cd && not c.before.io then reading_out (got_out (half ++ c.after.data_bits % 256 ∷ []))
+        else if no_msg c h i && c.before.cd && c.before.io then reading_in (got_in (half ++ c.after.data_bits % 256 ∷ []))
+        else NoMessage)
+        else NoMessage) ∙ either (is_some (receiver_of m c))
+    go None (inr h) = refl
+    go (Some m) (inr h) =
+        let none = crossing m c ∙ h.2 in
+        λ i. if none i then
+        (if is_message_out c.before then reading_out (got_out (half ++ c.after.data_bits % 256 ∷ []))
+        else if is_message_in c.before then reading_in (got_in (half ++ c.after.data_bits % 256 ∷ []))
+        else NoMessage)
+        else NoMessage
+
+parts : (t : Standing) (c : Change) (row : Row) → passes t c row ≡ true → (is_calm_row c ≡ true) × (t.is_alone ≡ true) × (passes_of t c row t.connection ≡ true)
 parts t c row e =
     let a = and_parts _ _ e in
     let b = and_parts _ _ a.0 in
     let d = and_parts _ _ b.0 in
     (d.1, b.1, a.1)
+
+-- all lines of the bus but REQ, ACK and the data lines stay
+pub stage_stays : (t : Standing) (c : Change) (row : Row) → passes t c row ≡ true → same_stage c.before c.after ≡ true
+stage_stays t c row e = (and_parts _ _ (and_parts _ _ (and_parts _ _ (parts t c row e).0).0).0).1
 
 -- a row that passes the test breaks no rule
 pub breaks_none : (rows : List Row) (row : Row) → passes (standing_after rows) (change_of rows row) row ≡ true → broken_rule rows row ≡ None
@@ -551,24 +707,46 @@ raises_stay line rows row r h e dev lt = h dev lt ∙ sym (go (row.dev == dev) r
     go false eb = refl
 
 dialogue_moves : (d : Dialogue) (n : Connection) (f : ℕ → ℕ → Agreement) (c : Change) → IsQuiet c → takes_data d (crosses_in c) ≡ dialogue_after d (Some n) (Some n) f c
-dialogue_moves d n f c q =
-    let cross = sym (crossing n c) in
-    let out : is_message_out c.before ≡ false = λ i. q.msg i && c.before.cd && not c.before.io in
-    let inward : is_message_in c.before ≡ false = λ i. q.msg i && c.before.cd && c.before.io in
-    let command = no_command_phase c q in
-    let phase : changes_phase c ≡ false = λ i. not (q.phase i) in
-    let byte = c.after.data_bits % 256 in
-    let crosses_is : byte_crosses d c ≡ record d { begun = true } =
-    λ i. if out i then byte_out d byte (not c.after.atn) else if inward i then byte_in d byte else if command i then record d { heard = heard_with_command d.heard byte; begun = true } else record d { begun = true } in
-    (λ i. if cross i then sym crosses_is i else d) ∙ (λ i. if is_some (receiver_of (Some n) c) then byte_crosses d c else if sym phase i then phase_begins d else d)
+dialogue_moves d n f c q = go q.calm
+  where
+    phase : changes_phase c ≡ false
+    phase = λ i. not (q.phase i)
 
-duty_moves : (u : Duty) (n : Connection) (c : Change) (held : Bool) → IsQuiet c → duty_in_data u c held ≡ duty_after u (Some n) c held
-duty_moves u n c held q =
-    let kept = sym (no_fall _ _ q.atn_after) in
-    let inward : false ≡ is_message_in c.before = sym (λ i. q.msg i && c.before.cd && c.before.io) in
-    let out : false ≡ is_message_out c.before = sym (λ i. q.msg i && c.before.cd && not c.before.io) in
-    let phase : false ≡ changes_phase c = sym (λ i. not (q.phase i)) in
-    λ i. if kept i || rises c.before.req c.after.req then duties.Nothing else if falls c.before.ack c.after.ack && held then (if inward i then duties.Owed else if out i then u else duties.Asked) else if phase i then duty_left u else u
+    go : Calm c → takes_data d (crosses_in c) ≡ dialogue_after d (Some n) (Some n) f c
+    go (inl h) =
+        let cross = sym (crossing n c) in
+        let msg = no_msg c h in
+        let out : is_message_out c.before ≡ false = λ i. msg i && c.before.cd && not c.before.io in
+        let inward : is_message_in c.before ≡ false = λ i. msg i && c.before.cd && c.before.io in
+        let command = no_command_phase c h in
+        let byte = c.after.data_bits % 256 in
+        let crosses_is : byte_crosses d c ≡ record d { begun = true } =
+        λ i. if out i then byte_out d byte (not c.after.atn) else if inward i then byte_in d byte else if command i then record d { heard = heard_with_command d.heard byte; begun = true } else record d { begun = true } in
+        (λ i. if cross i then sym crosses_is i else d) ∙ (λ i. if is_some (receiver_of (Some n) c) then byte_crosses d c else if sym phase i then phase_begins d else d)
+    go (inr h) =
+        let none = sym (crossing n c ∙ h.2) in
+        (λ i. if h.2 i then record d { begun = true } else d) ∙ (λ i. if none i then byte_crosses d c else if sym phase i then phase_begins d else d)
+
+duty_moves : (u : Duty) (n : Connection) (c : Change) (since time : ℕ) (held : Bool) → IsQuiet c → held ≡ is_attention_held c since time → duty_in_data u c held ≡ duty_after u (Some n) c held
+duty_moves u n c since time held q eh = go q.calm
+  where
+    kept : false ≡ falls c.before.atn c.after.atn
+    kept = sym (no_fall _ _ q.atn_after)
+
+    phase : false ≡ changes_phase c
+    phase = sym (λ i. not (q.phase i))
+
+    go : Calm c → duty_in_data u c held ≡ duty_after u (Some n) c held
+    go (inl h) =
+        let msg = no_msg c h in
+        let inward : false ≡ is_message_in c.before = sym (λ i. msg i && c.before.cd && c.before.io) in
+        let out : false ≡ is_message_out c.before = sym (λ i. msg i && c.before.cd && not c.before.io) in
+        λ i. if kept i || rises c.before.req c.after.req then duties.Nothing else if falls c.before.ack c.after.ack && held then (if inward i then duties.Owed else if out i then u else duties.Asked) else if phase i then duty_left u else u
+    go (inr h) =
+        let not_held : held ≡ false = eh ∙ (λ i. h.1 i && c.after.atn && nat_le (since + TWO_DESKEW) time) in
+        let off : (falls c.before.ack c.after.ack && held) ≡ false = and_right _ _ not_held in
+        (λ i. if rises c.before.req c.after.req then duties.Nothing else if off i then duties.Asked else u)
+        ∙ (λ i. if kept i || rises c.before.req c.after.req then duties.Nothing else if sym off i then duty_if_held u c.before else if phase i then duty_left u else u)
 
 pub moved : (rows : List Row) (row : Row) (k : Course) (held : Bool) → IsCourseOf rows k → held ≡ is_attention_held (change_of rows row) (since_line (λ s. s.atn) rows) row.time → passes (standing_after rows) (change_of rows row) row ≡ true → IsCourseOf (row ∷ rows) (course_after_transfer k held (change_of rows row) row.time)
 unfolding seen_with
@@ -577,7 +755,7 @@ moved rows row k held h eh e = go (connection rows) refl p.2
     c : Change
     c = change_of rows row
 
-    p : (is_data_row (change_of rows row) ≡ true) × ((is_none (call rows) && is_none (arbitration rows)) ≡ true) × (passes_of (standing_after rows) (change_of rows row) row (connection rows) ≡ true)
+    p : (is_calm_row (change_of rows row) ≡ true) × ((is_none (call rows) && is_none (arbitration rows)) ≡ true) × (passes_of (standing_after rows) (change_of rows row) row (connection rows) ≡ true)
     p = parts (standing_after rows) (change_of rows row) row e
 
     q : IsQuiet (change_of rows row)
@@ -624,7 +802,7 @@ moved rows row k held h eh e = go (connection rows) refl p.2
         refl
         ((λ i. if still i then no_pulses else pulses_on k.pulses c row.time) ∙ (λ i. pulses_after k.pulses (back i) c row.time))
         (sym (or_false k.turned) ∙ ((λ i. k.turned || sym rise i) ∙ (λ i. turned_after k.turned (back i) c)))
-        (duty_moves k.duty n c held q ∙ (λ i. duty_after k.duty (back i) c held))
+        (duty_moves k.duty n c (since_line (λ s. s.atn) rows) row.time held q eh ∙ (λ i. duty_after k.duty (back i) c held))
         (agreeing (agreed rows) (λ i t. if c.after.rst then asynchronous else closed_agreement_by k.connection c.after.bsy k.dialogue.heard.now i t (agreed rows i t)) k.agreed
         (λ i t. sym (λ j. if rst j then asynchronous else closed_agreement_by (conn j) (bsy j) k.dialogue.heard.now i t (agreed rows i t))) h.agreed)
         (dialogue_moves k.dialogue n (agreed rows) c q ∙ (λ i. dialogue_after k.dialogue (back i) (back i) (agreed rows) c))

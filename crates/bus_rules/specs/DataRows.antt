@@ -1,5 +1,5 @@
--- Rows of a DATA phase that change data lines, REQ and ACK alone, and a short test that such a row breaks no
--- rule.
+-- Rows that change data lines, REQ and ACK alone, in a DATA phase or, where no byte crosses, in another one, and a
+-- short test that such a row breaks no rule.
 use Rattle.std.specs.Prelude.{ℕ, ◌+◌, Bool, false, not, max, ◌&&◌, ◌||◌, ◌==◌, List, Option, Some, None, nat_le, nat_lt, is_some, is_none, if◌then◌else◌}
 use Rattle.bus_trace.specs.declared.agreements.TheConstants.{UNLIMITED_OFFSET}
 use Rattle.bus_trace.specs.declared.delays.TheConstants.{BUS_SETTLE_DELAY, DATA_RELEASE_DELAY, DESKEW_DELAY, SET_UP_TIME, TURN_DELAY}
@@ -27,7 +27,7 @@ use Rattle.bus_phases.specs.Phases.{pulses, pulses_on, turned, duty}
 use Rattle.bus_phases.specs.Dialogue.{dialogue}
 use Rattle.bus_rules.specs.Seen.{drives_bsy, initiator_of, initiator_data, target_data}
 use Rattle.bus_trace.specs.Terms.{is_fault, arbitration, call, connection, receiver_of}
-use Rattle.bus_rules.specs.Transfer.{alternates, changes_data, holds_still, is_after, pulses_well}
+use Rattle.bus_rules.specs.Transfer.{changes_data, holds_still, is_after}
 use Rattle.bus_trace.specs.Agreements.{times_of}
 
 -- ---- what the test asks of the rows before
@@ -101,25 +101,31 @@ standing_at f v k = record {
 
 -- ---- the test
 
--- In a DATA phase, where BSY is true and SEL and RST are false, data lines, REQ and ACK alone change.
-abbrev pub is_quiet_bus : LineSet → Bool
-is_quiet_bus s = s.bsy && not s.sel && not s.rst && is_data s
-
-abbrev pub is_data_row : Change → Bool
-is_data_row c = is_quiet_bus c.before && same_stage c.before c.after && (not c.own.sel && not c.own.rst && same_stage c.own c.next)
-
 -- A byte crosses.
 abbrev pub crosses_in : Change → Bool
 crosses_in c = if c.before.io then rises c.before.req c.after.req else rises c.before.ack c.after.ack
+
+-- A DATA phase stands; or COMMAND, STATUS or a MESSAGE phase, in which the row tells nothing: ATN is false, and no
+-- byte crosses.
+abbrev pub is_calm : Change → Bool
+is_calm c = is_data c.before || (c.before.cd && not c.before.atn && not (crosses_in c))
+
+-- In such a phase, where BSY is true and SEL and RST are false, data lines, REQ and ACK alone change.
+abbrev pub is_quiet_bus : LineSet → Bool
+is_quiet_bus s = s.bsy && not s.sel && not s.rst
+
+abbrev pub is_calm_row : Change → Bool
+is_calm_row c =
+    is_quiet_bus c.before && same_stage c.before c.after && (not c.own.sel && not c.own.rst && same_stage c.own c.next) && is_calm c
 
 -- The device is an end of the connection, and drives no line of the other end.
 abbrev pub keeps_side : Connection → ℕ → LineSet → Bool
 keeps_side n dev s = if dev == n.target then has_no_initiator_line s else (dev == n.initiator && has_no_target_line s)
 
--- REQ rises once the phase has settled, while no MESSAGE OUT is owed and the target alone drives BSY.
-abbrev pub asks_soon : Connection → Standing → Change → ℕ → Bool
-asks_soon n s c time =
-    implies (rises c.before.req c.after.req) (nat_le (max (phase_time s.times) n.began + BUS_SETTLE_DELAY) time && not (is_owed s.duty) && not s.initiator_bsy)
+-- The phase has settled, no MESSAGE OUT is owed, and the target alone drives BSY: REQ may rise.
+abbrev pub has_settled : Connection → Standing → ℕ → Bool
+has_settled n s time =
+    nat_le (max (phase_time s.times) n.began + BUS_SETTLE_DELAY) time && not (is_owed s.duty) && not s.initiator_bsy
 
 -- The end whose turn it is raises data lines, and the other end has released them.
 abbrev pub is_in_turn : Bool → Change → Bool
@@ -134,39 +140,66 @@ has_turned s is_target c time =
 abbrev pub stand_since : Change → ℕ → ℕ → ℕ
 stand_since c since time = if changes_data c then time else since
 
--- A byte crosses asynchronously.
-abbrev pub is_shaken : Change → ℕ → ℕ → Bool
-is_shaken c since time =
-    alternates c && implies (crosses_in c) (nat_le (stand_since c since time + SET_UP_TIME) time) && implies (holds_still c.before) (not (changes_data c))
-
--- A byte crosses by pulses.
+-- REQ is ahead of ACK by less than the offset, where that sets a limit.
 abbrev pub may_ask : ℕ → Pulses → Bool
 may_ask offset p = offset == UNLIMITED_OFFSET || nat_lt p.req (p.ack + offset)
-
-abbrev pub keeps_count : ℕ → Pulses → Change → Bool
-keeps_count offset p c =
-    implies (rises c.before.req c.after.req) (may_ask offset p) && implies (rises c.before.ack c.after.ack) (nat_lt p.ack p.req)
 
 abbrev pub last_pulse : Pulses → Change → Option ℕ
 last_pulse p c = if c.before.io then p.last_req else p.last_ack
 
-abbrev pub is_timed : TransferTimes → Pulses → Change → ℕ → ℕ → ℕ → ℕ → Bool
-is_timed t p c req_since ack_since since time =
-    (pulses_well t c.before.req c.after.req req_since p.last_req time && pulses_well t c.before.ack c.after.ack ack_since p.last_ack time)
-    && (implies (crosses_in c) (nat_le (stand_since c since time + t.set_up) time) && implies (changes_data c) (is_after (last_pulse p c) t.hold time))
-
-abbrev pub is_pulsed_well : Agreement → Pulses → Change → ℕ → ℕ → ℕ → ℕ → Bool
-is_pulsed_well a p c req_since ack_since since time = keeps_count a.offset p c && is_timed (times_of a.period) p c req_since ack_since since time
+-- A pulse may begin on a line that stands so since this time, by the last pulse on it.
+abbrev pub is_apart : TransferTimes → ℕ → Option ℕ → ℕ → Bool
+is_apart t since last time = is_after last t.period time && (not (is_some last) || nat_le (since + t.negation) time)
 
 -- A byte may cross: its parity is odd, messages have opened the connection and left no request open, and the
 -- command stands whole.
 abbrev pub may_cross : Standing → Change → Bool
 may_cross s c = has_odd_parity c.after && s.begun && not s.is_open && is_none_or_all s.command
 
-abbrev pub transfers_well : Standing → Change → ℕ → Bool
-transfers_well s c time =
-    if s.agreement.offset == 0 then is_shaken c s.data_since time
-    else is_pulsed_well s.agreement s.pulses c s.times.req s.times.ack s.data_since time
+-- It crosses in this row, in which the data lines have stood for the set-up time.
+abbrev pub crosses_well : Standing → Change → ℕ → ℕ → Bool
+crosses_well s c set_up time = may_cross s c && nat_le (stand_since c s.data_since time + set_up) time
+
+-- What moves does so in its turn, where bytes cross asynchronously: as REQ rises, and as ACK does; and all of it.
+abbrev pub asks_in_turn : Connection → Standing → Change → ℕ → Bool
+asks_in_turn n s c time = has_settled n s time && not c.before.ack && implies c.before.io (crosses_well s c SET_UP_TIME time)
+
+abbrev pub answers_in_turn : Standing → Change → ℕ → Bool
+answers_in_turn s c time = c.before.req && (c.before.io || crosses_well s c SET_UP_TIME time)
+
+abbrev pub shakes_well : Connection → Standing → Change → ℕ → Bool
+shakes_well n s c time =
+    implies (rises c.before.req c.after.req) (asks_in_turn n s c time)
+    && implies (falls c.before.req c.after.req) c.before.ack
+    && implies (rises c.before.ack c.after.ack) (answers_in_turn s c time)
+    && implies (falls c.before.ack c.after.ack) (not c.before.req)
+    && implies (changes_data c) (not (holds_still c.before))
+
+-- The same where bytes cross by pulses of these times.
+abbrev pub asks_by_pulse : Connection → Standing → Change → TransferTimes → ℕ → Bool
+asks_by_pulse n s c t time =
+    has_settled n s time
+    && (may_ask s.agreement.offset s.pulses && is_apart t s.times.req s.pulses.last_req time)
+    && implies c.before.io (crosses_well s c t.set_up time)
+
+abbrev pub answers_by_pulse : Standing → Change → TransferTimes → ℕ → Bool
+answers_by_pulse s c t time =
+    (nat_lt s.pulses.ack s.pulses.req && is_apart t s.times.ack s.pulses.last_ack time)
+    && (c.before.io || crosses_well s c t.set_up time)
+
+abbrev pub pulses_in_turn : Connection → Standing → Change → TransferTimes → ℕ → Bool
+pulses_in_turn n s c t time =
+    implies (rises c.before.req c.after.req) (asks_by_pulse n s c t time)
+    && implies (falls c.before.req c.after.req) (nat_le (s.times.req + t.assertion) time)
+    && implies (rises c.before.ack c.after.ack) (answers_by_pulse s c t time)
+    && implies (falls c.before.ack c.after.ack) (nat_le (s.times.ack + t.assertion) time)
+    && implies (changes_data c) (is_after (last_pulse s.pulses c) t.hold time)
+
+-- A DATA phase under an agreement with an offset uses pulses.
+abbrev pub moves_well : Connection → Standing → Change → ℕ → Bool
+moves_well n s c time =
+    if is_data c.before && not (s.agreement.offset == 0) then pulses_in_turn n s c (times_of s.agreement.period) time
+    else shakes_well n s c time
 
 abbrev pub turns_well : Standing → Bool → Change → ℕ → Bool
 turns_well s is_target c time = is_in_turn is_target c && has_turned s is_target c time
@@ -174,11 +207,7 @@ turns_well s is_target c time = is_in_turn is_target c && has_turned s is_target
 -- In this connection such a row breaks no rule.
 abbrev pub passes_in : Connection → Standing → Change → Row → Bool
 passes_in n s c row =
-    keeps_side n row.dev c.next
-    && asks_soon n s c row.time
-    && turns_well s (row.dev == n.target) c row.time
-    && implies (crosses_in c) (may_cross s c)
-    && transfers_well s c row.time
+    keeps_side n row.dev c.next && turns_well s (row.dev == n.target) c row.time && moves_well n s c row.time
 
 abbrev pub passes_of : Standing → Change → Row → Option Connection → Bool
 passes_of s c row None = false
@@ -189,7 +218,7 @@ abbrev pub is_move : Change → Row → Bool
 is_move c row = not (is_fault row.kind) && not (same_set c.own c.next)
 
 abbrev pub passes : Standing → Change → Row → Bool
-passes s c row = nat_le s.last row.time && is_move c row && is_data_row c && s.is_alone && passes_of s c row s.connection
+passes s c row = nat_le s.last row.time && is_move c row && is_calm_row c && s.is_alone && passes_of s c row s.connection
 
 -- ---- the terms after such a row
 

@@ -69,8 +69,7 @@ impl Course {
         }
     }
 
-    /// One row more that changes data lines, REQ and ACK alone in a DATA phase. `held` says whether ATN is held
-    /// over it.
+    /// One row more that passes the short test. `held` says whether ATN is held over it.
     pub fn transfer(&mut self, held: bool, change: &Change, time: Ns)
         ensures { self.new ≡ course_after_transfer self.old held change.now time }
     {

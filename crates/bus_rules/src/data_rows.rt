@@ -1,5 +1,5 @@
-//! Rows of a DATA phase that change data lines, REQ and ACK alone: most rows of a long trace
-//! (ANSI X3.131-1994, 6.1.5.1 and 6.1.5.2).
+//! Rows that change data lines, REQ and ACK alone, in a DATA phase or, where no byte crosses, in another one: most
+//! rows of a long trace (ANSI X3.131-1994, 6.1.5.1 and 6.1.5.2).
 //!
 //! Few rules ask anything of such a row. A short test tells that it breaks none, and then few terms change; a row
 //! that does not pass it is judged rule by rule.
@@ -8,13 +8,13 @@ ghost use Rattle.bus_trace.specs.declared.Row.{Row};
 ghost use Rattle.bus_trace.specs.Trace.{IsViewOf, drives};
 ghost use Rattle.bus_trace.specs.Changes.{same_stage};
 ghost use Rattle.bus_trace.specs.Agreements.{AreTimes};
-ghost use Rattle.bus_rules.specs.DataRows.{is_quiet_bus, is_data_row, crosses_in, keeps_side, asks_soon, is_in_turn, has_turned, stand_since, is_shaken, may_ask, keeps_count, last_pulse, is_timed, is_pulsed_well, standing_at, may_cross, transfers_well, turns_well, passes_in, passes_of, is_move, passes, duty_in_data};
+ghost use Rattle.bus_rules.specs.DataRows.{crosses_in, is_calm, is_quiet_bus, is_calm_row, keeps_side, has_settled, is_in_turn, has_turned, stand_since, may_ask, last_pulse, is_apart, standing_at, may_cross, crosses_well, asks_in_turn, answers_in_turn, shakes_well, asks_by_pulse, answers_by_pulse, pulses_in_turn, moves_well, turns_well, passes_in, passes_of, is_move, passes, duty_in_data};
 
 use crate::connected::{has_no_initiator_line, has_no_target_line, raises_data};
 use crate::course::Course;
 use crate::message_rules::{is_none_or_all, is_owed};
 use crate::terms::{initiator_bsy, initiator_data, target_data};
-use crate::transfer::{alternates, changes_data, holds_still, is_after, pulses_well};
+use crate::transfer::{changes_data, holds_still, is_after};
 use bus_base::{Dev, Ns};
 use bus_phases::{Duty, Pulses};
 use bus_trace::{
@@ -26,17 +26,26 @@ use bus_trace::{
 fn is_quiet_bus(lines: Lines) -> bool
     ensures { result ≡ is_quiet_bus lines }
 {
-    lines.bsy() && !lines.sel() && !lines.rst() && is_data(lines)
+    lines.bsy() && !lines.sel() && !lines.rst()
 }
 
-/// Whether in a DATA phase, where BSY is true and SEL and RST are false, data lines, REQ and ACK alone change.
-pub fn is_data_row(change: &Change) -> bool
-    ensures { result ≡ is_data_row change.now }
+// Whether the phase is a DATA phase, or another one but the reserved ones, in which ATN is false and no byte crosses.
+fn is_calm(change: &Change) -> bool
+    ensures { result ≡ is_calm change.now }
+{
+    let before = change.before;
+    is_data(before) || (before.cd() && !before.atn() && !crosses_in(change))
+}
+
+// Whether in such a phase, where BSY is true and SEL and RST are false, data lines, REQ and ACK alone change.
+fn is_calm_row(change: &Change) -> bool
+    ensures { result ≡ is_calm_row change.now }
 {
     let (own, next) = (change.own, change.next);
     is_quiet_bus(change.before)
         && same_stage(change.before, change.after)
         && (!own.sel() && !own.rst() && same_stage(own, next))
+        && is_calm(change)
 }
 
 /// Whether a byte crosses in a connection.
@@ -61,21 +70,11 @@ fn keeps_side(connection: &Connection, dev: Dev, lines: Lines) -> bool
     }
 }
 
-// Whether REQ rises, where it does, once the phase has settled, while no MESSAGE OUT is owed and the initiator
-// drives no BSY.
-fn asks_soon(
-    connection: &Connection,
-    view: &LineView,
-    course: &Course,
-    change: &Change,
-    time: Ns,
-) -> bool
+// Whether REQ may rise: the phase has settled, no MESSAGE OUT is owed, and the initiator drives no BSY.
+fn has_settled(connection: &Connection, view: &LineView, course: &Course, time: Ns) -> bool
     ensures { (rows : List Row) → IsViewOf rows view.now
-        → result ≡ asks_soon connection.now (standing_at (drives rows) view.now course.now) change.now time }
+        → result ≡ has_settled connection.now (standing_at (drives rows) view.now course.now) time }
 {
-    if !rises(change.before.req(), change.after.req()) {
-        return true;
-    }
     let since = view.phase_since().max(connection.began);
     time.saturating_sub(since) >= BUS_SETTLE_DELAY
         && !is_owed(course.duty)
@@ -116,30 +115,12 @@ fn stand_since(change: &Change, since: Ns, time: Ns) -> Ns
     if changes_data(change) { time } else { since }
 }
 
-fn is_shaken(change: &Change, since: Ns, time: Ns) -> bool
-    ensures { result ≡ is_shaken change.now since time }
-{
-    let age = time.saturating_sub(stand_since(change, since, time));
-    alternates(change)
-        && (!crosses_in(change) || age >= SET_UP_TIME)
-        && (!holds_still(change.before) || !changes_data(change))
-}
-
 // Whether REQ is ahead of ACK by less than the offset, where it sets a limit.
 fn may_ask(offset: u8, pulses: &Pulses) -> bool
     requires { 0 < offset }
     ensures { result ≡ may_ask offset pulses.now }
 {
     offset == UNLIMITED_OFFSET || pulses.req.saturating_sub(pulses.ack) < u64::from(offset)
-}
-
-fn keeps_count(offset: u8, pulses: &Pulses, change: &Change) -> bool
-    requires { 0 < offset }
-    ensures { result ≡ keeps_count offset pulses.now change.now }
-{
-    let (before, after) = (change.before, change.after);
-    (!rises(before.req(), after.req()) || may_ask(offset, pulses))
-        && (!rises(before.ack(), after.ack()) || pulses.ack < pulses.req)
 }
 
 fn last_pulse(pulses: &Pulses, change: &Change) -> Option<Ns>
@@ -152,64 +133,13 @@ fn last_pulse(pulses: &Pulses, change: &Change) -> Option<Ns>
     }
 }
 
-fn is_timed(
-    times: TransferTimes,
-    view: &LineView,
-    pulses: &Pulses,
-    change: &Change,
-    time: Ns,
-) -> bool
+// Whether a pulse may begin on a line that stands so since this time, by the last pulse on it.
+fn is_apart(times: TransferTimes, since: Ns, last: Option<Ns>, time: Ns) -> bool
     requires { AreTimes times }
-    ensures { result
-        ≡ is_timed times pulses.now change.now view.now.times.req view.now.times.ack view.now.data_changed time }
+    ensures { result ≡ is_apart times since last time }
 {
-    let (before, after) = (change.before, change.after);
-    let (req, next_req) = (before.req(), after.req());
-    let (ack, next_ack) = (before.ack(), after.ack());
-    let age = time.saturating_sub(stand_since(change, view.data_since(), time));
-    let held = is_after(last_pulse(pulses, change), times.hold, time);
-    (pulses_well(
-        times,
-        req,
-        next_req,
-        view.times().req,
-        pulses.last_req,
-        time,
-    ) && pulses_well(
-        times,
-        ack,
-        next_ack,
-        view.times().ack,
-        pulses.last_ack,
-        time,
-    )) && ((!crosses_in(change) || age >= times.set_up) && (!changes_data(change) || held))
-}
-
-fn is_pulsed_well(view: &LineView, course: &Course, change: &Change, time: Ns) -> bool
-    requires { 0 < course.now.dialogue.heard.now.agreement.offset }
-    ensures { result ≡ is_pulsed_well course.now.dialogue.heard.now.agreement course.now.pulses change.now
-        view.now.times.req view.now.times.ack view.now.data_changed time }
-{
-    let agreement = course.dialogue.heard.now.agreement;
-    keeps_count(agreement.offset, &course.pulses, change)
-        && is_timed(
-            times_of(agreement.period),
-            view,
-            &course.pulses,
-            change,
-            time,
-        )
-}
-
-fn transfers_well(view: &LineView, course: &Course, change: &Change, time: Ns) -> bool
-    ensures { (rows : List Row) → IsViewOf rows view.now
-        → result ≡ transfers_well (standing_at (drives rows) view.now course.now) change.now time }
-{
-    if course.dialogue.heard.now.agreement.offset == 0 {
-        is_shaken(change, view.data_since(), time)
-    } else {
-        is_pulsed_well(view, course, change, time)
-    }
+    is_after(last, times.period, time)
+        && (last.is_none() || time.saturating_sub(since) >= times.negation)
 }
 
 fn may_cross(view: &LineView, course: &Course, change: &Change) -> bool
@@ -223,6 +153,143 @@ fn may_cross(view: &LineView, course: &Course, change: &Change) -> bool
         && is_none_or_all(spoken.command)
 }
 
+// Whether a byte may cross in the row, in which the data lines have stood for this time.
+fn crosses_well(view: &LineView, course: &Course, change: &Change, set_up: Ns, time: Ns) -> bool
+    requires { 0 < set_up }
+    ensures { (rows : List Row) → IsViewOf rows view.now
+        → result ≡ crosses_well (standing_at (drives rows) view.now course.now) change.now set_up time }
+{
+    let since = stand_since(change, view.data_since(), time);
+    may_cross(view, course, change) && time.saturating_sub(since) >= set_up
+}
+
+// Whether REQ rises in its turn, where bytes cross asynchronously.
+fn asks_in_turn(
+    connection: &Connection,
+    view: &LineView,
+    course: &Course,
+    change: &Change,
+    time: Ns,
+) -> bool
+    ensures { (rows : List Row) → IsViewOf rows view.now
+        → result ≡ asks_in_turn connection.now (standing_at (drives rows) view.now course.now) change.now time }
+{
+    has_settled(connection, view, course, time)
+        && !change.before.ack()
+        && (!change.before.io() || crosses_well(view, course, change, SET_UP_TIME, time))
+}
+
+// Whether ACK does.
+fn answers_in_turn(view: &LineView, course: &Course, change: &Change, time: Ns) -> bool
+    ensures { (rows : List Row) → IsViewOf rows view.now
+        → result ≡ answers_in_turn (standing_at (drives rows) view.now course.now) change.now time }
+{
+    change.before.req()
+        && (change.before.io() || crosses_well(view, course, change, SET_UP_TIME, time))
+}
+
+// Whether what moves does so in its turn, where bytes cross asynchronously.
+fn shakes_well(
+    connection: &Connection,
+    view: &LineView,
+    course: &Course,
+    change: &Change,
+    time: Ns,
+) -> bool
+    ensures { (rows : List Row) → IsViewOf rows view.now
+        → result ≡ shakes_well connection.now (standing_at (drives rows) view.now course.now) change.now time }
+{
+    let (req, next_req) = (change.before.req(), change.after.req());
+    let (ack, next_ack) = (change.before.ack(), change.after.ack());
+    (!rises(req, next_req) || asks_in_turn(connection, view, course, change, time))
+        && (!falls(req, next_req) || ack)
+        && (!rises(ack, next_ack) || answers_in_turn(view, course, change, time))
+        && (!falls(ack, next_ack) || !req)
+        && (!changes_data(change) || !holds_still(change.before))
+}
+
+// Whether a pulse of REQ begins in its turn.
+fn asks_by_pulse(
+    connection: &Connection,
+    view: &LineView,
+    course: &Course,
+    change: &Change,
+    times: TransferTimes,
+    time: Ns,
+) -> bool
+    requires times { AreTimes times }
+    requires pulsed { 0 < course.now.dialogue.heard.now.agreement.offset }
+    ensures { (rows : List Row) → IsViewOf rows view.now
+        → result ≡ asks_by_pulse connection.now (standing_at (drives rows) view.now course.now) change.now times time }
+{
+    let pulses = &course.pulses;
+    has_settled(connection, view, course, time)
+        && (may_ask(course.dialogue.heard.now.agreement.offset, pulses)
+            && is_apart(times, view.times().req, pulses.last_req, time))
+        && (!change.before.io() || crosses_well(view, course, change, times.set_up, time))
+}
+
+// Whether a pulse of ACK does.
+fn answers_by_pulse(
+    view: &LineView,
+    course: &Course,
+    change: &Change,
+    times: TransferTimes,
+    time: Ns,
+) -> bool
+    requires { AreTimes times }
+    ensures { (rows : List Row) → IsViewOf rows view.now
+        → result ≡ answers_by_pulse (standing_at (drives rows) view.now course.now) change.now times time }
+{
+    let pulses = &course.pulses;
+    (pulses.ack < pulses.req && is_apart(times, view.times().ack, pulses.last_ack, time))
+        && (change.before.io() || crosses_well(view, course, change, times.set_up, time))
+}
+
+// Whether what moves does so in its turn, where bytes cross by pulses of these times.
+fn pulses_in_turn(
+    connection: &Connection,
+    view: &LineView,
+    course: &Course,
+    change: &Change,
+    times: TransferTimes,
+    time: Ns,
+) -> bool
+    requires times { AreTimes times }
+    requires pulsed { 0 < course.now.dialogue.heard.now.agreement.offset }
+    ensures { (rows : List Row) → IsViewOf rows view.now
+        → result ≡ pulses_in_turn connection.now (standing_at (drives rows) view.now course.now) change.now times
+        time }
+{
+    let (req, next_req) = (change.before.req(), change.after.req());
+    let (ack, next_ack) = (change.before.ack(), change.after.ack());
+    (!rises(req, next_req) || asks_by_pulse(connection, view, course, change, times, time))
+        && (!falls(req, next_req) || time.saturating_sub(view.times().req) >= times.assertion)
+        && (!rises(ack, next_ack) || answers_by_pulse(view, course, change, times, time))
+        && (!falls(ack, next_ack) || time.saturating_sub(view.times().ack) >= times.assertion)
+        && (!changes_data(change) || is_after(last_pulse(&course.pulses, change), times.hold, time))
+}
+
+// Whether what moves does so in its turn.
+fn moves_well(
+    connection: &Connection,
+    view: &LineView,
+    course: &Course,
+    change: &Change,
+    time: Ns,
+) -> bool
+    ensures { (rows : List Row) → IsViewOf rows view.now
+        → result ≡ moves_well connection.now (standing_at (drives rows) view.now course.now) change.now time }
+{
+    let agreement = course.dialogue.heard.now.agreement;
+    if is_data(change.before) && agreement.offset != 0 {
+        let times = times_of(agreement.period);
+        pulses_in_turn(connection, view, course, change, times, time)
+    } else {
+        shakes_well(connection, view, course, change, time)
+    }
+}
+
 fn passes_in(
     connection: &Connection,
     view: &LineView,
@@ -233,17 +300,10 @@ fn passes_in(
     ensures { (rows : List Row) → IsViewOf rows view.now
         → result ≡ passes_in connection.now (standing_at (drives rows) view.now course.now) change.now row.now }
 {
+    let is_target = row.dev == connection.target.get();
     keeps_side(connection, row.dev, change.next)
-        && asks_soon(connection, view, course, change, row.time)
-        && turns_well(
-            view,
-            course,
-            row.dev == connection.target.get(),
-            change,
-            row.time,
-        )
-        && (!crosses_in(change) || may_cross(view, course, change))
-        && transfers_well(view, course, change, row.time)
+        && turns_well(view, course, is_target, change, row.time)
+        && moves_well(connection, view, course, change, row.time)
 }
 
 fn is_move(change: &Change, row: &Row) -> bool
@@ -276,7 +336,7 @@ pub fn passes(view: &LineView, course: &Course, change: &Change, row: &Row) -> b
 {
     view.last_time() <= row.time
         && is_move(change, row)
-        && is_data_row(change)
+        && is_calm_row(change)
         && is_alone(course)
         && passes_of(view, course, change, row)
 }

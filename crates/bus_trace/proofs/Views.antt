@@ -1,5 +1,5 @@
 -- A view and the rows that it was made from.
-use Rattle.std.proofs.Common.{◌≤◌, refl, ℕ, zero, suc, ◌+◌, ◌-◌, ◌≡◌, ◌≢◌, ◌<◌, Bool, true, false, List, ◌∷◌, ◌∙◌, sym, subst, arith, length, length-set}
+use Rattle.std.proofs.Common.{◌≤◌, refl, ℕ, zero, suc, ◌+◌, ◌-◌, ◌≡◌, ◌<◌, Bool, true, false, List, [], ◌∷◌, ◌∙◌, sym, subst, arith, get_or, length, length-set}
 use Rattle.std.specs.Prelude.{slice_set, slice_index, nat_lt, ◌&&◌, if◌then◌else◌}
 use Rattle.std.proofs.lemmas.Bool.{and_parts}
 use Rattle.std.proofs.lemmas.Bool.Decides.{nat_tests}
@@ -10,7 +10,7 @@ use Rattle.bus_trace.specs.View.{View, union_below, driven_at, time_of_line, tim
 use Rattle.bus_trace.specs.declared.line_times.LineTimes.{LineTimes}
 use Rattle.bus_trace.specs.declared.rows.Row.{Row}
 use Rattle.bus_trace.specs.Changes.{same_hold, same_phase, same_stage}
-use Rattle.bus_trace.specs.Trace.{driven_after, IsViewOf, drives, bus, newer, newer_line, since, times_after}
+use Rattle.bus_trace.specs.Trace.{driven_after, IsViewOf, drives, bus, newer, newer_line, since, times_after, times_after_transfer}
 use Rattle.bus_trace.proofs.Ages.{newer_along, newer_lt, newer_le, if_le, since_line_of, line_bsy, line_sel, line_cd, line_io, line_msg, line_req, line_ack, line_atn, line_rst}
 
 -- what all devices drive
@@ -20,12 +20,24 @@ Driven rows driven = (dev : ℕ) → dev < 8 → driven_at driven dev ≡ drives
 Driven-step : (row : Row) (rows : List Row) (driven : List LineSet) → Driven rows driven → length driven ≡ 8 → row.dev < 8 → (lines : LineSet) → lines ≡ driven_after row.kind (driven_at driven row.dev) → Driven (row ∷ rows) (slice_set driven row.dev lines)
 Driven-step row rows driven d e h lines l dev lt = grind (arith, common_steps, elements, d dev)
 
--- what a device drives, where it or another makes a row
-pub drives-same : (rows : List Row) (row : Row) (dev other : ℕ) (lines : LineSet) → other ≡ dev → row.dev ≡ dev → lines ≡ driven_after row.kind (drives rows dev) → lines ≡ drives (row ∷ rows) other
-drives-same rows row dev other lines same at e = grind (arith, common_steps)
+-- what a device drives, read from the list of what all drove, in which the device of a row has its lines after it
+read_driven : (xs : List LineSet) (d : ℕ) (x : LineSet) → d < length xs → get_or xs d x ≡ driven_at xs d
+read_driven [] d x lt = absurd (omega arith)
+read_driven (y ∷ xs) zero x lt = refl
+read_driven (y ∷ xs) (suc d) x lt = read_driven xs d x (omega arith)
 
-pub drives-other : (rows : List Row) (row : Row) (dev other : ℕ) (lines : LineSet) → other ≢ dev → row.dev ≡ dev → lines ≡ drives rows other → lines ≡ drives (row ∷ rows) other
-drives-other rows row dev other lines apart at e = grind (arith, common_steps)
+pub driven_with
+    : (rows : List Row) (row : Row) (v : View) → IsViewOf rows v → (dev : ℕ) → dev < 8 → row.dev ≡ dev
+    → (lines : LineSet) → lines ≡ driven_after row.kind (drives rows dev)
+    → (d : ℕ) → d < 8 → (x : LineSet) → get_or (slice_set v.driven dev lines) d x ≡ drives (row ∷ rows) d
+driven_with rows row v w dev lt at lines e d below x =
+    let here : row.dev < 8 = omega arith in
+    let was : drives rows dev ≡ driven_at v.driven row.dev = sym ((λ i. driven_at v.driven (at i)) ∙ w.drives_are dev lt) in
+    let next : lines ≡ driven_after row.kind (driven_at v.driven row.dev) = e ∙ (λ i. driven_after row.kind (was i)) in
+    let new = Driven-step row rows v.driven w.drives_are w.long here lines next in
+    let all = subst (λ (k : ℕ). Driven (row ∷ rows) (slice_set v.driven k lines)) at new in
+    let long : length (slice_set v.driven dev lines) ≡ 8 = length-set _ _ _ ∙ w.long in
+    read_driven (slice_set v.driven dev lines) d x (omega arith) ∙ all d below
 
 -- the union of all is the bus
 pub first-below : (f : ℕ → LineSet) (a : LineSet) → a ≡ f 0 → a ≡ union_below f 1
@@ -158,7 +170,7 @@ time_of_line-step time v was same new d t =
 -- ---- a row that changes REQ, ACK and data lines alone
 
 pub times_kept : (t : LineTimes) (before after : LineSet) (time : ℕ) → same_stage before after ≡ true
-    → record t { req = newer_line before.req after.req t.req time; ack = newer_line before.ack after.ack t.ack time } ≡ times_after t before after time
+    → times_after_transfer t before after time ≡ times_after t before after time
 times_kept t before after time h =
     let all = and_parts (same_hold before after && same_phase before after) (same_line before.atn after.atn) h in
     let both = and_parts (same_hold before after) (same_phase before after) all.0 in

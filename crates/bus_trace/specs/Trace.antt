@@ -62,6 +62,13 @@ times_after t before after time = record {
   rst = newer_line before.rst after.rst t.rst time;
 }
 
+-- The same where REQ, ACK and data lines alone change.
+abbrev pub times_after_transfer : LineTimes → LineSet → LineSet → ℕ → LineTimes
+times_after_transfer t before after time = record t {
+  req = newer_line before.req after.req t.req time;
+  ack = newer_line before.ack after.ack t.ack time;
+}
+
 abbrev pub line_times : List Row → LineTimes
 line_times rows = record {
   bsy = since_line (λ s. s.bsy) rows;

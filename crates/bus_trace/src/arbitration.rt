@@ -52,3 +52,12 @@ pub fn arbitration_after(
         }
     }
 }
+
+/// The same in place. Where no arbitration stands and BSY is true before the row, none begins.
+pub fn see_arbitration(arbitration: &mut Option<Arbitration>, free: Ns, change: &Change, row: &Row)
+    ensures { arbitration.new ≡ arbitration_after arbitration.old free change.now row.now }
+{
+    if arbitration.is_some() || !change.before.bsy() {
+        *arbitration = arbitration_after(*arbitration, free, change, row);
+    }
+}

@@ -1,5 +1,5 @@
 //! Connections, and the bytes that cross in them (ANSI X3.131-1994, 6.1.3 to 6.1.5).
-ghost use Rattle.std.specs.Prelude.{◌≡◌};
+ghost use Rattle.std.specs.Prelude.{◌≡◌, None};
 ghost use Rattle.bus_trace.specs.Terms.{connected, connection_of, connection_after, receiver_in, receiver_of};
 
 use crate::changes::{Change, falls, rises};
@@ -69,6 +69,32 @@ pub fn connection_after(
                 Some(connection)
             } else {
                 None
+            }
+        }
+    }
+}
+
+// The connection that a row begins, if it does.
+fn new_connection(call: &Option<Call>, change: &Change, row: &Row) -> Option<Connection>
+    ensures { result ≡ connection_after None call.now change.now row.now }
+{
+    connection_after(None, *call, change, row)
+}
+
+/// The same in place. While a connection stands, only BSY ends it.
+pub fn see_connection(
+    connection: &mut Option<Connection>,
+    call: &Option<Call>,
+    change: &Change,
+    row: &Row,
+)
+    ensures { connection.new ≡ connection_after connection.old call.now change.now row.now }
+{
+    match connection {
+        None => *connection = new_connection(call, change, row),
+        Some(_) => {
+            if !change.after.bsy() {
+                *connection = None;
             }
         }
     }

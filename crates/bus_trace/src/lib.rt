@@ -33,11 +33,11 @@ mod selection;
 pub use agreements::{
     Agreement, TransferTimes, UNLIMITED_OFFSET, is_same_agreement, times_of, transfer_times,
 };
-pub use arbitration::{Arbitration, arbitration_after};
+pub use arbitration::{Arbitration, arbitration_after, see_arbitration};
 pub use changes::{
     Change, drives_data, falls, is_within, rises, same_hold, same_phase, same_stage,
 };
-pub use connection::{Connection, connection_after, receiver_of};
+pub use connection::{Connection, connection_after, receiver_of, see_connection};
 pub use delays::{
     ARBITRATION_DELAY, ASSERTION_PERIOD, BUS_CLEAR_DELAY, BUS_FREE_DELAY, BUS_SET_DELAY,
     BUS_SETTLE_DELAY, CABLE_SKEW_DELAY, DATA_HOLD, DATA_RELEASE_DELAY, DESKEW_DELAY, ENTRY_DELAY,
@@ -61,7 +61,7 @@ pub use saved::{
     byte_word, id_or_none_in, id_or_none_word, is_yes, lines_in, lines_word, word_of,
 };
 pub use scsi_id::ScsiId;
-pub use selection::{Call, Calling, call_after, drives_two_ids, is_fault, when};
+pub use selection::{Call, Calling, call_after, drives_two_ids, is_fault, see_call, when};
 
 // Handed on to the crates above that list this one and not these.
 pub use bus_base as the_bus_base;

@@ -2,7 +2,7 @@
 
 ghost use Rattle.std.specs.Prelude.{ℕ, suc, ◌≡◌, ◌<◌, ◌≤◌};
 ghost use Rattle.bus_trace.specs.View.{AreTimesBefore, time_by_number};
-ghost use Rattle.bus_trace.specs.Trace.{no_times, times_after, newer_line, free_time, phase_time};
+ghost use Rattle.bus_trace.specs.Trace.{no_times, times_after, times_after_transfer, newer_line, free_time, phase_time};
 
 use crate::changes::same_stage;
 use crate::line_set::Lines;
@@ -75,11 +75,20 @@ impl LineTimes {
         ensures timely { (end : ℕ) → AreTimesBefore end self.old → time < end → AreTimesBefore end self.new }
     {
         if same_stage(before, after) {
-            self.req = newer_line(before.req(), after.req(), self.req, time);
-            self.ack = newer_line(before.ack(), after.ack(), self.ack, time);
+            self.transfer(before, after, time);
         } else {
             *self = self.after(before, after, time);
         }
+    }
+
+    /// The same of a row that changes REQ, ACK and data lines alone.
+    #[inline(always)]
+    pub fn transfer(&mut self, before: Lines, after: Lines, time: Ns)
+        ensures exact { self.new ≡ times_after_transfer self.old before after time }
+        ensures timely { (end : ℕ) → AreTimesBefore end self.old → time < end → AreTimesBefore end self.new }
+    {
+        self.req = newer_line(before.req(), after.req(), self.req, time);
+        self.ack = newer_line(before.ack(), after.ack(), self.ack, time);
     }
 
     /// By the number of a line: 9 to 17 are BSY, SEL, C/D, I/O, MSG, REQ, ACK, ATN and RST.

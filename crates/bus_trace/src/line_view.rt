@@ -1,9 +1,10 @@
 // A running view of the lines.
 
-ghost use Rattle.std.specs.Prelude.{ℕ, max, cond, ◌≡◌, ◌<◌, ◌≤◌, List, [], ◌∷◌, slice_index};
+ghost use Rattle.std.specs.Prelude.{ℕ, true, max, cond, ◌≡◌, ◌<◌, ◌≤◌, List, [], ◌∷◌, slice_index};
 ghost use Rattle.bus_trace.specs.LineSet.{LineSet, line_of, data_of};
 ghost use Rattle.bus_trace.specs.View.{driven_at, time_of_line, AreBefore, AreTimesBefore, IsUpTo};
-ghost use Rattle.bus_trace.specs.Trace.{drives, driven_after, bus, last_time, newer, since, no_times, line_times, free_time, phase_time, IsViewOf};
+ghost use Rattle.bus_trace.specs.Trace.{drives, driven_after, bus, last_time, newer, since, no_times, line_times, times_after_transfer, free_time, phase_time, IsViewOf};
+ghost use Rattle.bus_trace.specs.Changes.{same_stage};
 ghost use Rattle.bus_trace.specs.Terms.{free_since};
 ghost use Rattle.bus_trace.specs.Saved.{view_in};
 ghost use Rattle.bus_trace.specs.Phases.{phase_since};
@@ -182,34 +183,24 @@ impl LineView {
         self.times.phase()
     }
 
-    // What this device drives, where the device of the row drives these lines in place of its own.
-    fn drives_with(&self, dev: Dev, lines: Lines, other: Dev) -> Lines
-        requires dev { dev < 8 }
-        requires other { other < 8 }
-        ensures { (rows : List Row) (row : Row) → IsViewOf rows self.now → row.dev ≡ dev
-            → lines ≡ driven_after row.kind (drives rows dev) → result ≡ drives (row ∷ rows) other }
-    {
-        if other == dev {
-            lines
-        } else {
-            self.drives(other)
-        }
-    }
-
     /// What is on the bus once this device drives these lines in place of its own.
+    #[inline]
     pub fn bus_with(&self, dev: Dev, lines: Lines) -> Lines
         requires { dev < 8 }
         ensures { (rows : List Row) (row : Row) → IsViewOf rows self.now → row.dev ≡ dev
             → lines ≡ driven_after row.kind (drives rows dev) → result ≡ bus (row ∷ rows) }
     {
-        self.drives_with(dev, lines, 0)
-            .with(self.drives_with(dev, lines, 1))
-            .with(self.drives_with(dev, lines, 2))
-            .with(self.drives_with(dev, lines, 3))
-            .with(self.drives_with(dev, lines, 4))
-            .with(self.drives_with(dev, lines, 5))
-            .with(self.drives_with(dev, lines, 6))
-            .with(self.drives_with(dev, lines, 7))
+        // In a copy, so that no line is compared with the device's number.
+        let mut driven = self.driven;
+        driven[dev as usize] = lines;
+        driven[0]
+            .with(driven[1])
+            .with(driven[2])
+            .with(driven[3])
+            .with(driven[4])
+            .with(driven[5])
+            .with(driven[6])
+            .with(driven[7])
     }
 
     /// One more row. Its time may be any, also before that of the last row.
@@ -246,6 +237,27 @@ impl LineView {
         self.data_changed = renewed(before, after, self.data_changed, row.time);
         renew(&mut self.data_lines, before, after, row.time);
         self.times.step(before, after, row.time);
+        self.last = row.time;
+    }
+
+    /// The same of a row that changes REQ, ACK and data lines alone on the bus, where it is known too what its device
+    /// drives from then on.
+    #[inline(always)]
+    pub fn transfer(&mut self, row: &Row, next: Lines, after: Lines)
+        requires { row.now.dev < 8 }
+        ensures trace { (rows : List Row) → IsViewOf rows self.old → same_stage self.old.present after ≡ true
+            → next ≡ driven_after row.now.kind (drives rows row.now.dev) → after ≡ bus (row.now ∷ rows)
+            → IsViewOf (row.now ∷ rows) self.new }
+        ensures present { self.new.present ≡ after }
+        ensures times { self.new.times
+            ≡ times_after_transfer self.old.times self.old.present after row.now.time }
+    {
+        let before = self.present;
+        self.driven[row.dev as usize] = next;
+        self.present = after;
+        self.data_changed = renewed(before, after, self.data_changed, row.time);
+        renew(&mut self.data_lines, before, after, row.time);
+        self.times.transfer(before, after, row.time);
         self.last = row.time;
     }
 }

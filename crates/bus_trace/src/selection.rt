@@ -191,3 +191,22 @@ pub fn call_after(old: Option<Call>, change: &Change, row: &Row) -> Option<Call>
         call_goes_on(old, change, row)
     }
 }
+
+/// The same in place. Where no call stands before the row and SEL is false after it, there is none.
+pub fn see_call(call: &mut Option<Call>, change: &Change, row: &Row)
+    requires { row.now.dev < 8 }
+    ensures { call.new ≡ call_after call.old change.now row.now }
+{
+    if call.is_some() || change.after.sel() {
+        renew_call(call, *change, row);
+    }
+}
+
+// A function of its own, since each call pays for the room of its copies; of the change too, which else has to stand in
+// memory for all rows.
+fn renew_call(call: &mut Option<Call>, change: Change, row: &Row)
+    requires { row.now.dev < 8 }
+    ensures { call.new ≡ call_after call.old change row.now }
+{
+    *call = call_after(*call, &change, row);
+}

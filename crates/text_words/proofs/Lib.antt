@@ -2,4 +2,4 @@ pub mod Digits
 pub mod Again
 pub mod Only
 pub mod FirstFeed
-pub mod Pairs
+pub mod Tables

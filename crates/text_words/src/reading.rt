@@ -2,7 +2,10 @@
 ghost use Rattle.std.specs.Prelude.{◌≡◌, ◌≤◌, ◌<◌, ◌*◌, ◌%◌, length, take, Some, IfSome};
 ghost use Rattle.std.specs.Char.{is_ascii_digit};
 ghost use Rattle.std.specs.List.{prefix_len};
+ghost use Rattle.text_words.specs.Digits.{IsDecimalSoFar};
 ghost use Rattle.text_words.specs.Words.{Sees, after, small, pushed, value_after, is_decimal, number_at, is_digit, digit_at, hex_digits_at, hex_array_at, is_hex, hex_value, hex_or_16, bytes_of, is_whole};
+
+use core::dec2flt::read_digits;
 
 /// The value of a number in a text: `None` from 2^64 on.
 pub type Number = Option<u64>;
@@ -44,16 +47,17 @@ fn decimal_len(bytes: &[u8]) -> usize
     bytes.iter().take_while(|b| b.is_ascii_digit()).count()
 }
 
-/// The value of all digits at the front, and how many they are, in one pass: it is left at the first digit that
-/// takes the value to 2^64, since the value never falls again.
-#[inline]
-fn decimal(bytes: &[u8]) -> (Number, usize)
+/// The value of all digits at the front, and how many they are, where those before `from` have the value `so_far`. It
+/// is left at the first digit that takes the value to 2^64, since the value never falls again.
+#[inline(always)]
+fn decimal_from(bytes: &[u8], so_far: u64, from: usize) -> (Number, usize)
+    requires { IsDecimalSoFar bytes.now so_far from }
     ensures len { result.1 ≡ prefix_len is_ascii_digit bytes.now }
     ensures within { result.1 ≤ length bytes.now }
     ensures value { result.0 ≡ small (value_after 0 (take result.1 bytes.now)) }
 {
-    let mut value = 0;
-    let mut len = 0;
+    let mut value = so_far;
+    let mut len = from;
     while len < bytes.len() && bytes[len].is_ascii_digit() {
         match pushed(value, bytes[len]) {
             Some(more) => value = more,
@@ -64,9 +68,37 @@ fn decimal(bytes: &[u8]) -> (Number, usize)
     (Some(value), len)
 }
 
+#[cold]
+fn short_decimal(bytes: &[u8]) -> (Number, usize)
+    ensures len { result.1 ≡ prefix_len is_ascii_digit bytes.now }
+    ensures within { result.1 ≤ length bytes.now }
+    ensures value { result.0 ≡ small (value_after 0 (take result.1 bytes.now)) }
+{
+    decimal_from(bytes, 0, 0)
+}
+
+/// The value of all digits at the front, and how many they are: the library reads the first eight bytes at once, and
+/// others follow one by one.
+#[inline(always)]
+fn decimal(bytes: &[u8]) -> (Number, usize)
+    ensures len { result.1 ≡ prefix_len is_ascii_digit bytes.now }
+    ensures within { result.1 ≤ length bytes.now }
+    ensures value { result.0 ≡ small (value_after 0 (take result.1 bytes.now)) }
+{
+    if bytes.len() < 8 {
+        return short_decimal(bytes);
+    }
+    let (len, value) = read_digits(&bytes[..8], 0, 0);
+    if len < 8 {
+        (Some(value), len)
+    } else {
+        decimal_from(bytes, value, 8)
+    }
+}
+
 /// The decimal number at the front, and what follows it: all digits there, one or more, with no
 /// leading zero. `None` where there is none.
-#[inline]
+#[inline(always)]
 #[tactic(auto, unfolding(crate::specs::Words::number_at))]
 pub fn number(bytes: &[u8]) -> Option<(Number, &[u8])>
     ensures { Sees (λ x. (x.0, x.1.now)) result (number_at bytes.now) }
@@ -141,19 +173,28 @@ pub fn hex_value(digit: u8) -> u8
     }
 }
 
+/// The value of each byte that is a hexadecimal digit in lower case, and 16 for any other.
+static HEX_VALUES: [u8; 256] = [
+    16, 16, 16, 16, 16, 16, 16, 16, 16, 16, 16, 16, 16, 16, 16, 16, 16, 16, 16, 16, 16, 16, 16, 16,
+    16, 16, 16, 16, 16, 16, 16, 16, 16, 16, 16, 16, 16, 16, 16, 16, 16, 16, 16, 16, 16, 16, 16, 16,
+    0, 1, 2, 3, 4, 5, 6, 7, 8, 9, 16, 16, 16, 16, 16, 16, 16, 16, 16, 16, 16, 16, 16, 16, 16, 16,
+    16, 16, 16, 16, 16, 16, 16, 16, 16, 16, 16, 16, 16, 16, 16, 16, 16, 16, 16, 16, 16, 16, 16, 10,
+    11, 12, 13, 14, 15, 16, 16, 16, 16, 16, 16, 16, 16, 16, 16, 16, 16, 16, 16, 16, 16, 16, 16, 16,
+    16, 16, 16, 16, 16, 16, 16, 16, 16, 16, 16, 16, 16, 16, 16, 16, 16, 16, 16, 16, 16, 16, 16, 16,
+    16, 16, 16, 16, 16, 16, 16, 16, 16, 16, 16, 16, 16, 16, 16, 16, 16, 16, 16, 16, 16, 16, 16, 16,
+    16, 16, 16, 16, 16, 16, 16, 16, 16, 16, 16, 16, 16, 16, 16, 16, 16, 16, 16, 16, 16, 16, 16, 16,
+    16, 16, 16, 16, 16, 16, 16, 16, 16, 16, 16, 16, 16, 16, 16, 16, 16, 16, 16, 16, 16, 16, 16, 16,
+    16, 16, 16, 16, 16, 16, 16, 16, 16, 16, 16, 16, 16, 16, 16, 16, 16, 16, 16, 16, 16, 16, 16, 16,
+    16, 16, 16, 16, 16, 16, 16, 16, 16, 16, 16, 16, 16, 16,
+];
+
 /// The value of a hexadecimal digit in lower case, and 16 for any other byte: the test and the value in one.
 #[inline]
 pub fn hex_or_16(byte: u8) -> u8
     ensures exact { result ≡ hex_or_16 byte }
     ensures small { result ≤ 16 }
 {
-    if byte.is_ascii_digit() {
-        byte - b'0'
-    } else if b'a' <= byte && byte <= b'f' {
-        byte - 87
-    } else {
-        16
-    }
+    HEX_VALUES[byte as usize]
 }
 
 /// Writes the bytes that `digits` spell into `bytes`, which has room for exactly these.

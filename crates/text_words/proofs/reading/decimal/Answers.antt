@@ -1,20 +1,11 @@
-use Rattle.std.proofs.Common.{sym, ap, ◌∙◌, take, arith}
-use Rattle.text_words.specs.Words.{small, value_after}
-use Rattle.text_words.proofs.Digits.{more_digits, too_large, no_more, stops_at, stops_at_end}
+use Rattle.std.proofs.Common.{arith}
+use Rattle.text_words.proofs.Digits.{few_value, eight_digits}
 use Rattle.text_words.proofs.reading.decimal.Goals as goal
 
-pub returns-in-None-clause-value : goal.returns-in-None-clause-value
-returns-in-None-clause-value c =
-    sym (ap (λ n. small (value_after 0 (take n c.args.bytes.now))) c.decimal_len.ensures.exact ∙ too_large c.args.bytes.now c.loop-len.value c.loop-len.len c.loop-len.invariant (omega arith) (sym c.if-is_ascii_digit.ensures.value) (sym c.pushed.ensures ∙ c.in-None.is))
+pub returns-then-len-lt8-clause-value : goal.returns-then-len-lt8-clause-value
+returns-then-len-lt8-clause-value c =
+    few_value c.args.bytes.now c.read_digits-len.result.0 c.read_digits-len.result.1 c.read_digits-len.ensures.end c.read_digits-len.ensures.value c.if-len-lt8.true
 
-pub loop-len-preserved : goal.loop-len-preserved
-loop-len-preserved c =
-    more_digits c.args.bytes.now c.loop-len.value c.loop-len.len c.in-Some.more c.loop-len.invariant (omega arith) (sym c.if-is_ascii_digit.ensures.value) (sym c.pushed.ensures ∙ c.in-Some.is)
-
-pub returns-else-is_ascii_digit-clause-value : goal.returns-else-is_ascii_digit-clause-value
-returns-else-is_ascii_digit-clause-value c =
-    no_more c.args.bytes.now c.loop-len.value c.loop-len.len c.loop-len.invariant (stops_at c.args.bytes.now c.loop-len.len (omega arith) (sym c.if-is_ascii_digit.ensures.value))
-
-pub returns-after-loop-len-clause-value : goal.returns-after-loop-len-clause-value
-returns-after-loop-len-clause-value c =
-    no_more c.args.bytes.now c.loop-len.value c.loop-len.len c.loop-len.invariant (stops_at_end c.args.bytes.now c.loop-len.len (omega arith))
+pub decimal_from-requires : goal.decimal_from-requires
+decimal_from-requires c =
+    eight_digits c.args.bytes.now c.read_digits-len.result.0 c.read_digits-len.result.1 c.read_digits-len.ensures.end c.read_digits-len.ensures.value (omega arith) c.if-len-lt8.false c.read_digits-len.ensures.within

@@ -1,7 +1,7 @@
 use Rattle.std.proofs.Common.{ℕ, ◌/◌, ◌%◌, [], ◌∷◌, arith}
 use Rattle.text_words.specs.Spelling.{hex_digit}
 use Rattle.text_words.specs.declared.writing.TheConstants.{PAIRS}
-use Rattle.text_words.proofs.Pairs.{pair_at}
+use Rattle.text_words.proofs.Tables.{pair_at}
 use Rattle.text_words.proofs.writing.byte_text.Goals as goal
 
 pub returns : goal.returns
