@@ -27,9 +27,27 @@ impl Hearing {
         }
     }
 
+    // The lines of rows that the piece begins with, where a line begins among the rows: how many bytes they were.
+    #[inline(never)]
+    fn take_rows(&mut self, piece: &[u8]) -> usize
+        ensures kept { (bytes : List ℕ) → IsHearingOf bytes self.old → length bytes + length piece.now ≤ TRACE_LIMIT
+            → IsHearingOf (reverse (take result piece.now) ++ bytes) self.new }
+        ensures within { result ≤ length piece.now }
+    {
+        let Some(mut rows) = self.reader.among_rows() else {
+            return 0;
+        };
+        let mut at = 0;
+        while let Some((row, len)) = rows.take(&piece[at..]) {
+            self.judge.take(&row);
+            at += len;
+        }
+        self.reader = rows.reader();
+        at
+    }
+
     // The first line of the piece more, or all of it where it has no line feed: how many bytes they were.
-    #[inline(always)]
-    fn take(&mut self, piece: &[u8]) -> usize
+    fn take_line(&mut self, piece: &[u8]) -> usize
         ensures kept { (bytes : List ℕ) → IsHearingOf bytes self.old → length bytes + length piece.now ≤ TRACE_LIMIT
             → IsHearingOf (reverse (take result piece.now) ++ bytes) self.new }
         ensures some { 0 < length piece.now → 0 < result }
@@ -38,11 +56,26 @@ impl Hearing {
         let (told, len) = self.reader.take(piece);
         match told {
             Told::RowRead(row) => {
-                let _ = self.judge.feed(&row);
+                self.judge.take(&row);
                 len
             }
             Told::Quiet | Told::Bad(_) => len,
         }
+    }
+
+    // The lines of rows that the piece begins with; where there are none, its first line, or all of it where it has no
+    // line feed: how many bytes they were.
+    fn take(&mut self, piece: &[u8]) -> usize
+        ensures kept { (bytes : List ℕ) → IsHearingOf bytes self.old → length bytes + length piece.now ≤ TRACE_LIMIT
+            → IsHearingOf (reverse (take result piece.now) ++ bytes) self.new }
+        ensures some { 0 < length piece.now → 0 < result }
+        ensures within { result ≤ length piece.now }
+    {
+        let len = self.take_rows(piece);
+        if len > 0 {
+            return len;
+        }
+        self.take_line(piece)
     }
 
     /// Some bytes more. In the clauses the bytes stand newest first.

@@ -1,1 +1,3 @@
 pub mod Putting
+pub mod Times
+pub mod Marked

@@ -1,10 +1,10 @@
 //! The bytes on a page.
-ghost use Rattle.std.specs.Prelude.{◌≡◌, ◌≤◌, [], ◌++◌, take, true, false};
+ghost use Rattle.std.specs.Prelude.{◌≡◌, ◌≤◌, [], ◌∷◌, ◌++◌, take, true, false};
 
 use std::marker::Model;
 
 /// How many bytes a page holds.
-const PAGE: usize = 4096;
+const PAGE: usize = 65_536;
 
 /// How long a short text is at most.
 pub const SHORT: usize = 32;
@@ -25,7 +25,7 @@ impl Model for Held {
 
     ghost view = { λ h. record { items = take h.len h.bytes } };
 
-    ghost invariant = { λ h. h.len ≤ 4096 };
+    ghost invariant = { λ h. h.len ≤ 65536 };
 }
 
 impl Held {
@@ -75,6 +75,31 @@ impl Held {
         if has_room {
             self.bytes[self.len..self.len + SHORT].copy_from_slice(bytes);
             self.len += len;
+        }
+        has_room
+    }
+
+    /// Adds a byte, the first `len` of these bytes and then others, if there is room for all of them.
+    #[inline(always)]
+    pub(crate) fn has_added_marked(
+        &mut self,
+        mark: u8,
+        bytes: &[u8; SHORT],
+        len: usize,
+        end: &[u8],
+    ) -> bool
+        requires { len ≤ 32 }
+        ensures added { result ≡ true → self.new.items ≡ self.old.items ++ mark ∷ take len bytes.now ++ end.now }
+        ensures kept { result ≡ false → self.new.items ≡ self.old.items }
+    {
+        let has_room = 1 + SHORT + end.len() <= PAGE - self.len;
+        if has_room {
+            let from = self.len + 1;
+            let at = from + len;
+            self.bytes[self.len] = mark;
+            self.bytes[from..from + SHORT].copy_from_slice(bytes);
+            self.bytes[at..at + end.len()].copy_from_slice(end);
+            self.len = at + end.len();
         }
         has_room
     }

@@ -8,10 +8,14 @@
 //! after another; after a fault the sink holds a front of them, and its count of faults rose.
 #![tactic(auto)]
 
+mod digits;
 mod held;
 mod pages;
 mod parts;
+mod upper_digits;
 
+pub use digits::two_digits;
 pub use held::SHORT;
-pub use pages::{Page, flush, is_failed, new_page, put, put_number, put_short};
+pub use pages::{Page, flush, is_failed, new_page, put, put_marked, put_number, put_short};
 pub use parts::{put_abort, put_byte, put_hex, put_spaced};
+pub use upper_digits::{SPAN, UpperDigits};

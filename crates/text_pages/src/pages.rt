@@ -1,5 +1,5 @@
 //! The page.
-ghost use Rattle.std.specs.Prelude.{◌≡◌, ◌≤◌, [], take, decimal, false};
+ghost use Rattle.std.specs.Prelude.{◌≡◌, ◌≤◌, [], ◌∷◌, ◌++◌, take, decimal, false};
 ghost use Rattle.text_pages.specs.Pages.{IsSent, Puts, Prints};
 
 use crate::held::{Held, SHORT};
@@ -87,6 +87,44 @@ pub fn put_short<K: Sink>(out: &mut K, page: &mut Page, bytes: &[u8; SHORT], len
         return;
     }
     put_past(out, page, &bytes[..len]);
+}
+
+// Puts a byte, the first `len` of these bytes and then others, for which the page has no room together.
+#[cold]
+#[inline(never)]
+fn put_marked_past<K: Sink>(
+    out: &mut K,
+    page: &mut Page,
+    mark: u8,
+    bytes: &[u8; SHORT],
+    len: usize,
+    end: &[u8],
+)
+    requires { len ≤ 32 }
+    ensures { Prints K.written K.faults out.old out.new page.old page.new (mark ∷ take len bytes.now ++ end.now) }
+{
+    put(out, page, &[mark]);
+    put_short(out, page, bytes, len);
+    put(out, page, end);
+}
+
+/// Puts a byte, the first `len` of these bytes and then others, with one look whether there is room.
+#[inline]
+pub fn put_marked<K: Sink>(
+    out: &mut K,
+    page: &mut Page,
+    mark: u8,
+    bytes: &[u8; SHORT],
+    len: usize,
+    end: &[u8],
+)
+    requires { len ≤ 32 }
+    ensures { Prints K.written K.faults out.old out.new page.old page.new (mark ∷ take len bytes.now ++ end.now) }
+{
+    if page.bytes.has_added_marked(mark, bytes, len, end) {
+        return;
+    }
+    put_marked_past(out, page, mark, bytes, len, end);
 }
 
 /// Puts a number in decimal.

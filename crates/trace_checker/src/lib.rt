@@ -139,6 +139,20 @@ impl Judge {
         self.verdict
     }
 
+    /// Takes one row more, and tells nothing.
+    #[inline(always)]
+    pub fn take(&mut self, row: &Row)
+        requires { row.now.dev < 8 }
+        ensures { (rows : List Row) → IsJudgeOf rows self.old → length rows < 2 ^ 63
+            → IsJudgeOf (row.now ∷ rows) self.new }
+    {
+        let broken = self.terms.judge(row);
+        self.count = self.count.saturating_add(1);
+        if broken.is_some() {
+            self.verdict = joined(self.verdict, broken, self.count);
+        }
+    }
+
     /// Takes one row more: the verdict on the rows so far. A broken verdict stays.
     pub fn feed(&mut self, row: &Row) -> Verdict
         requires { row.now.dev < 8 }
@@ -147,11 +161,7 @@ impl Judge {
         ensures verdict { (rows : List Row) → IsJudgeOf rows self.old → length rows < 2 ^ 63
             → result ≡ judged (row.now ∷ rows) }
     {
-        let broken = self.terms.judge(row);
-        self.count = self.count.saturating_add(1);
-        if broken.is_some() {
-            self.verdict = joined(self.verdict, broken, self.count);
-        }
+        self.take(row);
         self.verdict
     }
 

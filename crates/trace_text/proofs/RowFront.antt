@@ -1,6 +1,6 @@
 -- The line of a row at the front of a piece.
-use Rattle.std.proofs.Common.{◌≡◌, ℕ, ◌+◌, ◌-◌, ◌^◌, ◌<◌, ◌≤◌, true, ◌&&◌, List, [], ◌∷◌, ◌++◌, length, get_or, take, drop, take_all, Some, refl, sym, ap, ◌∙◌, arith, append_assoc}
-use Rattle.std.specs.Prelude.{nat_lt, codes, decimal}
+use Rattle.std.proofs.Common.{◌≡◌, ℕ, ◌+◌, ◌-◌, ◌^◌, ◌<◌, ◌≤◌, Bool, true, false, ◌&&◌, List, [], ◌∷◌, ◌++◌, length, get_or, take, drop, take_all, Some, None, refl, sym, ap, ◌∙◌, arith, append_assoc}
+use Rattle.std.specs.Prelude.{nat_lt, nat_le, ◌==◌, codes, decimal}
 use Rattle.std.specs.List.{prefix_len, list_all}
 use Rattle.std.proofs.lemmas.Bool.{lt-ltb, and_parts}
 use Rattle.std.proofs.lemmas.Bool.Decides.{nat_tests}
@@ -14,7 +14,7 @@ use Rattle.bus_trace.specs.declared.Kind.{Kind}
 use Rattle.bus_trace.specs.declared.Kind.TheVariants.{Drives}
 use Rattle.bus_trace.specs.declared.Row.{Row}
 use Rattle.trace_text.specs.Lines.{below, value_of, kind_at, row_at}
-use Rattle.trace_text.specs.Pieces.{is_inner, text_of, StartsWithRow}
+use Rattle.trace_text.specs.Pieces.{is_inner, text_of, StartsWithRow, is_row_end, lines_of_row, with_kind, row_end, front_row}
 use Rattle.trace_text.proofs.Short.{below_is}
 use Rattle.trace_text.proofs.RowAgain.{decimal_inner, digit_inner}
 use Rattle.trace_text.proofs.Pieces.{line_len_fed}
@@ -22,9 +22,6 @@ use Rattle.trace_text.proofs.Pieces.{line_len_fed}
 -- what stands after the number
 abbrev pub end_of_row : List ℕ → List ℕ
 end_of_row ys = 32 ∷ get_or ys 1 0 ∷ 32 ∷ get_or ys 3 0 ∷ get_or ys 4 0 ∷ get_or ys 5 0 ∷ get_or ys 6 0 ∷ get_or ys 7 0 ∷ []
-
-abbrev pub lines_of_row : List ℕ → List ℕ
-lines_of_row ys = get_or ys 3 0 ∷ get_or ys 4 0 ∷ get_or ys 5 0 ∷ get_or ys 6 0 ∷ get_or ys 7 0 ∷ []
 
 pub record IsRowEnd (ys : List ℕ) (kind : Kind) : Type 0 where
   pub nine : 9 ≤ length ys
@@ -103,3 +100,39 @@ row_front bytes ys n t kind e b h =
     let others : take (length ys - 9) (drop 9 ys) ≡ drop 9 ys = take_all (length ys - 9) (drop 9 ys) (omega (arith, length-drop 9 ys)) in
     let len : length bytes - length (take (length ys - 9) (drop 9 ys)) ≡ length (decimal t ++ end_of_row ys) + 1 = omega (arith, ap length others, length-drop 9 ys, ap length only.1, length-append (decimal t) ys, length-append (decimal t) (end_of_row ys)) in
     starts bytes (decimal t ++ end_of_row ys) (drop 9 ys) (record { time = t; dev = get_or ys 1 0 - 48; kind = kind }) _ whole inner (row_is t ys kind lt h) len
+
+-- ---- the same by its definition
+
+front_is : (bytes ys : List ℕ) (n : Number) (t : ℕ) → number_at bytes ≡ Some (n, ys) → below n ≡ Some t → row_end bytes ys t ≡ front_row bytes
+unfolding front_row
+front_is bytes ys n t e b = rw (e, b) refl
+
+-- what a line of a row has after its time
+pub record HasEnd (ys : List ℕ) : Type 0 where
+  pub nine : 9 ≤ length ys
+  pub first : get_or ys 0 0 ≡ 32
+  pub low : 48 ≤ get_or ys 1 0
+  pub high : get_or ys 1 0 ≤ 55
+  pub second : get_or ys 2 0 ≡ 32
+  pub feed : get_or ys 8 0 ≡ 10
+
+has_end : (ys : List ℕ) → is_row_end ys ≡ true → HasEnd ys
+has_end ys e =
+    let four = and_parts (nat_le 9 (length ys) && get_or ys 0 0 == 32 && is_digit (get_or ys 1 0) && get_or ys 2 0 == 32) (get_or ys 8 0 == 10) e in
+    let three = and_parts (nat_le 9 (length ys) && get_or ys 0 0 == 32 && is_digit (get_or ys 1 0)) (get_or ys 2 0 == 32) four.0 in
+    let two = and_parts (nat_le 9 (length ys) && get_or ys 0 0 == 32) (is_digit (get_or ys 1 0)) three.0 in
+    let one = and_parts (nat_le 9 (length ys)) (get_or ys 0 0 == 32) two.0 in
+    let digit = and_parts (nat_le 48 (get_or ys 1 0)) (nat_le (get_or ys 1 0) 55) two.1 in
+    let nine = one.0 in
+    let first = one.1 in
+    let low = digit.0 in
+    let high = digit.1 in
+    let second = three.1 in
+    let feed = four.1 in
+    record { nine = grind (arith, nat_tests); first = grind (arith, nat_tests); low = grind (arith, nat_tests); high = grind (arith, nat_tests); second = grind (arith, nat_tests); feed = grind (arith, nat_tests) }
+
+pub front_none : (bytes ys : List ℕ) (n : Number) (t : ℕ) → number_at bytes ≡ Some (n, ys) → below n ≡ Some t → (HasEnd ys → ⊥) → None ≡ front_row bytes
+front_none bytes ys n t e b refuted = go (is_row_end ys) refl ∙ front_is bytes ys n t e b where
+  go : (q : Bool) → is_row_end ys ≡ q → None ≡ row_end bytes ys t
+  go true is = absurd (refuted (has_end ys is))
+  go false is = rw is refl

@@ -1,5 +1,5 @@
 -- What the reader has taken of a piece.
-use Rattle.std.proofs.Common.{◌≡◌, ℕ, ◌+◌, ◌^◌, ◌<◌, ◌≤◌, List, [], ◌++◌, length, take, reverse, take_all, sym, ap, ◌∙◌, arith, inl, inr, Some}
+use Rattle.std.proofs.Common.{◌≡◌, ℕ, ◌+◌, ◌^◌, ◌<◌, ◌≤◌, List, [], ◌∷◌, ◌++◌, length, take, reverse, take_all, refl, sym, ap, ◌∙◌, arith, inl, inr, Some}
 use Rattle.std.specs.List.{prefix_len}
 use Rattle.std.proofs.lemmas.Bool.{cases_lt}
 use Rattle.std.proofs.lemmas.List.{length-take, take-append-le}
@@ -7,12 +7,14 @@ use Rattle.trace_text.specs.declared.limit.TheConstants.{LIMIT as TRACE_LIMIT}
 use Rattle.bus_trace.specs.declared.Row.{Row}
 use Rattle.trace_text.specs.declared.stages.Stage.TheVariants as stages
 use Rattle.trace_text.specs.declared.stages.State.{State}
+use Rattle.trace_text.specs.declared.stages.State.TheVariants as states
 use Rattle.trace_text.specs.declared.stages.Told.{Told}
 use Rattle.trace_text.specs.declared.stages.Told.TheVariants as tolds
 use Rattle.trace_text.specs.declared.reader.TraceReader.{TraceReader}
+use Rattle.trace_text.specs.declared.rows_reader.RowsReader.{RowsReader}
 use Rattle.trace_text.specs.Lines.{row_or_end, row_at, end_at, moved, stepped, count_of, state_of}
-use Rattle.trace_text.specs.Pieces.{is_inner, text_of, line_len}
-use Rattle.trace_text.specs.Bytes.{Cut, cut_of, quiet, told_of, rows_next, rows_of, IsReaderOf, IsRowTaken}
+use Rattle.trace_text.specs.Pieces.{is_inner, text_of, line_len, StartsWithRow}
+use Rattle.trace_text.specs.Bytes.{Cut, cut_of, quiet, told_of, rows_next, rows_of, reader_of, IsReaderOf, IsRowTaken}
 use Rattle.trace_text.proofs.Front.{stepped_front, count_bytes, reader}
 use Rattle.trace_text.proofs.Pieces.{cut_text, cut_line, told_line, told_part, rows_told}
 
@@ -94,3 +96,25 @@ row_said old new piece row len h = fed_told old piece (new.state, tolds.RowRead 
 pub rows_are : (piece bytes : List ℕ) (len : ℕ) (told : Told) → len ≡ line_len piece → told ≡ told_of bytes piece → rows_of (reverse (take len piece) ++ bytes) ≡ rows_next told (rows_of bytes)
 rows_are piece bytes len told len-is is =
     ap (λ (n : ℕ). rows_of (reverse (take n piece) ++ bytes)) len-is ∙ rows_told piece bytes ∙ ap (λ (t : Told). rows_next t (rows_of bytes)) (sym is)
+
+-- ---- one row more, where a line begins among the rows
+
+one_taken : (old new : RowsReader) (piece : List ℕ) (row : Row) (len : ℕ) → StartsWithRow piece row len → row.dev < 8 → (old.count + 1 < 2 ^ 32 → new.count ≡ old.count + 1) → IsRowTaken (reader_of old) (reader_of new) piece row len
+one_taken old new piece row len starts device next = record {
+  starts = starts;
+  nothing = refl;
+  line = refl;
+  count = old.count;
+  before = refl;
+  after = λ few. ap (states.Open stages.Rows) (next few);
+  device = device;
+}
+
+pub one_kept : (old new : RowsReader) (piece : List ℕ) (row : Row) (len : ℕ) → StartsWithRow piece row len → row.dev < 8 → (old.count + 1 < 2 ^ 32 → new.count ≡ old.count + 1)
+    → (bytes : List ℕ) → IsReaderOf bytes (reader_of old) → length bytes + length piece ≤ TRACE_LIMIT → IsReaderOf (reverse (take len piece) ++ bytes) (reader_of new)
+one_kept old new piece row len starts device next = row_kept (reader_of old) (reader_of new) piece row len (one_taken old new piece row len starts device next)
+
+pub one_told : (old new : RowsReader) (piece : List ℕ) (row : Row) (len : ℕ) → StartsWithRow piece row len → row.dev < 8 → (old.count + 1 < 2 ^ 32 → new.count ≡ old.count + 1)
+    → (bytes : List ℕ) → IsReaderOf bytes (reader_of old) → length bytes + length piece ≤ TRACE_LIMIT → rows_of (reverse (take len piece) ++ bytes) ≡ row ∷ rows_of bytes
+one_told old new piece row len starts device next bytes h few =
+    rows_are piece bytes len (tolds.RowRead row) starts.whole (row_said (reader_of old) (reader_of new) piece row len (one_taken old new piece row len starts device next) bytes h few)

@@ -7,6 +7,7 @@ use Rattle.trace_text.specs.declared.stages.State.TheVariants as states
 use Rattle.trace_text.specs.declared.stages.Told.{Told}
 use Rattle.trace_text.specs.declared.stages.Told.TheVariants as tolds
 use Rattle.trace_text.specs.declared.reader.TraceReader.{TraceReader}
+use Rattle.trace_text.specs.declared.rows_reader.RowsReader.{RowsReader}
 use Rattle.trace_text.specs.Lines.{stepped, state_of}
 use Rattle.trace_text.specs.Pieces.{StartsWithRow}
 
@@ -66,6 +67,10 @@ rows_of (b ∷ bytes) = rows_next (told_at bytes b) (rows_of bytes)
 pub record IsReaderOf (bytes : List ℕ) (r : TraceReader) : Type 0 where
   pub line : r.line ≡ take 28 (cut_of bytes).rest
   pub state : r.state ≡ state_of (cut_of bytes).lines
+
+-- The reader among the rows, where a line begins.
+abbrev pub reader_of : RowsReader → TraceReader
+reader_of r = record { line = []; state = states.Open stages.Rows r.count }
 
 -- Where a line begins among the rows, the reader has taken the line of this row from the front of the piece.
 pub record IsRowTaken (old new : TraceReader) (piece : List ℕ) (row : Row) (len : ℕ) : Type 0 where

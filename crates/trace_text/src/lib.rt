@@ -8,13 +8,13 @@
 //! contract: [`report`] writes the report of a run to any sink, or a front of it where the sink fails, and
 //! [`short_report`] the short one, and [`write_trace`] the text of a trace alone;
 //! [`print_row`] is the line of a row; [`TraceReader`], which takes a trace text byte by byte or in pieces and
-//! keeps no row, tells each row and the first line that breaks the form, however the text is cut; and
-//! [`read_trace`] is all rows and the end, or that line. What is printed is read again
-//! ([`traces_read_back`], [`reports_read_back`]), and only such rows and ends are read ([`reads_only`]).
+//! keeps no row, tells each row and the first line that breaks the form, however the text is cut, and where rows
+//! follow one another it is a [`RowsReader`]; and [`read_trace`] is all rows and the end, or that line. What is
+//! printed is read again ([`traces_read_back`], [`reports_read_back`]), and only such rows and ends are read
+//! ([`reads_only`]).
 #![tactic(auto)]
 
 mod blocks_part;
-mod digits;
 mod history_part;
 mod laws;
 mod limit;
@@ -23,6 +23,7 @@ mod reader;
 mod replies_part;
 mod row_line;
 mod rows;
+mod rows_reader;
 mod short_form;
 mod stages;
 mod trace_part;
@@ -36,6 +37,7 @@ pub use laws::{reads_only, reports_read_back, traces_read_back};
 pub use limit::LIMIT;
 pub use reader::TraceReader;
 pub use rows::print_row;
+pub use rows_reader::RowsReader;
 pub use short_form::short_report;
 pub use stages::Told;
 pub use whole::{Trace, TraceBad, read_trace};

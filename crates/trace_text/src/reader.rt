@@ -4,9 +4,11 @@ ghost use Rattle.std.specs.List.{prefix_len};
 ghost use Rattle.trace_text.specs.declared.limit.TheConstants.{LIMIT as TRACE_LIMIT};
 ghost use Rattle.trace_text.specs.Lines.{count_of, stepped, TellsOfBus};
 ghost use Rattle.trace_text.specs.Pieces.{is_inner, text_of, line_len, StartsWithRow};
-ghost use Rattle.trace_text.specs.Bytes.{quiet, told_at, told_of, rows_next, rows_of, end_told, end_of};
+ghost use Rattle.trace_text.specs.Bytes.{quiet, told_at, told_of, rows_next, rows_of, reader_of, end_told, end_of};
+ghost use Rattle.trace_text.specs.declared.rows_reader.RowsReader.{RowsReader};
 
 use crate::line_front::LineFront;
+use crate::rows_reader::RowsReader;
 use crate::stages::{Stage, State, Told, row_front, stepped};
 use bus_base::Ns;
 use bus_trace::Row;
@@ -16,8 +18,8 @@ use bus_trace::Row;
 /// one. Texts have at most 1,073,741,824 bytes.
 #[derive(Drop)]
 pub struct TraceReader {
-    line: LineFront,
-    state: State,
+    pub(crate) line: LineFront,
+    pub(crate) state: State,
 }
 
 fn quiet(state: State) -> Told
@@ -152,6 +154,23 @@ impl TraceReader {
                 *count = count.saturating_add(1);
                 Some((row, len))
             }
+            _ => None,
+        }
+    }
+
+    /// What it is among the rows, where a line begins.
+    pub fn among_rows(&self) -> Option<RowsReader>
+        ensures some { IfSome result (λ r. self.now ≡ reader_of r) }
+        ensures none { result ≡ None → (r : RowsReader) → self.now ≡ reader_of r → ⊥ }
+    {
+        if !self.line.is_empty() {
+            return None;
+        }
+        match self.state {
+            State::Open {
+                stage: Stage::Rows,
+                count,
+            } => Some(RowsReader { count }),
             _ => None,
         }
     }

@@ -2,7 +2,7 @@
 ghost use Rattle.std.specs.Prelude.{◌≡◌, ◌<◌, ◌+◌, ◌^◌, [], ◌∷◌, IfSome};
 ghost use Rattle.text_words.specs.Words.{Sees};
 ghost use Rattle.trace_text.specs.Lines.{below, kind_at, row_at, end_at, is_first, is_history, stage_after, row_told, count_of, stepped, IsOfBus, SaysOfBus, TellsOfBus};
-ghost use Rattle.trace_text.specs.Pieces.{StartsWithRow};
+ghost use Rattle.trace_text.specs.Pieces.{StartsWithRow, front_row};
 
 use bitflags::Flags;
 use bus_base::Ns;
@@ -93,8 +93,10 @@ fn row_of(line: &[u8]) -> Option<Row>
 // The row of the line that the bytes begin with, and how many bytes that line has with its line feed: in one pass,
 // with no search for the line feed. It leaves to others what is rare: the rows of faults.
 #[inline(always)]
+#[tactic(auto, unfolding(crate::specs::Pieces::front_row))]
 pub(crate) fn row_front(bytes: &[u8]) -> Option<(Row, usize)>
-    ensures exact { IfSome result (λ x. StartsWithRow bytes.now x.0 x.1) }
+    ensures exact { result ≡ front_row bytes.now }
+    ensures starts { IfSome result (λ x. StartsWithRow bytes.now x.0 x.1) }
     ensures device { IfSome result (λ x. x.0.dev < 8) }
 {
     let (time, rest) = number(bytes)?;

@@ -6,11 +6,11 @@ ghost use Rattle.bus_trace.specs.declared.Kind.TheVariants.{Fault};
 ghost use Rattle.bus_trace.specs.OfTrace.{IsOfDevice};
 ghost use Rattle.text_pages.specs.Pages.{Prints};
 
-use crate::row_line::{RowLine, SPAN, line_end};
+use crate::row_line::line_end;
 use bitflags::Flags;
 use bus_base::{Dev, Ns, Sink};
 use bus_trace::{Kind, Row};
-use text_pages::{Page, put, put_number, put_short};
+use text_pages::{Page, SPAN, UpperDigits, put, put_number, put_short};
 
 // The line of a fault row.
 fn put_fault<K: Sink>(out: &mut K, page: &mut Page, time: Ns, dev: Dev, bit: u8)
@@ -28,7 +28,7 @@ fn put_fault<K: Sink>(out: &mut K, page: &mut Page, time: Ns, dev: Dev, bit: u8)
 fn put_driven<K: Sink>(
     out: &mut K,
     page: &mut Page,
-    line: &mut RowLine,
+    upper: &mut UpperDigits,
     time: Ns,
     dev: Dev,
     lines: u32,
@@ -43,18 +43,18 @@ fn put_driven<K: Sink>(
         put(out, page, &line_end(0, dev, lines)[4..]);
         return;
     }
-    line.set_upper(time);
-    put_short(out, page, line.upper(), line.len());
+    upper.set_upper(time);
+    put_short(out, page, upper.text(), upper.len());
     // Straight to the page: what was just written byte by byte is slow to read as a whole.
-    put(out, page, &line_end(line.low(time), dev, lines));
+    put(out, page, &line_end(upper.low(time), dev, lines));
 }
 
-fn put_row<K: Sink>(out: &mut K, page: &mut Page, line: &mut RowLine, row: &Row)
+fn put_row<K: Sink>(out: &mut K, page: &mut Page, upper: &mut UpperDigits, row: &Row)
     requires { IsOfDevice row.now }
     ensures { Prints K.written K.faults out.old out.new page.old page.new (row_text row.now) }
 {
     match row.kind {
-        Kind::Drives(lines) => put_driven(out, page, line, row.time, row.dev, lines.bits()),
+        Kind::Drives(lines) => put_driven(out, page, upper, row.time, row.dev, lines.bits()),
         Kind::Fault(bit) => put_fault(out, page, row.time, row.dev, bit),
     }
 }
@@ -63,9 +63,9 @@ fn put_rows<K: Sink>(out: &mut K, page: &mut Page, rows: &[Row])
     requires { AllByRecursion IsOfDevice rows.now }
     ensures { Prints K.written K.faults out.old out.new page.old page.new (flat_map row_text rows.now) }
 {
-    let mut line = RowLine::begun(0);
+    let mut upper = UpperDigits::begun(0);
     for row in rows {
-        put_row(out, page, &mut line, row);
+        put_row(out, page, &mut upper, row);
     }
 }
 

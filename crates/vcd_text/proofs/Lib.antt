@@ -1,3 +1,4 @@
+mod Nibbles
 mod Written
 mod CodeSets
 pub mod Pieces

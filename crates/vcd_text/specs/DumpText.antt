@@ -14,6 +14,10 @@ head_text =
 abbrev pub bit_text : ℕ → ℕ → ℕ
 bit_text n weight = 48 + n / weight % 2
 
+-- the four binary digits of a number below 16
+abbrev pub nibble_text : ℕ → List ℕ
+nibble_text n = bit_text n 8 ∷ bit_text n 4 ∷ bit_text n 2 ∷ bit_text n 1 ∷ []
+
 -- the 18 binary digits of the lines, RST first and DB(0) last
 abbrev pub bits_text : ℕ → List ℕ
 bits_text n =

@@ -1,12 +1,14 @@
-use Rattle.std.proofs.Common.{arith}
-use Rattle.trace_text.specs.Bytes.{rows_of}
-use Rattle.bus_cli.proofs.Heard.{rows_short, hears_row}
+use Rattle.std.proofs.Common.{ℕ, ◌≡◌, List, [], ◌∷◌, ◌++◌, reverse, take, refl, ap, subst, ◌∙◌, arith}
+use Rattle.bus_cli.specs.Hearing.{IsHearingOf}
 use Rattle.bus_cli.proofs.hearing.Hearing.take.Goals as goal
 
-pub returns-in-RowRead-clause-kept : goal.returns-in-RowRead-clause-kept
-returns-in-RowRead-clause-kept c = λ bytes h few.
-    let short = rows_short bytes in
-    record {
-      reader = c.take-told.ensures.kept bytes h.reader few;
-      judge = hears_row (rows_of bytes) _ c.take-told.result.0 c.in-RowRead.row _ (c.take-told.ensures.rows bytes h.reader few) c.in-RowRead.is (c.feed.ensures.kept (rows_of bytes) h.judge (omega arith));
-    }
+none_of : (piece bytes : List ℕ) → reverse (take 0 piece) ++ bytes ≡ bytes
+none_of [] bytes = refl
+none_of (b ∷ piece) bytes = refl
+
+none : (piece bytes : List ℕ) (n : ℕ) → n ≡ 0 → reverse (take n piece) ++ bytes ≡ bytes
+none piece bytes n is = ap (λ (k : ℕ). reverse (take k piece) ++ bytes) is ∙ none_of piece bytes
+
+pub returns-clause-kept : goal.returns-clause-kept
+returns-clause-kept c = λ bytes h few.
+    c.take_line.ensures.kept bytes (subst (λ (l : List ℕ). IsHearingOf l c.take_rows-len.new.self) (none c.args.piece.now bytes c.take_rows-len.result (omega arith)) (c.take_rows-len.ensures.kept bytes h few)) few

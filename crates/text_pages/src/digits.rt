@@ -7,7 +7,7 @@ static PAIRS: [u8; 200] = *b"\
     5051525354555657585960616263646566676869707172737475767778798081828384858687888990919293949596979899";
 
 /// The two decimal digits of a number below 100, the high one first.
-pub(crate) fn two_digits(number: u8) -> [u8; 2]
+pub fn two_digits(number: u8) -> [u8; 2]
     requires { number < 100 }
     ensures { result ≡ (48 + number / 10) ∷ (48 + number % 10) ∷ [] }
 {

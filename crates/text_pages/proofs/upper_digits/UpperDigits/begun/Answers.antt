@@ -1,7 +1,7 @@
 use Rattle.std.proofs.Common.{◌≡◌, ◌-◌, ◌/◌, ◌%◌, arith, ◌∙◌, ap, length, decimal}
 use Rattle.std.proofs.lemmas.Fmt.{length-decimal-le}
 use Rattle.std.proofs.lemmas.List.{take_at}
-use Rattle.trace_text.proofs.row_line.RowLine.begun.Goals as goal
+use Rattle.text_pages.proofs.upper_digits.UpperDigits.begun.Goals as goal
 
 pub invariant_of-result : goal.invariant_of-result
 invariant_of-result c =

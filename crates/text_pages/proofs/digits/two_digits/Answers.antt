@@ -1,7 +1,7 @@
 use Rattle.std.proofs.Common.{ℕ, ◌+◌, ◌/◌, ◌%◌, [], ◌∷◌}
-use Rattle.trace_text.specs.declared.digits.TheConstants.{PAIRS}
-use Rattle.text_words.proofs.Pairs.{pair_at}
-use Rattle.trace_text.proofs.digits.two_digits.Goals as goal
+use Rattle.text_pages.specs.declared.digits.TheConstants.{PAIRS}
+use Rattle.text_words.proofs.Tables.{pair_at}
+use Rattle.text_pages.proofs.digits.two_digits.Goals as goal
 
 pub returns : goal.returns
 returns c =
