@@ -178,11 +178,10 @@ def behind_types(head, text):
     return head
 
 
-def folded(crate, order, texts):
-    """The files of a crate's proofs, by their path below proofs/, with their imports through the hub, and the hub itself."""
-    home = f"Rattle.{crate}.proofs"
+def handed(text):
+    """What a hub hands on: of each name its module there and its name in that; of its short names of libraries, (None, name), the library."""
     names = {}
-    for line in texts[FILE].split("\n"):
+    for line in text.split("\n"):
         if line.startswith("use "):
             module, _, here = line[len("use ") :].partition(" as ")
             names[None, here] = module
@@ -191,6 +190,13 @@ def folded(crate, order, texts):
             first, dot, rest = path.partition(".")
             for module, name, here in leaves(names.get((None, first), first) + dot + rest):
                 names[here] = (module, name)
+    return names
+
+
+def folded(crate, order, texts):
+    """The files of a crate's proofs, by their path below proofs/, with their imports through the hub, and the hub itself."""
+    home = f"Rattle.{crate}.proofs"
+    names = handed(texts[FILE])
     heads, opened = {}, {}
     for path, text in texts.items():
         if path.endswith("Lib.antt") or path == FILE or re.search(r"tools/makers/|^--.*[Ww]ritten by tools", text):

@@ -6,9 +6,9 @@
 A crate names what it imports by its home, `Rattle.HOME.specs` or `HOME::`, where its line of crates.txt has HOME; else through one
 crate of that line which hands HOME on, `Rattle.HUB.specs.HOME.specs` or `HUB::the_HOME::`. HUB hands on definitions and lemmas by
 a line `pub use .. HOME` of its specs/Lib.antt, and code by `pub use .. as the_HOME;` in its src/lib.rt. Where several crates of a line
-hand HOME on, the one that hands on most is taken, and of equal ones the first. Where a crate has a hub of names, proofs/Names.antt, its proofs
-take them from there (hubs.py says how). Without names it goes over all crates; rt fmt puts the lines in order afterwards. With --check nothing
-is written, and the status is 1 where a file would change.
+hand HOME on, the one that hands on most is taken, and of equal ones the first; where none does, that is said, and the status is 1. Where a crate
+has a hub of names, proofs/Names.antt, its proofs take them from there (hubs.py says how). Without names it goes over all crates; rt fmt puts the
+lines in order afterwards. With --check nothing is written, and the status is 1 where a file would change.
 """
 import pathlib
 import re
@@ -97,7 +97,7 @@ def main(words):
     known = {}
     logic = {name: handed_logic(name) for name in GRAPH}
     code = {name: handed_code(name) for name in GRAPH}
-    changed = 0
+    changed, lost = 0, 0
     for name in names:
         folder = ROOT / "crates" / name
         texts = {}
@@ -113,14 +113,17 @@ def main(words):
             for path, new in hubs.folded(name, list(GRAPH), proofs).items():
                 texts[folder / "proofs" / path] = texts[folder / "proofs" / path][0], new
         for path, (text, new) in texts.items():
+            for low in sorted(set(HOME_LOGIC.findall(new)) - {name, *GRAPH[name]}):
+                lost += 1
+                print(f"{path.relative_to(ROOT)} names {low}, which no crate of the line of {name} hands on")
             if new != text:
                 changed += 1
                 print(path.relative_to(ROOT))
                 if not is_check:
                     path.write_text(new, encoding="utf-8")
     if is_check:
-        print("the imports go by crates.txt" if not changed else f"{changed} files name a crate by another way")
-    return 1 if is_check and changed else 0
+        print("the imports go by crates.txt" if not changed | lost else f"{changed + lost} files name a crate by another way")
+    return 1 if lost or is_check and changed else 0
 
 
 if __name__ == "__main__":

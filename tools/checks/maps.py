@@ -14,8 +14,8 @@ import hubs
 import imports
 
 ROOT = imports.ROOT
-# The record that is kept row by row, and the definitions that make it of the next row.
-KEPT = {"trace_laws": ("Whole", "Whole", ("asked", "calm", "standing_next", "steps", "heard_next", "next"))}
+# The record that is kept row by row, the definitions that make it of the next row, and the other crates that show how a field goes on.
+KEPT = {"trace_laws": ("Whole", "Whole", ("asked", "calm", "standing_next", "steps", "heard_next", "next"), ("row_laws", "story_laws"))}
 MANY = 8
 
 
@@ -54,11 +54,12 @@ def block(text, name):
     return found[0] if found else ""
 
 
-def kept_fields(file, record, makers, text):
+def kept_fields(file, record, makers, crates, text, names_of_hub):
     """Each field of the record with its type, the module that has its next row, and the fields that this asks for."""
     fields = re.findall(r"(?m)^  pub (\w+) : (.*)$", re.search(rf"(?ms)^pub record {record} .*?(?=^\n|\n\n)", text)[0])
-    head = hubs.Head(text, None)
-    home = {here: module for here, (module, _) in head.items.items()}
+    head = hubs.Head(text, names_of_hub)
+    home = {here: imports.homely(module + ".").rstrip(".") for here, (module, _) in head.items.items()}
+    is_shown = re.compile(rf"Rattle\.(?:{'|'.join(crates)})\.proofs\.(?!Impossible\b|Common\b)")
     blocks = {name: block(text, name) for name in makers}
     # of each field what it asks for itself; of local names, also by those fields that are made on the way
     asks, where, local, way = {}, {}, {}, {}
@@ -69,7 +70,7 @@ def kept_fields(file, record, makers, text):
         asked, proof = set(re.findall(r"\bwas\.(\w+)", words)), None
         for name in re.findall(r"(?<![\w.'])[\w']+(?:\.\w+)?", words):
             more, place = local.get(name) or local.get(name.partition(".")[0]) or (set(), None)
-            if name in home and re.search(r"\.proofs\.(?!Names\b|Impossible\b|Common\b)", home[name]):
+            if name in home and is_shown.match(home[name]):
                 place = home[name]
             asked, proof = asked | more, proof or place
         return asked, proof
@@ -112,8 +113,9 @@ def page(crate, texts, takers):
     ]
     rooms = [name for name in texts if any(other.startswith(name + ".") for other in texts)]
     if crate in KEPT:
-        file, record, makers = KEPT[crate]
-        fields, where, asks = kept_fields(file, record, makers, texts[file])
+        file, record, makers, others = KEPT[crate]
+        hub = (ROOT / "crates" / crate / "proofs" / hubs.FILE).read_text(encoding="utf-8")
+        fields, where, asks = kept_fields(file, record, makers, (crate, *others), texts[file], hubs.handed(hub))
         lines += [
             "## What is kept", "",
             f"`{record}` (`{file}.antt`) has after any rows of a prompt trace each of these; a field goes on with the next row by the proof in the second",
@@ -122,8 +124,10 @@ def page(crate, texts, takers):
         ]
         for field, kind in fields:
             who = [other for other, asked in asks.items() if field in asked and other != field]
-            place = where[field].rpartition(".proofs.")[2] or where[field]
-            lines.append(f"| `{field}` | `{kind}` | `{place.replace('.', '/')}.antt` | {listed(who) or '-'} |")
+            home, _, place = where[field].rpartition(".proofs.")
+            other = home.rpartition(".")[2]
+            beside = f" ({other})" if other not in ("", crate) else ""
+            lines.append(f"| `{field}` | `{kind}` | `{place.replace('.', '/')}.antt`{beside} | {listed(who) or '-'} |")
         lines.append("")
     if rooms:
         lines += ["## Rooms", "", "| Room | Keeps | Taken from by the rooms |", "|---|---|---|"]

@@ -7,8 +7,8 @@ use proofs.Names.{process, abort, policy_of, run_at, phase_of, Phase, Task, targ
 use proofs.Names.{is_known_process, is_true_leaving, is_sent_at, is_true_crossing, is_true_beginning, is_true_hearing}
 use proofs.Names.{is_faithful, RunState, bus_of, item_of, process_item, process_here, process_served, carried_here}
 use proofs.Names.{task_of, AreUnits, is_data_out, AllCarryOwn, SendsOwn, is_in_phase, is_out_phase, HasPhase}
-use proofs.{Names.{LeavesWhole, MovesRuns, Knows, Speaks}, CarriedBlocks.{block_own}, Lookups.{self_id}}
-use proofs.Opened.{opening_named}
+use proofs.{Names.{LeavesWhole, MovesRuns, Knows, Speaks}, Carried.Commands.{block_own}, Common.Lookups.{self_id}}
+use proofs.Said.Leavings.{opening_named}
 
 -- ---- phases
 
@@ -54,10 +54,7 @@ known_as k e = ap (same_process k.served) e ∙ same_self k.served
 known_left : (s : ScenarioValue) (k : RunState) (n : Connection) → Knows s k n → LeavesWhole s k n → (phase : Phase) → phase_of (bus_of k) ≡ phase → is_known_process k phase ≡ true
 known_left s k n h w Phase.MessageOut e = refl
 known_left s k n h w Phase.MessageIn e = unless (bus_of k).atn (same_process k.served (item_of k.story.link)) (λ f. known_as k (linked_item s k n h (λ r. w.named r (ap is_out_phase e) ((λ i. is_in_phase (e i) && (bus_of k).atn) ∙ f))))
-known_left s k n h w Phase.Command e = known_as k (linked_item s k n h (λ r. w.named r (ap is_out_phase e) (λ i. is_in_phase (e i) && (bus_of k).atn)))
-known_left s k n h w Phase.Status e = known_as k (linked_item s k n h (λ r. w.named r (ap is_out_phase e) (λ i. is_in_phase (e i) && (bus_of k).atn)))
-known_left s k n h w Phase.DataIn e = known_as k (linked_item s k n h (λ r. w.named r (ap is_out_phase e) (λ i. is_in_phase (e i) && (bus_of k).atn)))
-known_left s k n h w Phase.DataOut e = known_as k (linked_item s k n h (λ r. w.named r (ap is_out_phase e) (λ i. is_in_phase (e i) && (bus_of k).atn)))
+known_left s k n h w _ e = known_as k (linked_item s k n h (λ r. w.named r (ap is_out_phase e) (λ i. is_in_phase (e i) && (bus_of k).atn)))
 
 -- ---- a phase is left
 
@@ -67,11 +64,8 @@ block_left s k n c w e (Some p) f = let b = w.command p f e in block_own s k p c
 
 said_left : (s : ScenarioValue) (k : RunState) (n : Connection) → AreUnits s → Speaks s k n → AllCarryOwn s k → LeavesWhole s k n → HasPhase k → k.exchange.begun ≡ true → (phase : Phase) → phase_of (bus_of k) ≡ phase → is_true_leaving s k (process_served s k) phase ≡ true
 said_left s k n u h c w lines eb Phase.MessageOut e = opening_named s k n u h eb (out_lines (bus_of k) e (λ m. (lines m).0)) (w.out e)
-said_left s k n u h c w lines eb Phase.MessageIn e = refl
 said_left s k n u h c w lines eb Phase.Command e = block_left s k n c w e (process_served s k) refl
-said_left s k n u h c w lines eb Phase.Status e = refl
-said_left s k n u h c w lines eb Phase.DataIn e = refl
-said_left s k n u h c w lines eb Phase.DataOut e = refl
+said_left s k n u h c w lines eb _ e = refl
 
 -- ---- a byte crosses
 
@@ -88,13 +82,8 @@ sent_at s k row n p h sends runs ep e ec (Some t) et =
 
 crossed : (s : ScenarioValue) (k : RunState) (row : Row) (n : Connection) → Knows s k n → SendsOwn s k row → MovesRuns s k n → (row_reading k.story.bus_state row).crosses ≡ true → (p : Option Process) → process_served s k ≡ p → (phase : Phase) → phase_of (bus_of k) ≡ phase
     → is_true_crossing s k p ((row_reading k.story.bus_state row).change.after.data_bits % 256) phase ≡ true
-crossed s k row n h sends runs ec None ep phase e = refl
 crossed s k row n h sends runs ec (Some p) ep Phase.DataOut e = sent_at s k row n p h sends runs ep e ec (task_of s k) refl
-crossed s k row n h sends runs ec (Some p) ep Phase.MessageOut e = refl
-crossed s k row n h sends runs ec (Some p) ep Phase.MessageIn e = refl
-crossed s k row n h sends runs ec (Some p) ep Phase.Command e = refl
-crossed s k row n h sends runs ec (Some p) ep Phase.Status e = refl
-crossed s k row n h sends runs ec (Some p) ep Phase.DataIn e = refl
+crossed s k row n h sends runs ec _ ep _ e = refl
 
 -- ---- a row, with which the connection goes on or ends
 

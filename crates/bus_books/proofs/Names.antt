@@ -3,16 +3,16 @@
 use Rattle.std.proofs as std_proofs
 pub use std_proofs.Common.{Bool, List, None, Option, Some, [], ap, append-nil, append_assoc, arith, false, inl, inr}
 pub use std_proofs.Common.{length, length-append, not, refl, subst, suc, sym, true, true≢false, zero, ℕ, ◌&&◌, ◌++◌}
-pub use std_proofs.{Common.{◌+◌, ◌<◌, ◌||◌, ◌∙◌, ◌∷◌, ◌≡◌, ◌≤◌, ◌⊎◌}, lemmas.Bool.{and_from, and_parts, eqb-true}}
-pub use std_proofs.lemmas.Bool.{ltb-true, not-false, not-true, or_left, or_parts, or_right, Decides.{nat_tests}}
-pub use std_proofs.lemmas.Option.{same_Some}
+pub use std_proofs.{Common.{◌+◌, ◌<◌, ◌||◌, ◌∙◌, ◌∷◌, ◌≡◌, ◌≤◌, ◌⊎◌}, lemmas.Bool.{and_from, and_parts, cases_Bool}}
+pub use std_proofs.lemmas.Bool.{eqb-true, ltb-true, not-false, not-true, or_left, or_parts, or_right}
+pub use std_proofs.lemmas.{Bool.Decides.{nat_tests}, Option.{same_Some}}
 use Rattle.std.specs as std
 pub use std.{List.{list_any}, Prelude.{Err, Ok, Result, if◌then◌else◌, is_none, is_some, nat_le, nat_lt, slice_index}}
 pub use std.Prelude.{slice_index_or, slice_set, ⊤, ◌%◌, ◌-◌, ◌==◌}
 use Rattle.bus_due.specs.bus_base.proofs as bus_base_proofs
 pub use bus_base_proofs.Tests.{all_three, and_false, and_first, and_second, eq_self, eq_turned, implied, middle, nil_of}
-pub use bus_base_proofs.Tests.{none_number, or_second, or_true, rises_none, rises_some, suc_some, unless, wrong, wrong'}
-pub use bus_base_proofs.Tests.{zero_of}
+pub use bus_base_proofs.Tests.{none_number, or_none_first, or_second, or_true, plus_none, rises_none, rises_some}
+pub use bus_base_proofs.Tests.{suc_some, unless, wrong, wrong', zero_of}
 use Rattle.bus_due.specs.bus_base.specs as bus_base
 pub use bus_base.{Faults.{counted_on}, declared.{AbortKind.{AbortKind}, Event.{Event}, ProcId.{ProcId}}}
 use Rattle.bus_due.specs.bus_trace.specs as bus_trace
@@ -50,8 +50,8 @@ pub use scenario.{Value.{ScenarioValue}, declared.value.{AbortDef.{AbortDef}, Cm
 pub use scenario.declared.value.{Policy.{Policy}, Tag.{Tag}, TargetDef.{TargetDef}, UnitDef.{UnitDef}}
 unfoldable pub use scenario.Needs.{need_of, sent_of}
 use Rattle.bus_due.specs.disk_array.proofs as disk_array_proofs
-pub use disk_array_proofs.{SeatLookups.{same_bool_is, same_id_is}, SeatOwn.{guest_process}, SeatReplies.{id_self}}
-pub use disk_array_proofs.SoundArrays.{current_process, history_sound, id_is}
+pub use disk_array_proofs.{SeatLookups.{same_bool_is, same_id_is, same_nexus_is}, SeatOwn.{guest_process}}
+pub use disk_array_proofs.{SeatReplies.{id_self}, SoundArrays.{current_process, history_sound, id_is}}
 use Rattle.bus_due.specs.disk_array.specs as disk_array
 pub use disk_array.{ArrayHistory.{array_after, array_step, reply_in}, Contents.{Contents}, Execution.{CommandContext}}
 pub use disk_array.Execution.{Execution, Reply, aborted_reply, attention_execution, cdb_execution, check_condition}

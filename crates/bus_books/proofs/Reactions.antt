@@ -1,14 +1,14 @@
 -- What the two ends are due to drive is what is next.
 use Rattle.bus_books.proofs
 use proofs.Names.{ℕ, ◌≡◌, Bool, true, false, not, ◌&&◌, ◌||◌, ◌∙◌, length, Some, refl, sym, ap, arith, true≢false, ◌≤◌}
-use proofs.Names.{◌++◌, [], ◌∷◌, List, Option, None, length-append, suc, ltb-true, or_parts, nat_tests, if◌then◌else◌}
-use proofs.Names.{is_some, ◌==◌, ◌%◌, nat_lt, slice_index_or, and_second, zero_of, LineSet, is_command, is_data}
-use proofs.Names.{is_message_out, is_message_in, receiver_in, Change, Connection, has_group_len, in_bytes, MsgIn}
-use proofs.Names.{ScenarioValue, Process, follows_by, next_word, bytes_of_messages, message_bytes, phase_of, phase_byte}
-use proofs.Names.{has_whole_block, follows_in, Sending, byte_to_send, Messages, Phase, RunState, bus_of, process_here}
-use proofs.Names.{process_served, carried_here, item_of, serving_of, sending_by, sending_of, task_if, in_phase}
-use proofs.Names.{out_phase, is_command_phase, GivesNext, Gives, is_in_phase, is_out_phase, HasPhase, LeavesWhole}
-use proofs.Names.{IsAnswered, IsOffered, IsOver, HasMessage, SaysNext}
+use proofs.Names.{◌++◌, [], ◌∷◌, List, Option, None, length-append, suc, ltb-true, or_parts, not-false, nat_tests}
+use proofs.Names.{if◌then◌else◌, is_some, ◌==◌, ◌%◌, nat_lt, slice_index_or, and_second, zero_of, LineSet, is_command}
+use proofs.Names.{is_data, is_message_out, is_message_in, receiver_in, Change, Connection, has_group_len, in_bytes}
+use proofs.Names.{MsgIn, ScenarioValue, Process, follows_by, next_word, bytes_of_messages, message_bytes, phase_of}
+use proofs.Names.{phase_byte, has_whole_block, follows_in, Sending, byte_to_send, Messages, Phase, RunState, bus_of}
+use proofs.Names.{process_here, process_served, carried_here, item_of, serving_of, sending_by, sending_of, task_if}
+use proofs.Names.{in_phase, out_phase, is_command_phase, GivesNext, Gives, is_in_phase, is_out_phase, HasPhase}
+use proofs.Names.{LeavesWhole, IsAnswered, IsOffered, IsOver, HasMessage, SaysNext}
 
 -- ---- the initiator
 
@@ -37,10 +37,8 @@ answers_own s k n c p eb h ep er ei =
     o = sending_by k (Some p)
 
     by : (m d i : Bool) → (not m && d && not i) ≡ true → (if m && d && not i then next_word k.exchange.speech else if not m && d && not i then slice_index_or p.cdb (carried_here k p.id).command.active 0 else slice_index_or p.sent (carried_here k p.id).moved.active 0) ≡ slice_index_or p.cdb (carried_here k p.id).command.active 0
-    by true d i e = absurd (true≢false (sym e))
-    by false true true e = absurd (true≢false (sym e))
     by false true false e = refl
-    by false false i e = absurd (true≢false (sym e))
+    by _ _ _ e = absurd (true≢false (sym e))
 
     of_data : (m d i : Bool) → (not m && not d) ≡ true → (if m && d && not i then next_word k.exchange.speech else if not m && d && not i then slice_index_or p.cdb (carried_here k p.id).command.active 0 else slice_index_or p.sent (carried_here k p.id).moved.active 0) ≡ slice_index_or p.sent (carried_here k p.id).moved.active 0
     of_data true d i e = absurd (true≢false (sym e))
@@ -100,12 +98,8 @@ pub out_over : (s : ScenarioValue) (k : RunState) (n : Connection) → is_messag
 out_over s k n eo h =
     let f = over_in s k n Phase.MessageOut (data_none (bus_of k).msg (bus_of k).cd (bus_of k).io eo) (out_phase (bus_of k) eo) h in
     let atn = (or_parts (k.handshakes.answers == 0) (bus_of k).atn (or_parts (k.handshakes.answers == 0 || (bus_of k).atn) k.exchange.plan.struck f).0).1 in
-    flip k.story.bus_state.dialogue.is_last (sym (h.attention eo) ∙ atn)
+    not-false k.story.bus_state.dialogue.is_last (sym (h.attention eo) ∙ atn)
   where
-    flip : (q : Bool) → not q ≡ false → q ≡ true
-    flip true e = refl
-    flip false e = absurd (true≢false e)
-
     data_none : (m d i : Bool) → (m && d && not i) ≡ true → (not m && not d) ≡ false
     data_none true d i e = refl
     data_none false d i e = absurd (true≢false (sym e))
@@ -114,22 +108,16 @@ out_over s k n eo h =
 pub command_over : (s : ScenarioValue) (k : RunState) (n : Connection) (p : Process) → is_command (bus_of k) ≡ true → IsOver s k n → process_served s k ≡ Some p → k.exchange.plan.struck ≡ false → has_group_len (carried_here k p.id).block ≡ true
 command_over s k n p ec h ep es =
     let f = over_in s k n Phase.Command (data_none (bus_of k).msg (bus_of k).cd (bus_of k).io ec) (command_phase (bus_of k).msg (bus_of k).cd (bus_of k).io ec) h in
-    flip (has_group_len (carried_here k p.id).block) (sym (λ i. not (es i) && not (has_whole_block (task_if s k (ep i)))) ∙ f)
+    not-false (has_group_len (carried_here k p.id).block) (sym (λ i. not (es i) && not (has_whole_block (task_if s k (ep i)))) ∙ f)
   where
-    flip : (q : Bool) → not q ≡ false → q ≡ true
-    flip true e = refl
-    flip false e = absurd (true≢false e)
-
     data_none : (m d i : Bool) → (not m && d && not i) ≡ true → (not m && not d) ≡ false
     data_none true d i e = refl
     data_none false true i e = refl
     data_none false false i e = absurd (true≢false (sym e))
 
     command_phase : (m d i : Bool) → (not m && d && not i) ≡ true → (if m then (if i then Phase.MessageIn else Phase.MessageOut) else if d then (if i then Phase.Status else Phase.Command) else if i then Phase.DataIn else Phase.DataOut) ≡ Phase.Command
-    command_phase true d i e = absurd (true≢false (sym e))
-    command_phase false true true e = absurd (true≢false (sym e))
     command_phase false true false e = refl
-    command_phase false false i e = absurd (true≢false (sym e))
+    command_phase _ _ _ e = absurd (true≢false (sym e))
 
 -- MESSAGE IN was left after all its bytes, or after one with ATN true.
 in_over : (s : ScenarioValue) (k : RunState) (n : Connection) → phase_of (bus_of k) ≡ Phase.MessageIn → IsOver s k n → ((k.handshakes.requests == 0 || not (bus_of k).atn) && nat_lt k.handshakes.requests (length (bytes_of_messages k.exchange.plan.messages))) ≡ false
@@ -155,13 +143,7 @@ at_end n m h e = grind (arith, nat_tests)
 
 some_bytes : (m : MsgIn) → nat_lt 0 (length (in_bytes m)) ≡ true
 some_bytes MsgIn.CommandComplete = refl
-some_bytes MsgIn.SavePointer = refl
-some_bytes MsgIn.RestorePointers = refl
-some_bytes MsgIn.Disconnect = refl
-some_bytes (MsgIn.Identify lun) = refl
-some_bytes (MsgIn.SimpleTag tag) = refl
-some_bytes (MsgIn.Sdtr offer) = refl
-some_bytes MsgIn.Reject = refl
+some_bytes _ = refl
 
 some_more : (n : ℕ) → nat_lt 0 (suc n) ≡ true
 some_more n = grind (arith, nat_tests)

@@ -1,18 +1,19 @@
 -- The tests of a row say what they are called for.
 use Rattle.bus_books.proofs
 use proofs.Names.{ℕ, ◌≡◌, ◌+◌, ◌⊎◌, inl, inr, Bool, true, false, not, ◌&&◌, ◌||◌, ◌∙◌, length, Option, Some, None, refl}
-use proofs.Names.{sym, ap, true≢false, not-true, eqb-true, ltb-true, if◌then◌else◌, is_some, is_none, ◌==◌, ◌%◌, nat_lt}
-use proofs.Names.{slice_index_or, and_first, and_second, or_second, implied, ProcId, rises, changes_phase, is_command}
-use proofs.Names.{is_data, is_message_out, is_message_in, is_fault, receiver_in, receiver_of, Row, Change, Connection}
-use proofs.Names.{has_group_len, MsgIn, ScenarioValue, same_bool_is, Process, process_of, same_bool, row_reading}
-use proofs.Names.{message_in, Item, process, abort, link_after_name, aim_of, policy_of, run_at, next_word, attends_with}
-use proofs.Names.{bytes_of_messages, phase_of, Ready, is_name, Phase, Task, target_def_of, RunState, bus_of, item_of}
-use proofs.Names.{process_here, process_served, carried_here, is_writing, task_of, ready_of, SendsOwn, is_in_phase}
-use proofs.Names.{is_out_phase, HasPhase, LeavesWhole, IsAtRun, is_of_target, is_aimed_at, is_between, is_ready_for}
-use proofs.Names.{is_made_for, is_first_row, is_block_whole, is_phase_whole, leaves_whole, has_phase, says_next}
-use proofs.Names.{gives_next, sends_next, is_at_run, same_item_if, names_served, crosses_well, is_of_kind, is_row_in}
-use proofs.Names.{is_last_row, is_row_by, is_row_of, RowKind, still, strikes, crosses, turns, IsReadyFor, IsAimedAt}
-use proofs.{Names.{Begins, GoesOn, Ends, RowOf, apart, begins, goes_on, ends, under_reset}, Lookups.{id_is}}
+use proofs.Names.{sym, ap, true≢false, not-true, eqb-true, ltb-true, cases_Bool, if◌then◌else◌, is_some, is_none, ◌==◌}
+use proofs.Names.{◌%◌, nat_lt, slice_index_or, and_first, and_second, or_second, implied, ProcId, rises, changes_phase}
+use proofs.Names.{is_command, is_data, is_message_out, is_message_in, is_fault, receiver_in, receiver_of, Row, Change}
+use proofs.Names.{Connection, has_group_len, MsgIn, ScenarioValue, same_bool_is, Process, process_of, same_bool}
+use proofs.Names.{row_reading, message_in, Item, process, abort, link_after_name, aim_of, policy_of, run_at, next_word}
+use proofs.Names.{attends_with, bytes_of_messages, phase_of, Ready, is_name, Phase, Task, target_def_of, RunState}
+use proofs.Names.{bus_of, item_of, process_here, process_served, carried_here, is_writing, task_of, ready_of, SendsOwn}
+use proofs.Names.{is_in_phase, is_out_phase, HasPhase, LeavesWhole, IsAtRun, is_of_target, is_aimed_at, is_between}
+use proofs.Names.{is_ready_for, is_made_for, is_first_row, is_block_whole, is_phase_whole, leaves_whole, has_phase}
+use proofs.Names.{says_next, gives_next, sends_next, is_at_run, same_item_if, names_served, crosses_well, is_of_kind}
+use proofs.Names.{is_row_in, is_last_row, is_row_by, is_row_of, RowKind, still, strikes, crosses, turns, IsReadyFor}
+use proofs.Names.{IsAimedAt, Begins, GoesOn, Ends, RowOf, apart, begins, goes_on, ends, under_reset}
+use proofs.Common.Lookups.{id_is}
 
 -- ---- small facts
 
@@ -22,16 +23,14 @@ none_is (Some item) e = absurd (true≢false (sym e))
 
 pub item_if_is : (a b : Option Item) → same_item_if a b ≡ true → a ≡ b
 item_if_is None None e = refl
-item_if_is None (Some b) e = absurd (true≢false (sym e))
 item_if_is (Some a) None e = wrong a e
   where
     wrong : (x : Item) → same_item_if (Some x) None ≡ true → Some x ≡ None
     wrong (process id) f = absurd (true≢false (sym f))
     wrong (abort n) f = absurd (true≢false (sym f))
 item_if_is (Some (process a)) (Some (process b)) e = ap (λ (x : ProcId). Some (process x)) (id_is a b e)
-item_if_is (Some (process a)) (Some (abort n)) e = absurd (true≢false (sym e))
-item_if_is (Some (abort n)) (Some (process b)) e = absurd (true≢false (sym e))
 item_if_is (Some (abort n)) (Some (abort m)) e = ap (λ (x : ℕ). Some (abort x)) (eqb-true n m e)
+item_if_is _ _ e = absurd (true≢false (sym e))
 
 -- ---- a phase is left
 
@@ -227,11 +226,11 @@ row_in s k row n e r t =
     }
   where
     one_of : (a b : Option Item) → (same_item_if a b || is_none a) ≡ true → (a ≡ b) ⊎ (a ≡ None)
-    one_of a b f = go (same_item_if a b) refl
-      where
-        go : (q : Bool) → same_item_if a b ≡ q → (a ≡ b) ⊎ (a ≡ None)
-        go true g = inl (item_if_is a b g)
-        go false g = inr (none_is a (or_second (same_item_if a b) (is_none a) f g))
+    one_of a b f =
+        elim (cases_Bool (same_item_if a b)) [
+          | inl e ↦ inl (item_if_is a b e)
+          | inr e ↦ inr (none_is a (or_second (same_item_if a b) (is_none a) f e))
+        ]
 
 last_row : (s : ScenarioValue) (k : RunState) (row : Row) (n : Connection) → k.story.bus_state.connection ≡ Some n → (row_reading k.story.bus_state row).next ≡ None → is_last_row s k (row_reading k.story.bus_state row) n ≡ true → Ends s k row n
 last_row s k row n e f t =

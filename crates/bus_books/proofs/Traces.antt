@@ -8,10 +8,10 @@ use proofs.Names.{is_true_leaving, is_true_crossing, is_true_beginning, is_true_
 use proofs.Names.{RunState, bus_of, process_item, process_served, run_state, run_state_after, exchange_after}
 use proofs.Names.{served_after, item_if, leaving_of, ready_of, AreUnits, AllCarryOwn, SendsOwn, Opens, Gives, IsQuiet}
 use proofs.Names.{IsItem, is_process, is_abort, AimsAreItems, Knows, IsRowIn, Speaks, IsReadyFor, Begins, RowOf, apart}
-use proofs.{Names.{begins, goes_on, ends, under_reset, AreRowsOf, Books}, Aims.{aims_are}, CarriedRows.{carry_on}}
-use proofs.{CarriedRows.{all_carry}, Faith.{row_is_faithful}, FirstBytes.{opens_first, opens_on}}
-use proofs.{FirstLinks.{knows_first}, FirstWords.{speaks_first}, Given.{gives_first}, Gives.{gives_on}}
-use proofs.{Knows.{knows_on}, Quiet.{quiet_first, quiet_on}, Speaks.{speaks_on}}
+use proofs.{Names.{begins, goes_on, ends, under_reset, AreRowsOf, Books}, Carried.Facts.{carry_on, all_carry}}
+use proofs.{Carried.Facts.{process_none}, Faith.{row_is_faithful}, Given.{Messages.{gives_first}, Rows.{gives_on}}}
+use proofs.{Items.Facts.{aims_are}, Known.{First.{knows_first}, Rows.{knows_on}}, Messages.First.{opens_first}}
+use proofs.{Messages.{First.{opens_on}, Stays.{quiet_first, quiet_on}}, Said.{First.{speaks_first}, Rows.{speaks_on}}}
 
 -- ---- small facts
 
@@ -132,10 +132,7 @@ ends_if s k n (Some p) h = let e = h p refl in ends_are s k n p e.0 e.1
 
 item_initiator : (s : ScenarioValue) (dev : ℕ) (item : Item) → IsItem s dev item → (p : Process) → process_item s (Some item) ≡ Some p → p.initiator ≡ dev
 item_initiator s dev _ (is_process id p e own) q f = sym (ap (λ (x : Process). x.initiator) (same_Some p q (sym e ∙ f))) ∙ own
-item_initiator s dev _ (is_abort n a e own) q f = absurd (none_process q f)
-  where
-    none_process : (x : Process) → (let a : Option Process = None in a) ≡ Some x → ⊥
-    none_process x z = cc
+item_initiator s dev _ (is_abort n a e own) q f = absurd (process_none q f)
 
 begins_truly : (s : ScenarioValue) (k : RunState) (row : Row) (n : Connection) → AimsAreItems s k → Begins s k row n → has_ends (process_item s (served_after s k None (Some n))) n ≡ true
 begins_truly s k row n aims b = go n.reselected refl

@@ -23,23 +23,23 @@ use Rattle.bus_due.specs.Plain.{IsPlain}
 use Rattle.bus_due.specs.RunState.{RunState, array_of, or_start}
 use Rattle.bus_due.specs.RunSteps.{run_state}
 use Rattle.bus_due.proofs.Plains.{run_state_plain}
-use Rattle.delivery_laws.specs.progress_laws.proofs.AnsweredEnds.{answered_when_ended}
-use Rattle.delivery_laws.specs.progress_laws.proofs.DebtTraces.{Indebted, indebted}
-use Rattle.delivery_laws.specs.progress_laws.proofs.Ended.{Joined, free_when_ended, unwanted_when_ended}
-use Rattle.delivery_laws.specs.progress_laws.proofs.QueuedTraces.{all_queued}
+use Rattle.delivery_laws.specs.progress_laws.proofs.Outcomes.Facts.{answered_when_ended}
+use Rattle.delivery_laws.specs.progress_laws.proofs.Debts.Facts.{Indebted, indebted}
+use Rattle.delivery_laws.specs.progress_laws.proofs.Quiet.Facts.{Joined, free_when_ended, unwanted_when_ended}
+use Rattle.delivery_laws.specs.progress_laws.proofs.Queues.Facts.{all_queued}
 use Rattle.delivery_laws.specs.right_laws.proofs.Ran.Right.{all_joined}
 use Rattle.initiator.specs.Causes.{has_status}
 use Rattle.initiator.specs.Received.{undoes_no_byte}
 use Rattle.bus_engine.specs.Answers.{are_answered, are_answered_from, are_replied_from, is_answered, is_replied, is_settled, sense_is_over}
-use Rattle.delivery_laws.proofs.Checks.{checks_stand}
-use Rattle.delivery_laws.proofs.EndStatuses.{all_ended, end_found, end_reply}
-use Rattle.delivery_laws.proofs.SenseReplies.{is_known}
+use Rattle.delivery_laws.proofs.Replies.Checks.{checks_stand}
+use Rattle.delivery_laws.proofs.Replies.Ends.{all_ended, end_found, end_reply}
+use Rattle.delivery_laws.proofs.Replies.Senses.{is_known}
 use Rattle.bus_engine.proofs.ListedReplies.{all_given}
 use Rattle.bus_engine.proofs.RanTargets.{ran_there}
 use Rattle.bus_engine.proofs.Replied.{HaveReplies, all_replied}
 use Rattle.bus_engine.proofs.Settled.{over_told, sense_is_done, settled_status}
 use Rattle.bus_engine.proofs.Undone.{no_byte_undone}
-use Rattle.delivery_laws.specs.trace_laws.proofs.Common.Tests.{plus_one}
+use Rattle.delivery_laws.specs.row_laws.proofs.Common.Tests.{plus_one}
 
 -- ---- what is known of it
 

@@ -26,12 +26,12 @@ use Rattle.bus_due.proofs.Plains.{run_state_plain, of_devices}
 use Rattle.delivery_laws.specs.scsi_device.specs.Heard.{Instructions, instructions, is_opening}
 use Rattle.delivery_laws.specs.scsi_device.specs.Writes.{Writer, is_writer, writer_of, writers}
 use Rattle.disk_target.specs.Attended.{are_in, are_known_ends, attended, came, ends_good, is_abort_in, is_attended, is_attended_if, is_attended_in, is_calm_turn, is_known_end, is_of_item, is_quiet, is_unseen, is_whole_of, is_whole_run}
-use Rattle.delivery_laws.specs.bus_books.proofs.Lookups.{self_id}
-use Rattle.delivery_laws.specs.bus_laws.proofs.Apart.{change_plain}
-use Rattle.delivery_laws.specs.bus_laws.proofs.Prompt.{least_is}
-use Rattle.delivery_laws.specs.trace_laws.specs.Attendance.{AreShown, IsShown, ShowsIn, accepts, refuses, runs, fails, ends, loses, aborts}
-use Rattle.delivery_laws.specs.trace_laws.specs.RunsWhole.{IsWhole, RunsWhole, ends_badly, sends_all, sends_none}
-use Rattle.delivery_laws.specs.trace_laws.specs.RowAttendance.{IsAttended, IsCalmTurn}
+use Rattle.delivery_laws.specs.bus_books.proofs.Common.Lookups.{self_id}
+use Rattle.delivery_laws.specs.bus_laws.proofs.Lines.Apart.{change_plain}
+use Rattle.delivery_laws.specs.bus_laws.proofs.Stages.Facts.{least_is}
+use Rattle.delivery_laws.specs.row_laws.specs.Attendance.{AreShown, IsShown, ShowsIn, accepts, refuses, runs, fails, ends, loses, aborts}
+use Rattle.delivery_laws.specs.story_laws.specs.RunsWhole.{IsWhole, RunsWhole, ends_badly, sends_all, sends_none}
+use Rattle.delivery_laws.specs.story_laws.specs.RowAttendance.{IsAttended, IsCalmTurn}
 use Rattle.delivery_laws.specs.trace_laws.proofs.Runs.Whole.{sent_all}
 use Rattle.std.proofs.lemmas.Bool.{or_right, and_from, lt-ltb, eq-eqb}
 use Rattle.bus_base.proofs.Tests.{wrong, or_true, implication, unless, or_middle}

@@ -29,12 +29,12 @@ use Rattle.disk_array.specs.SoundArray.{IsSound}
 use Rattle.disk_array.proofs.SoundArrays.{history_sound}
 use Rattle.disk_array.proofs.ArrayReplies.{abort_lists, fail_lists, loss_lists, reset_lists, took, end_lists}
 use Rattle.bus_due.specs.bus_story.specs.Right.{has_run, is_run_of}
-use Rattle.delivery_laws.specs.bus_books.proofs.Lookups.{id_is}
-use Rattle.delivery_laws.specs.trace_laws.proofs.Events.Replies.{accepted, refused, settles, running_id}
-use Rattle.delivery_laws.specs.trace_laws.proofs.Events.Others.{executed, reply_at}
-use Rattle.delivery_laws.specs.trace_laws.proofs.Common.Impossible.{none_some}
-use Rattle.delivery_laws.specs.progress_laws.proofs.FetchedSenses.{sense_cdb}
-use Rattle.delivery_laws.specs.progress_laws.proofs.OwedEvents.{running_own}
+use Rattle.delivery_laws.specs.bus_books.proofs.Common.Lookups.{id_is}
+use Rattle.delivery_laws.specs.row_laws.proofs.Events.Replies.{accepted, refused, settles, running_id}
+use Rattle.delivery_laws.specs.row_laws.proofs.Events.Others.{executed, reply_at}
+use Rattle.delivery_laws.specs.row_laws.proofs.Common.Impossible.{none_some}
+use Rattle.delivery_laws.specs.progress_laws.proofs.Debts.Senses.{sense_cdb}
+use Rattle.delivery_laws.specs.progress_laws.proofs.Owed.Events.{running_own}
 use Rattle.delivery_laws.specs.right_laws.proofs.Replies.Blocks.{HasWhole, whole_always}
 use Rattle.delivery_laws.specs.scsi_device.proofs.FitLines.{command_fits, obeys_fits, seats_are}
 use Rattle.delivery_laws.specs.target_units.specs.Rooms.{AreOfLines}
@@ -42,7 +42,7 @@ use Rattle.delivery_laws.specs.target_units.proofs.Rooms.{IsByLine, by_line, lin
 use Rattle.initiator.specs.Received.{data_room}
 use Rattle.delivery_laws.specs.right_laws.proofs.Ran.Lengths.{given_few, most_given, none_few}
 use Rattle.bus_engine.proofs.ReplyRooms.{room_there}
-use Rattle.delivery_laws.proofs.SenseReplies.{execution_known, is_known}
+use Rattle.delivery_laws.proofs.Replies.Senses.{execution_known, is_known}
 
 -- ---- what a command answers as it runs
 

@@ -22,7 +22,7 @@ use Rattle.delivery_laws.specs.right_laws.proofs.Ran.Crossings.{GoesSo, here_goe
 use Rattle.delivery_laws.specs.right_laws.proofs.Ran.Sent.{answer_of}
 use Rattle.delivery_laws.specs.right_laws.proofs.Ran.Shown.{IsAnswer}
 use Rattle.delivery_laws.specs.right_laws.proofs.Ran.Facts.{run_either}
-use Rattle.delivery_laws.proofs.Present.{served_there}
+use Rattle.delivery_laws.proofs.Callings.Present.{served_there}
 
 -- It runs with a row of a connection, whose target is there.
 runs_there : (s : ScenarioValue) (p : List Row) (row : Row) → Obeys s → IsPrompt s (row ∷ p) → (id : ProcId) (q : Process) → process_of s id ≡ Some q

@@ -23,16 +23,16 @@ use Rattle.bus_due.specs.bus_story.specs.Right.{all_carried, carried_by, has_run
 use Rattle.bus_due.specs.bus_story.specs.Story.{Ending, Story, by_abort, by_loss, by_reset, by_status, unanswered}
 use Rattle.bus_due.specs.bus_story.specs.Items.{sense_id, command_id}
 use Rattle.bus_due.specs.RunState.{RunState, array_of}
-use Rattle.delivery_laws.specs.bus_books.proofs.Lookups.{id_is}
+use Rattle.delivery_laws.specs.bus_books.proofs.Common.Lookups.{id_is}
 use Rattle.bus_due.specs.bus_story.proofs.SameBytes.{bytes_are}
 use Rattle.delivery_laws.specs.right_laws.proofs.Ran.Carried.{same_is}
 use Rattle.initiator.specs.Causes.{has_status, is_status_of}
 use Rattle.initiator.specs.Received.{room_of}
 use Rattle.bus_engine.specs.Answers.{are_replied_from, is_good, is_replied, is_reply}
-use Rattle.delivery_laws.proofs.EndStatuses.{HasReply}
+use Rattle.delivery_laws.proofs.Replies.Ends.{HasReply}
 use Rattle.bus_engine.proofs.ListedReplies.{AreGiven}
-use Rattle.delivery_laws.specs.trace_laws.proofs.Common.Tests.{plus_one}
-use Rattle.delivery_laws.proofs.Stopped.{end_status}
+use Rattle.delivery_laws.specs.row_laws.proofs.Common.Tests.{plus_one}
+use Rattle.delivery_laws.proofs.Senses.Stopped.{end_status}
 
 -- ---- what came, as far as there is room
 

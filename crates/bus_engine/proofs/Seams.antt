@@ -11,8 +11,8 @@ use Rattle.bus_due.specs.Telling.{telling}
 use Rattle.delivery_laws.specs.scsi_device.specs.Heard.{heard}
 use Rattle.delivery_laws.specs.scsi_device.specs.Writes.{written}
 use Rattle.bus_run.specs.Seams.{SeamsHold, is_own_pair, paired, seams}
-use Rattle.delivery_laws.specs.trace_laws.specs.Ends.{AreEnds, HasEnds}
-use Rattle.delivery_laws.specs.trace_laws.specs.RowAttendance.{IsAttended}
+use Rattle.delivery_laws.specs.row_laws.specs.Ends.{AreEnds, HasEnds}
+use Rattle.delivery_laws.specs.story_laws.specs.RowAttendance.{IsAttended}
 use Rattle.bus_engine.proofs.Attendance.{rows_attended}
 
 -- What is proved of every prompt trace.

@@ -15,16 +15,16 @@ use Rattle.bus_due.specs.bus_story.specs.Items.{Sent, has_item, sense_item}
 use Rattle.bus_due.specs.RunState.{RunState}
 use Rattle.bus_due.specs.bus_dialogue.specs.Wants.{OwnCommand}
 use Rattle.bus_due.specs.Wants.{own_command, own_commands}
-use Rattle.delivery_laws.specs.trace_laws.specs.ItemFacts.{Items}
-use Rattle.delivery_laws.specs.trace_laws.proofs.Common.Impossible.{none_some}
-use Rattle.delivery_laws.specs.trace_laws.proofs.Common.Tests.{plus_one}
-use Rattle.delivery_laws.specs.progress_laws.proofs.Answered.{AreUnwanted, sense_wanted}
+use Rattle.delivery_laws.specs.row_laws.specs.ItemFacts.{Items}
+use Rattle.delivery_laws.specs.row_laws.proofs.Common.Impossible.{none_some}
+use Rattle.delivery_laws.specs.row_laws.proofs.Common.Tests.{plus_one}
+use Rattle.delivery_laws.specs.progress_laws.proofs.Outcomes.Answered.{AreUnwanted, sense_wanted}
 use Rattle.initiator.specs.declared.mine.Mine.{Mine}
 use Rattle.initiator.specs.Mines.{mine_of, mines_of}
 use Rattle.initiator.specs.Openings.{mine_at}
 use Rattle.initiator.specs.Outcomes.{is_sense_over}
-use Rattle.delivery_laws.proofs.SenseReplies.{is_known}
-use Rattle.delivery_laws.proofs.Stopped.{is_check}
+use Rattle.delivery_laws.proofs.Replies.Senses.{is_known}
+use Rattle.delivery_laws.proofs.Senses.Stopped.{is_check}
 
 -- ---- what its initiator keeps of it
 

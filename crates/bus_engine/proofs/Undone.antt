@@ -18,7 +18,7 @@ use Rattle.delivery_laws.specs.trace_laws.proofs.Whole.{Whole, standing_next, wh
 use Rattle.delivery_laws.specs.right_laws.specs.Loads.{Load, UndoesLoads}
 use Rattle.delivery_laws.specs.right_laws.proofs.Ran.Carried.{same_is}
 use Rattle.delivery_laws.specs.right_laws.proofs.Ran.Undone.{load_asks}
-use Rattle.delivery_laws.proofs.EndStatuses.{undo_loads}
+use Rattle.delivery_laws.proofs.Replies.Ends.{undo_loads}
 use Rattle.initiator.specs.Received.{has_bytes_of, undone_by, undoes_no_byte}
 
 bytes_undone : (s : ScenarioValue) (k : RunState) (row : Row) → UndoesLoads k row → has_bytes_of k.story.carried (undone_by k.story.link (row_reading k.story.bus_state row).out) ≡ true

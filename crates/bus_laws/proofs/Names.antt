@@ -4,14 +4,15 @@ use Rattle.std.proofs as std_proofs
 pub use std_proofs.Common.{Bool, List, None, Option, Some, [], ap, arith, false, inl, inr, length, not, refl, replicate}
 pub use std_proofs.Common.{subst, suc, sym, true, zero, ℕ, ◌%◌, ◌&&◌, ◌*◌, ◌++◌, ◌+◌, ◌<◌, ◌^◌, ◌||◌, ◌∙◌, ◌∷◌, ◌≡◌}
 pub use std_proofs.{Common.{◌≢◌, ◌≤◌, ◌⊎◌}, lemmas.Bool.{agree_below, agree_below_at, and_from, and_parts, and_right}}
-pub use std_proofs.lemmas.Bool.{cases_eq, eqb-true, le-leb, leb-true, ltb-false, ne_eqb, not-true, or_left, or_right}
-pub use std_proofs.lemmas.{Bool.Decides.{nat_tests}, Option.{none-some, same_Some}}
+pub use std_proofs.lemmas.Bool.{cases_Bool, cases_eq, eqb-true, le-leb, leb-true, ltb-false, ne_eqb, not-true, or_left}
+pub use std_proofs.lemmas.{Bool.{or_right, Decides.{nat_tests}}, Option.{none-some, same_Some}}
 use Rattle.std.specs as std
 pub use std.{Int.{bit_at, Bits.{or_self, or_zero_r}, RustNames.{bit_or}}, List.{AllByRecursion, find}}
 pub use std.Prelude.{if◌then◌else◌, is_none, is_some, max, min, nat_le, nat_lt, slice_index, ◌==◌}
 unfoldable pub use std.Int.RustNames.{count_ones}
 use Rattle.bus_due.specs.bus_base.proofs as bus_base_proofs
-pub use bus_base_proofs.Tests.{all_three, and_more, eq_self, if_less, none_number, or_second, or_true}
+pub use bus_base_proofs.Tests.{all_three, and_false, and_more, eq_self, if_less, none_number, or_false, or_second}
+pub use bus_base_proofs.Tests.{or_true}
 use Rattle.bus_due.specs.bus_base.specs as bus_base
 pub use bus_base.declared.Event.{Event}
 use Rattle.bus_due.specs.bus_trace.proofs as bus_trace_proofs
@@ -29,7 +30,9 @@ pub use bus_trace.{Trace.{newer_line, since, since_line}, View.{AreTimesBefore, 
 pub use bus_trace.declared.{Kind.TheVariants.{Drives, Fault}, Row.{Row}, agreements.Agreement.{Agreement}}
 pub use bus_trace.declared.{agreements.TransferTimes.{TransferTimes}, arbitration.Arbitration.{Arbitration}}
 pub use bus_trace.declared.{changes.Change.{Change}, connection.Connection.{Connection}}
-pub use bus_trace.declared.{line_times.LineTimes.{LineTimes}, selection.{Call.{Call}, Calling.{Calling}}}
+pub use bus_trace.declared.delays.TheConstants.{ARBITRATION_DELAY, BUS_CLEAR_DELAY, BUS_SETTLE_DELAY, BUS_SET_DELAY}
+pub use bus_trace.declared.{delays.TheConstants.{ENTRY_DELAY, QUIET_TIME}, line_times.LineTimes.{LineTimes}}
+pub use bus_trace.declared.selection.{Call.{Call}, Calling.{Calling}}
 unfoldable pub use bus_trace.View.{union_below}
 use Rattle.bus_due.specs.bus_lines.proofs as bus_lines_proofs
 pub use bus_lines_proofs.Times.{ComeBefore, last_before, timely}

@@ -1,12 +1,12 @@
 -- The test of what valid commands are owed (IsDelivered): where it holds of a run, that does; and what a case shows of one command.
 use Rattle.delivery_laws.proofs
 use proofs.Names.{ℕ, suc, zero, ◌≡◌, ◌+◌, Bool, true, false, not, ◌&&◌, ◌||◌, ◌∙◌, List, [], ◌∷◌, Option, Some, None}
-use proofs.Names.{sym, ap, subst, arith, and_from, same_Some, ◌==◌, nat_le, and_first, and_second, Row, Sense}
-use proofs.Names.{QUEUE_FULL, ScenarioValue, AbortDef, CmdDef, ResetDef, command_at, same_bool, command_id, Outcome}
-use proofs.Names.{ended_aborted, ended_check, ended_full, ended_good, ended_lost, ended_reset, ended_unanswered}
-use proofs.Names.{is_roomy, is_valid, outcome_of, story, trace_history, is_good, was_refused, none_some, IsDelivered}
-use proofs.Names.{command_faults, fault_limit, first_ending, first_outcome, is_by_status, is_full, is_tried_out}
-use proofs.Names.{is_unanswered}
+use proofs.Names.{sym, ap, subst, arith, and_from, same_Some, ◌==◌, nat_le, and_first, and_second, plus_none, Row}
+use proofs.Names.{Sense, QUEUE_FULL, ScenarioValue, AbortDef, CmdDef, ResetDef, command_at, same_bool, command_id}
+use proofs.Names.{Outcome, ended_aborted, ended_check, ended_full, ended_good, ended_lost, ended_reset}
+use proofs.Names.{ended_unanswered, is_roomy, is_valid, outcome_of, story, trace_history, is_good, was_refused}
+use proofs.Names.{none_some, plus_one, IsDelivered, command_faults, fault_limit, first_ending, first_outcome}
+use proofs.Names.{is_by_status, is_full, is_tried_out, is_unanswered}
 
 abbrev pub has_no_reset : List ResetDef → Bool
 has_no_reset [] = true
@@ -93,19 +93,13 @@ given_if false r e z = absurd (never e)
 one_more : (m : ℕ) → 1 + m ≡ suc m
 one_more m = omega arith
 
-next_number : (n m : ℕ) → n + suc m ≡ n + 1 + m
-next_number n m = omega arith
-
-this_number : (n : ℕ) → n + 0 ≡ n
-this_number n = omega arith
-
 each_from : (s : ScenarioValue) (rows : List Row) (n m : ℕ) (commands : List CmdDef) (c : CmdDef) → delivers_from s rows n commands ≡ true → command_at commands (suc m) ≡ Some c → delivers_one s rows (n + m) c ≡ true
 each_from s rows n m [] c e at = none_some c at
 each_from s rows n zero (x ∷ commands) c e at =
-    subst (λ (k : ℕ). delivers_one s rows k c ≡ true) (sym (this_number n))
+    subst (λ (k : ℕ). delivers_one s rows k c ≡ true) (sym (plus_none n))
     (ap (λ (y : CmdDef). delivers_one s rows n y) (sym (same_Some x c at)) ∙ and_first (delivers_one s rows n x) (delivers_from s rows (n + 1) commands) e)
 each_from s rows n (suc m) (x ∷ commands) c e at =
-    subst (λ (k : ℕ). delivers_one s rows k c ≡ true) (sym (next_number n m)) (each_from s rows (n + 1) m commands c (and_second (delivers_one s rows n x) (delivers_from s rows (n + 1) commands) e) at)
+    subst (λ (k : ℕ). delivers_one s rows k c ≡ true) (sym (plus_one n m)) (each_from s rows (n + 1) m commands c (and_second (delivers_one s rows n x) (delivers_from s rows (n + 1) commands) e) at)
 
 no_command : (commands : List CmdDef) (c : CmdDef) → command_at commands 0 ≡ Some c → ⊥
 no_command [] c e = none_some c e

@@ -3,14 +3,15 @@
 use Rattle.std.proofs as std_proofs
 pub use std_proofs.Common.{Bool, Err, List, None, Ok, Option, Result, Some, [], ap, arith, cond, false, inl, inr}
 pub use std_proofs.Common.{length, min, not, refl, subst, suc, sym, true, zero, ℕ, ◌&&◌, ◌++◌, ◌+◌, ◌<◌, ◌^◌, ◌||◌, ◌∙◌}
-pub use std_proofs.{Common.{◌∷◌, ◌≡◌, ◌≤◌, ◌⊎◌}, Math.Nat.{min-le_left, min-le_right}, lemmas.Bool.{and_from}}
-pub use std_proofs.lemmas.Bool.{and_parts, cases_eq, eq-eqb, eqb-true, ne_eqb, not-true, or_left, or_parts, or_right}
-pub use std_proofs.lemmas.{Bool.Decides.{nat_tests}, Option.{same_Some}}
+pub use std_proofs.{Common.{◌∷◌, ◌≡◌, ◌≤◌, ◌⊎◌}, Math.Nat.{min-le_left, min-le_right}, lemmas.Bool.{and_from, and_left}}
+pub use std_proofs.lemmas.Bool.{and_parts, and_right, cases_Bool, cases_eq, eq-eqb, eqb-true, ne_eqb, not-false}
+pub use std_proofs.lemmas.{Bool.{not-true, or_left, or_parts, or_right, Decides.{nat_tests}}, Option.{same_Some}}
 use Rattle.std.specs as std
 pub use std.{List.{AllByRecursion, find, list_all, list_any}, Prelude.{if◌then◌else◌, is_none, is_some, nat_le, nat_lt}}
 pub use std.Prelude.{slice_index, ⊤, ◌==◌}
 use Rattle.bus_due.specs.bus_base.proofs as bus_base_proofs
-pub use bus_base_proofs.Tests.{and_false, and_first, and_second, eq_self, none_between, plus_none, wrong, wrong'}
+pub use bus_base_proofs.Tests.{and_false, and_first, and_second, and_true, either_stays, eq_self, none_between}
+pub use bus_base_proofs.Tests.{or_none_second, plus_none, wrong, wrong'}
 use Rattle.bus_due.specs.bus_base.specs as bus_base
 pub use bus_base.declared.{AbortKind.{AbortKind}, Event.{Event}, ProcId.{ProcId}}
 use Rattle.bus_due.specs.bus_trace.proofs as bus_trace_proofs
@@ -133,8 +134,8 @@ pub use target_units.Rooms.{AreOfLines, IsOfLine}
 use Rattle.target_course.proofs as target_course_proofs
 pub use target_course_proofs.ServedEnds.{ends_are}
 use Rattle.progress_laws.specs.bus_books.proofs as bus_books_proofs
-pub use bus_books_proofs.{Aims.{connected_aims}, CarriedRows.{process_id}, InConnection.{reading_is}, Lookups.{id_is}}
-pub use bus_books_proofs.{Lookups.{self_id}, Senses.{self_nexus}, Traces.{trace_faithful}}
+pub use bus_books_proofs.{Carried.Facts.{process_id}, Common.{InConnection.{reading_is}, Lookups.{id_is, self_id}}}
+pub use bus_books_proofs.{Items.Facts.{connected_aims}, Replies.Senses.{self_nexus}, Traces.{trace_faithful}}
 use Rattle.progress_laws.specs.bus_books.specs as bus_books
 pub use bus_books.FullQueues.{finds_full_queue, finds_full_queue_if, has_cause, has_event, was_refused}
 pub use bus_books.{Hearing.{LeavesWhole, is_in_phase}, Listening.{nothing_understood, understanding, understood}}
@@ -143,55 +144,64 @@ pub use bus_books.{Traces.{RowOf, apart, begins, ends, goes_on, under_reset}, Wr
 pub use bus_books.WrongParity.{has_more_faults, is_complaint, is_failure, is_fault_of, is_left_as_due, is_left_by}
 pub use bus_books.WrongParity.{is_loss, is_struck_phase, is_wrong_phase, left_as_due, serves}
 use Rattle.progress_laws.specs.bus_laws.proofs as bus_laws_proofs
-pub use bus_laws_proofs.{Apart.{change_plain}, Dues.{is_at}, FromAnswer.{from_answered, from_resumed, from_withdrawn}}
-pub use bus_laws_proofs.{FromArbitration.{from_arbitration}, FromCalling.{from_asking, from_calls}}
-pub use bus_laws_proofs.{FromFree.{from_free}, FromReset.{off_at}, FromWon.{from_won}, Limits.{obeys_latencies}}
-pub use bus_laws_proofs.{Prompt.{least_is}, Resets.{due_calm, due_holding, due_there, own_reset_is}, Rows.{drives_own}}
-pub use bus_laws_proofs.Together.{by_calm, reset_or_calm}
+pub use bus_laws_proofs.{Lines.{Apart.{change_plain}, Rows.{drives_own}}, Resets.Dues.{due_calm, due_holding}}
+pub use bus_laws_proofs.{Resets.{Dues.{due_there, own_reset_is}, Rows.{off_at}}, Stages.Answer.{from_answered}}
+pub use bus_laws_proofs.Stages.{Answer.{from_resumed, from_withdrawn}, Arbitration.{from_arbitration}}
+pub use bus_laws_proofs.Stages.{Calling.{from_asking, from_calls}, Dues.{is_at}, Facts.{least_is}, Free.{from_free}}
+pub use bus_laws_proofs.{Stages.{Next.{by_calm, reset_or_calm}, Won.{from_won}}, Times.Limits.{obeys_latencies}}
 use Rattle.progress_laws.specs.bus_laws.specs as bus_laws
 pub use bus_laws.{Callings.{calling_lines, won_call}, Reactions.{reset_due, reset_due_if, unreset_due}}
 pub use bus_laws.{Rows.{row_of_lines}, Stages.{BusStage, CalmStanding, HasShortLatencies, after_answer}}
 pub use bus_laws.Stages.{after_arbitration, after_takeover, after_withdrawal, awaiting_answer, in_arbitration}
 pub use bus_laws.Stages.{in_connection, in_reset, is_connected, on_free_bus, with_both_ids}
 use Rattle.progress_laws.specs.link_laws.proofs as link_laws_proofs
-pub use link_laws_proofs.{FromLink.{from_link}, PhaseEnds.{AfterLink, frees}, RunLengths.{runs_are_short}}
+pub use link_laws_proofs.{FromLink.{from_link}, Phases.Ends.{AfterLink, frees}, Runs.Lengths.{runs_are_short}}
 pub use link_laws_proofs.Traces.{link_calm}
 use Rattle.progress_laws.specs.link_laws.specs as link_laws
 pub use link_laws.{Books.{KeepsBooksIn}, LinkStages.{AnyStage, linked}}
+use Rattle.progress_laws.specs.row_laws.proofs as row_laws_proofs
+pub use row_laws_proofs.Common.{Impossible.{none_some}, PhaseLines.{command_phase}, Tests.{plus_one}}
+pub use row_laws_proofs.Events.{Arriving.{no_guest, not_running}, Others.{executed, reply_at}, Replies.{accepted}}
+pub use row_laws_proofs.Events.{Replies.{refused, running_id, settles}, Units.{MayWait, StaysSo, each_settled}}
+pub use row_laws_proofs.Events.{Units.{events_all, unit_has}, Writers.{append_all, kept_all, without_all}}
+pub use row_laws_proofs.Lines.{Called.{IsDueCall, sel_of_call}, Connections.{connection_row}, Crossings.{RowFacts}}
+pub use row_laws_proofs.Lines.{Crossings.{ends_here, stays}, Joint.{NextStood, Stood}}
+use Rattle.progress_laws.specs.row_laws.specs as row_laws
+pub use row_laws.{DataPointers.{is_marked}, ItemFacts.{AllP, AreChecked, IsChecked, IsNext, IsQueued, Items, RunsP}}
+pub use row_laws.{ItemFacts.{UnitsP, is_abort, is_sense}, Places.{AnsweredOpen, Closes, IsAtRest, IsAway, IsTaken}}
+pub use row_laws.Places.{IsUnanswered, IsUntouched, OnGuests, OnUnit, OnUnits, PlacedAsked, PlacedBefore, PlacedIf}
+pub use row_laws.{Places.{PlacedIn, Runs, RunsOpen, Waits, completes, disconnects}, WriteFacts.{AllUnits, IsOther}}
+pub use row_laws.WriteFacts.{IsWrittenUnit}
+use Rattle.progress_laws.specs.story_laws.proofs as story_laws_proofs
+pub use story_laws_proofs.Items.{Facts.{aimed_next}, Fresh.{calm_before, items_open}, Open.{item_is, same_process}}
+pub use story_laws_proofs.Items.{Over.{ends_over, ends_senses, events_checked, events_grow, in_append}, Sent.{AllOf}}
+pub use story_laws_proofs.{Items.Sent.{carried_of_item, process_in, row_of}, Pointers.Waits.{change_over}}
+pub use story_laws_proofs.{Pointers.Waits.{connection_sent}, Undone.{Answers.{same_phase_of}, Turns.{not_out}}}
+use Rattle.progress_laws.specs.story_laws.specs as story_laws
+pub use story_laws.Items.{IsServedOpen}
 use Rattle.progress_laws.specs.trace_laws.proofs as trace_laws_proofs
-pub use trace_laws_proofs.Common.{Impossible.{none_some}, PhaseLines.{command_phase}, Tests.{plus_one}}
-pub use trace_laws_proofs.Events.{Arriving.{not_running}, Others.{executed, reply_at}, Replies.{accepted, refused}}
-pub use trace_laws_proofs.Events.{Replies.{running_id, settles}, Units.{MayWait, StaysSo, each_settled, events_all}}
-pub use trace_laws_proofs.Events.{Units.{unit_has}, Writers.{append_all, kept_all, without_all}}
-pub use trace_laws_proofs.Items.{Facts.{aimed_next}, Fresh.{calm_before, items_open}, Open.{item_is, same_process}}
-pub use trace_laws_proofs.Items.{Over.{ends_over, ends_senses, events_checked, events_grow, in_append}, Sent.{AllOf}}
-pub use trace_laws_proofs.{Items.Sent.{carried_of_item, process_in, row_of}, Lines.Called.{IsDueCall, sel_of_call}}
-pub use trace_laws_proofs.Lines.{Connections.{connection_row}, Crossings.{RowFacts, ends_here, stays}}
-pub use trace_laws_proofs.{Lines.Joint.{NextStood, Stood}, Places.Ready.{on_running}, Pointers.Waits.{change_over}}
-pub use trace_laws_proofs.{Pointers.Waits.{connection_sent}, Undone.Answers.{same_phase_of}, Whole.{Whole}}
-pub use trace_laws_proofs.{Whole.{standing_next, whole}, Writes.Arrivals.{ArrivesNow, arrives_first}}
+pub use trace_laws_proofs.{Places.Ready.{on_running}, Whole.{Whole, standing_next, whole}, Writes.Arrivals.{ArrivesNow}}
+pub use trace_laws_proofs.Writes.Arrivals.{arrives_first}
 use Rattle.progress_laws.specs.trace_laws.specs as trace_laws
-pub use trace_laws.{DataPointers.{is_marked}, ItemFacts.{AllP, AreChecked, IsChecked, IsNext, IsQueued, Items, RunsP}}
-pub use trace_laws.{ItemFacts.{UnitsP, is_abort, is_sense}, Items.{IsServedOpen}, Places.{AnsweredOpen, Closes}}
-pub use trace_laws.Places.{IsAtRest, IsAway, IsTaken, IsUnanswered, IsUntouched, OnGuests, OnUnit, OnUnits, PlacedAsked}
-pub use trace_laws.Places.{PlacedBefore, PlacedIf, PlacedIn, Runs, RunsOpen, Waits, completes, disconnects}
-pub use trace_laws.{Statuses.{IsStatusIn, IsStatusOf}, WriteFacts.{AllUnits, IsOther, IsWrittenUnit}}
+pub use trace_laws.Statuses.{IsStatusIn, IsStatusOf}
 use Rattle.progress_laws.proofs as progress_laws_proofs
-pub use progress_laws_proofs.{Answered.{AreUnwanted, sense_wanted}, DebtEvents.{AllPay, Paid, events_pay}}
-pub use progress_laws_proofs.{DebtNext.{sense_is, senses_same}, DebtSteps.{debt_before, is_checked, is_not_over}}
-pub use progress_laws_proofs.{DebtSteps.{same_debt, same_debts}, DebtTraces.{Indebted, indebted, row_pays}}
-pub use progress_laws_proofs.{Ended.{Joined, free_when_ended, joined, unwanted_when_ended}, Entries.{WantsAreItems}}
-pub use progress_laws_proofs.{FetchedSenses.{sense_cdb}, Owed.{nexus_at}, OwedEvents.{OfCommand, of_command}}
-pub use progress_laws_proofs.{OwedEvents.{running_own}, OwedRows.{Holds, changed}, QueueRows.{WasOpen, before}}
-pub use progress_laws_proofs.{QueueRows.{fewer_open, open_before}, Rooms.{target_there}}
+pub use progress_laws_proofs.{Callees.First.{WantsAreItems}, Debts.Events.{AllPay, Paid, events_pay}}
+pub use progress_laws_proofs.Debts.{Facts.{Indebted, indebted, row_pays}, Next.{sense_is, senses_same}}
+pub use progress_laws_proofs.Debts.{Senses.{sense_cdb}, Steps.{debt_before, is_checked, is_not_over, same_debt}}
+pub use progress_laws_proofs.{Debts.Steps.{same_debts}, Outcomes.Answered.{AreUnwanted, sense_wanted}}
+pub use progress_laws_proofs.{Outcomes.Seats.{target_there}, Owed.Events.{OfCommand, of_command, running_own}}
+pub use progress_laws_proofs.{Owed.{Rows.{Holds, changed}, Steps.{nexus_at}}, Queues.Rows.{WasOpen, before, fewer_open}}
+pub use progress_laws_proofs.{Queues.Rows.{open_before}, Quiet.Facts.{Joined, free_when_ended, joined}}
+pub use progress_laws_proofs.Quiet.Facts.{unwanted_when_ended}
 use Rattle.progress_laws.specs as progress_laws
 pub use progress_laws.Debts.{Debts, IsDebt, PaysWell, is_owed, nexus_of_command}
 use Rattle.right_laws.proofs as right_laws_proofs
 pub use right_laws_proofs.Ran.{Crossings.{GoesSo, IsNew, here_goes, known_served, new_here}, Facts.{Known, ended_next}}
-pub use right_laws_proofs.Ran.{Right.{AreJoined, all_joined, joined_last}, Undone.{load_next, load_start}}
-pub use right_laws_proofs.Samples.{Callings.{asks_row, reset_sel, struck_out, waits_row}, Calls.{GoesOn, call_goes}}
-pub use right_laws_proofs.Samples.{Moments.{apart_of}, Resets.{CalmRow, ResetRow, calm_row, lets_go, raises, reacts}}
-pub use right_laws_proofs.{Samples.Resets.{resets}, Statuses.Facts.{status_at_end, status_next, status_start}}
+pub use right_laws_proofs.Ran.{Open.{none_is}, Right.{AreJoined, all_joined, joined_last}, Undone.{load_next}}
+pub use right_laws_proofs.{Ran.Undone.{load_start}, Samples.Callings.{asks_row, reset_sel, struck_out, waits_row}}
+pub use right_laws_proofs.Samples.{Calls.{GoesOn, call_goes}, Moments.{apart_of}, Resets.{CalmRow, ResetRow, calm_row}}
+pub use right_laws_proofs.{Samples.Resets.{lets_go, raises, reacts, resets}, Statuses.Facts.{status_at_end}}
+pub use right_laws_proofs.Statuses.Facts.{status_next, status_start}
 use Rattle.right_laws.specs as right_laws
 pub use right_laws.{Loads.{UndoLoadFacts}, Open.{OnEvents}, Runs.{HasEnded}, StatusBytes.{StatusFacts}}
 use Rattle.initiator.proofs as initiator_proofs

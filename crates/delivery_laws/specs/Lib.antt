@@ -11,4 +11,6 @@ pub use Rattle.progress_laws.specs.target_units
 pub use Rattle.progress_laws.specs.bus_books
 pub use Rattle.progress_laws.specs.bus_laws
 pub use Rattle.progress_laws.specs.link_laws
+pub use Rattle.progress_laws.specs.row_laws
+pub use Rattle.progress_laws.specs.story_laws
 pub use Rattle.progress_laws.specs.trace_laws

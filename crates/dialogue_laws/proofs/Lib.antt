@@ -1,17 +1,8 @@
 pub mod Names
 pub mod AbortLines
-pub mod AbortsTold
 mod Cases
-pub mod StruckPlans
-pub mod PhaseEnds
-pub mod RecoveryRows
-pub mod RunRows
-pub mod RunBytes
+pub mod Struck
+pub mod Leavings
+pub mod DataRuns
 mod Turns
 mod TurnCases
-pub mod ComplaintRows
-pub mod GiveUpRows
-pub mod StruckRows
-pub mod StruckPhases
-pub mod Refusals
-pub mod StruckRuns

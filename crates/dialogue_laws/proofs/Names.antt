@@ -3,7 +3,8 @@
 use Rattle.std.proofs as std_proofs
 pub use std_proofs.Common.{Bool, List, None, Option, Some, [], ap, arith, false, inl, inr, length, not, refl, subst}
 pub use std_proofs.Common.{suc, sym, true, zero, ℕ, ◌&&◌, ◌++◌, ◌+◌, ◌<◌, ◌||◌, ◌∙◌, ◌∷◌, ◌≡◌, ◌≤◌, ◌⊎◌}
-pub use std_proofs.lemmas.{Bool.{and_parts, eqb-true, leb-true, ltb-false, ltb-true, or_right}, Option.{same_Some}}
+pub use std_proofs.lemmas.Bool.{and_parts, cases_Bool, eqb-true, leb-true, ltb-false, ltb-true, not-true, or_right}
+pub use std_proofs.lemmas.Option.{same_Some}
 use Rattle.std.specs as std
 pub use std.{List.{list_any}, Prelude.{if◌then◌else◌, is_none, is_some, nat_lt, ◌==◌}}
 use Rattle.bus_due.specs.bus_base.proofs as bus_base_proofs
@@ -95,8 +96,9 @@ pub use scsi_device_proofs.FitLines.{abort_fits, obeys_fits, units_are}
 use Rattle.progress_laws.specs.scsi_device.specs as scsi_device
 pub use scsi_device.Lines.{IsAbortLine}
 use Rattle.progress_laws.specs.bus_books.proofs as bus_books_proofs
-pub use bus_books_proofs.{Aims.{aims_are}, Counts.{struck_is}, GiveUps.{failure_is, loss_by, lost_calm}}
-pub use bus_books_proofs.InConnection.{InConnection, SamePhase, in_connection, reading_is, same_phase_is}
+pub use bus_books_proofs.Common.InConnection.{InConnection, SamePhase, in_connection, reading_is, same_phase_is}
+pub use bus_books_proofs.Failures.{Counts.{struck_is}, GiveUps.{failure_is, loss_by, lost_calm}}
+pub use bus_books_proofs.Items.Facts.{aims_are}
 use Rattle.progress_laws.specs.bus_books.specs as bus_books
 pub use bus_books.{FullQueues.{has_event}, Hearing.{is_out_phase}, Items.{IsItem, is_abort, is_process}}
 pub use bus_books.{Knowing.{Knows}, Reactions.{IsOver}, Rows.{IsRowIn, RowKind, crosses, reading_in, still, strikes}}
@@ -104,39 +106,45 @@ pub use bus_books.{Rows.{turns}, Traces.{AreRowsOf, Books, RowOf, apart, begins,
 pub use bus_books.WrongParity.{gives_up, is_complaint, is_failure, is_left_as_due, is_left_by, is_loss}
 pub use bus_books.WrongParity.{is_refusal_after, is_refusing, is_struck_after, is_struck_phase, left_as_due}
 use Rattle.progress_laws.specs.bus_laws.proofs as bus_laws_proofs
-pub use bus_laws_proofs.{Apart.{change_plain}, Prompt.{least_is}, Rows.{fault_change}}
+pub use bus_laws_proofs.{Lines.{Apart.{change_plain}, Rows.{fault_change}}, Stages.Facts.{least_is}}
 use Rattle.progress_laws.specs.bus_laws.specs as bus_laws
 pub use bus_laws.{Ends.{EndLines, Linked, connected_bus, initiator_side, target_side}, Rows.{change_to, row_of_fault}}
 pub use bus_laws.Rows.{row_of_lines}
 use Rattle.progress_laws.specs.link_laws.proofs as link_laws_proofs
-pub use link_laws_proofs.{EndDues.{answering_with, offering_with}, Moves.{initiator_moves, no_rise, phase_same}}
-pub use link_laws_proofs.Moves.{target_moves}
+pub use link_laws_proofs.{Dues.Ends.{answering_with, offering_with}, Lines.Rows.{initiator_moves, no_rise, phase_same}}
+pub use link_laws_proofs.Lines.Rows.{target_moves}
 use Rattle.progress_laws.specs.link_laws.specs as link_laws
 pub use link_laws.LinkStages.{AnyStage, LinkStage, linked, when_offering, when_pulsing, when_selected, when_settling}
 pub use link_laws.{LinkStages.{when_shaking, when_turning}, Pulses.{run_count}}
+use Rattle.progress_laws.specs.row_laws.proofs as row_laws_proofs
+pub use row_laws_proofs.Common.{Impossible.{none_some}, PhaseLines.{data_in_lines, in_phase, not_message_in}}
+pub use row_laws_proofs.{Common.PhaseLines.{not_message_out, out_phase}, Lines.Attention.{lines_are}}
+pub use row_laws_proofs.Lines.Connections.{ConnectionRow, GoingRow, RowKindOf, begins_now, connection_row, goes_now}
+pub use row_laws_proofs.Lines.{Connections.{going_row, row_kind, stage_of_connection}, Crossings.{RowFacts, ends_here}}
+pub use row_laws_proofs.Lines.{Crossings.{stays}, Joint.{NextStood, link_connection, link_phase}, Kept.{turn}}
+pub use row_laws_proofs.Lines.{Rows.{LinkRow, is_unasked}, Turns.{freed_connection}}
+use Rattle.progress_laws.specs.row_laws.specs as row_laws
+pub use row_laws.{DataPointers.{is_marked}, ItemTalks.{awaits}, Places.{PlacedAsked, PlacedIf, PlacedIn}}
+pub use row_laws.Tells.{IsLeaving, IsServed, code_if, of_abort, of_process}
+use Rattle.progress_laws.specs.story_laws.proofs as story_laws_proofs
+pub use story_laws_proofs.Commands.{Messages.{same_item as item_served}, Next.{out_unstruck}}
+pub use story_laws_proofs.{Complaints.{Facts.{speech_said}, Turns.{left_for_out}}, Instructed.Turns.{out_is}}
+pub use story_laws_proofs.Items.{Facts.{falls_quiet}, First.{next_unended, next_unsent}, Fresh.{items_fresh}}
+pub use story_laws_proofs.Items.{Open.{item_is}, Rows.{served_item}, Sent.{free_keeps}, Steps.{free_still}}
+pub use story_laws_proofs.{Offers.Leavings.{all_said, parity_said}, Pointers.Leavings.{is_attended}}
+pub use story_laws_proofs.{Pointers.Waits.{connection_sent}, Talks.First.{first_sent, sent_with}}
+pub use story_laws_proofs.{Tells.{Ends.{none_heard}, Rows.{IsHeard, is_heard}}, Undone.Answers.{same_phase_of}}
+pub use story_laws_proofs.Undone.Facts.{in_of, undo_asks}
+use Rattle.progress_laws.specs.story_laws.specs as story_laws
+pub use story_laws.{Complaints.{any_struck}, Named.{Named, known, refused, said}}
 use Rattle.progress_laws.specs.trace_laws.proofs as trace_laws_proofs
-pub use trace_laws_proofs.Commands.{Messages.{same_item as item_served}, Next.{out_unstruck}}
-pub use trace_laws_proofs.Common.{Impossible.{none_some}, PhaseLines.{data_in_lines, in_phase, not_message_in}}
-pub use trace_laws_proofs.{Common.PhaseLines.{not_message_out, out_phase}, Complaints.Turns.{left_for_out}}
 pub use trace_laws_proofs.Failures.{Bytes.{SameFail, still_fails}, Crossings.{in_none, out_none, quiet_same}}
-pub use trace_laws_proofs.{Failures.Faults.{fault_receives}, Instructed.Turns.{out_is}, Items.Facts.{falls_quiet}}
-pub use trace_laws_proofs.Items.{First.{next_unended, next_unsent}, Fresh.{items_fresh}, Open.{item_is}}
-pub use trace_laws_proofs.Items.{Rows.{served_item}, Sent.{free_keeps}, Steps.{free_still}}
-pub use trace_laws_proofs.Lines.{Attention.{lines_are}, Connections.{ConnectionRow, GoingRow, RowKindOf, begins_now}}
-pub use trace_laws_proofs.Lines.Connections.{connection_row, goes_now, going_row, row_kind, stage_of_connection}
-pub use trace_laws_proofs.Lines.{Crossings.{RowFacts, ends_here, stays}, Joint.{NextStood, link_connection, link_phase}}
-pub use trace_laws_proofs.Lines.{Kept.{turn}, Rows.{LinkRow, is_unasked}, Turns.{freed_connection}}
-pub use trace_laws_proofs.{Offers.Leavings.{all_said, parity_said}, Pointers.Leavings.{is_attended}}
-pub use trace_laws_proofs.{Pointers.Waits.{connection_sent}, Runs.{Counts.{or_left, unasked_low}, Facts.{task_here}}}
-pub use trace_laws_proofs.{Sent.Facts.{sent_asks}, Talks.First.{first_sent, sent_with}, Tells.Ends.{none_heard}}
-pub use trace_laws_proofs.{Tells.Rows.{IsHeard, is_heard}, Undone.{Answers.{same_phase_of}, Facts.{undo_asks}}}
-pub use trace_laws_proofs.Whole.{Whole, standing_next, steps, whole}
+pub use trace_laws_proofs.{Failures.Faults.{fault_receives}, Runs.{Counts.{or_left, unasked_low}, Facts.{task_here}}}
+pub use trace_laws_proofs.{Sent.{Facts.{sent_asks}, Requests.{last_struck}}, Whole.{Whole, standing_next, steps, whole}}
 use Rattle.progress_laws.specs.trace_laws.specs as trace_laws
-pub use trace_laws.{Complaints.{any_struck}, DataPointers.{is_marked}, ItemTalks.{awaits}, Named.{Named, known}}
-pub use trace_laws.{Named.{refused, said}, Places.{PlacedAsked, PlacedIf, PlacedIn}, SentFailures.{SentTalk}}
-pub use trace_laws.Tells.{IsLeaving, IsServed, code_if, of_abort, of_process}
+pub use trace_laws.SentFailures.{SentTalk}
 use Rattle.progress_laws.proofs as progress_laws_proofs
-pub use progress_laws_proofs.{Ended.{free_when_ended, joined}, Rooms.{initiator_there}}
+pub use progress_laws_proofs.{Outcomes.Seats.{initiator_there}, Quiet.Facts.{free_when_ended, joined}}
 use Rattle.right_laws.proofs as right_laws_proofs
 pub use right_laws_proofs.{DataIn.Facts.{read_books}, Offers.Steps.{is_data_in}}
 use Rattle.dialogue_laws.specs as dialogue_laws

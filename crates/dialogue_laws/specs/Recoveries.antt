@@ -23,7 +23,7 @@ use Rattle.bus_due.specs.Defs.{target_def_of}
 use Rattle.bus_due.specs.LastingState.{progress_in}
 use Rattle.bus_due.specs.RunState.{RunState, array_of, process_served}
 use Rattle.bus_due.specs.RunSteps.{events_of_row, run_state}
-use Rattle.progress_laws.specs.trace_laws.specs.Tells.{IsLeaving}
+use Rattle.progress_laws.specs.row_laws.specs.Tells.{IsLeaving}
 
 -- The phase of the connection after these rows; without a connection BUS FREE.
 abbrev pub phase_if : Option Connection → LineSet → Option Phase

@@ -25,7 +25,7 @@ ghost use Rattle.bus_due.specs.RunSteps.{events_of_row, run_state};
 ghost use Rattle.progress_laws.specs.bus_books.specs.FullQueues.{has_event};
 ghost use Rattle.progress_laws.specs.bus_books.specs.Hearing.{is_out_phase};
 ghost use Rattle.progress_laws.specs.bus_books.specs.WrongParity.{gives_up, is_complaint, is_failure, is_loss, is_refusing, is_struck_phase};
-ghost use Rattle.progress_laws.specs.trace_laws.specs.Tells.{IsLeaving, code_if};
+ghost use Rattle.progress_laws.specs.row_laws.specs.Tells.{IsLeaving, code_if};
 ghost use Rattle.dialogue_laws.specs.Recoveries.{Complains, FailsWith, HasTakenAll, IsAsked, IsLost, IsWithin, LeavesPhase, Recovers, RecoversUnless, Repeats, is_spent};
 
 /// As the target leaves a phase in which parity was wrong it recovers, or gives up the process, and that exactly where

@@ -3,33 +3,33 @@ use Rattle.link_laws.proofs
 use proofs.Names.{◌⊎◌, inl, inr, ℕ, ◌≡◌, ◌≤◌, ◌<◌, ◌+◌, Bool, true, false, not, ◌&&◌, ◌||◌, ◌==◌, ◌∙◌, List, Some, refl}
 use proofs.Names.{sym, ap, subst, arith, None, length, eqb-true, le-leb, nat_tests, none-some, if◌then◌else◌, max}
 use proofs.Names.{nat_le, nat_lt, and_false, zero_of, implication_parts, times_of, implies, LineSet, none, bit_value}
-use proofs.Names.{parity_of, drives, last_time, line_times, phase_time, Drives, Row, Connection, handshakes}
-use proofs.Names.{no_handshakes, first_of, is_struck, dialogue, duty, pulses, no_pulses, Duty, is_owed, ScenarioValue}
-use proofs.Names.{latency_of, attends_by, due_at, byte_bits, bits_if, Due, is_pulsed_phase, begun, Serving, phase_of}
-use proofs.Names.{phase_leaving, Leaving, IsLeast, own_of, run_state, flip_of, serving_at, is_at, offset_is_byte}
-use proofs.Names.{EndLines, initiator_side, target_side, connected_bus, Linked, BeginsSelected, ends_selected, own_time}
-use proofs.Names.{unreset_due, row_of_lines, CalmStanding, HasShortLatencies, HasDevice, KeepsBooksIn, LinkStage}
-use proofs.Names.{when_selected, when_settling, when_turning, when_offering, when_shaking, when_pulsing, ends}
-use proofs.Names.{fits_duty, is_owed_out, OneSide, Settling, Turning, OfferingStage as Offering, Shaking, times_here}
-use proofs.{Names.{offset_here, run_count, next_bits}, Ahead.{never}, Asks.{hold_short, releases_byte, offers_byte}}
-use proofs.{Asks.{Asking, asks_in, asks_out}, Duties.{may_ask}, EndDues.{due_of, Mover, by_fault, by_initiator}}
-use proofs.EndDues.{by_target, mover_is, target_plain, initiator_plain, offering_with, answering_with, initiator_is}
-use proofs.{EndDues.{sampled_or, sampled_by, is_sampling}, Enters.{opens, hands_over}, Faults.{strikes_byte}}
-use proofs.{Goes.{NextLinked}, Leaves.{data_out_to_initiator}, PhaseEnds.{leaves_lines, AfterLink, goes_on, unasked}}
-use proofs.{PhaseEnds.{leaves_phase}, PulseDues.{pulsed_target_in, pulsed_target_out, pulsed_initiator_in}}
-use proofs.PulseDues.{pulsed_initiator_out, hold_end_time, pulse_time, leaving_time, ack_pulse_end_time, answer_time}
-use proofs.{PulseDues.{release_time, byte_driven_time, given_bits}, PulseEnds.{pulsed_leaves_in, pulsed_leaves_out}}
-use proofs.{PulseIn.{req_pulses_in, byte_changes_in, answers_pulse_in, ends_pulse_in}, PulseOut.{req_ends_out}}
-use proofs.PulseOut.{req_pulses_out, answers_pulse_out, ends_pulse_out, gives_pulsed_byte, releases_pulsed_byte}
-use proofs.{PulseOut.{no_attention}, PulseRows.{NextPulsing, PulseHere, req_ends_in}, PulseStarts.{starts_in}}
-use proofs.{PulseStarts.{starts_out}, RunLengths.{HasShortRuns}, Shakes.{target_row, initiator_row, takes_req_in}}
-use proofs.Shakes.{takes_req_out, ends_ack_in, ends_ack_out, answers_in, gives_byte, answers_out}
-use proofs.StageDues.{selected_target, selected_initiator, settling_target, settling_initiator, handing_initiator}
-use proofs.StageDues.{turning_target, turned_initiator, owing_initiator, offering_target, offering_initiator}
-use proofs.StageDues.{answered_target, answered_initiator_in, answered_initiator_out, asking_target}
-use proofs.StageDues.{asking_initiator_in, asking_initiator_out, giving_initiator_out, ending_target}
-use proofs.StageDues.{ending_initiator_in, ending_initiator_out, ack_end_time, between_target, between_initiator_in}
-use proofs.StageDues.{between_initiator_out}
+use proofs.Names.{parity_of, drives, last_time, line_times, phase_time, Drives, Row, Connection, BUS_SETTLE_DELAY}
+use proofs.Names.{TURN_DELAY, handshakes, no_handshakes, first_of, is_struck, dialogue, duty, pulses, no_pulses, Duty}
+use proofs.Names.{is_owed, ScenarioValue, latency_of, attends_by, due_at, byte_bits, bits_if, Due, is_pulsed_phase}
+use proofs.Names.{begun, Serving, phase_of, phase_leaving, Leaving, IsLeast, own_of, run_state, flip_of, serving_at}
+use proofs.Names.{is_at, offset_is_byte, EndLines, initiator_side, target_side, connected_bus, Linked, BeginsSelected}
+use proofs.Names.{ends_selected, own_time, unreset_due, row_of_lines, CalmStanding, HasShortLatencies, HasDevice}
+use proofs.Names.{KeepsBooksIn, LinkStage, when_selected, when_settling, when_turning, when_offering, when_shaking}
+use proofs.Names.{when_pulsing, ends, fits_duty, is_owed_out, OneSide, Settling, Turning, OfferingStage as Offering}
+use proofs.{Names.{Shaking, times_here, offset_here, run_count, next_bits}, Dues.Ends.{due_of, Mover, by_fault}}
+use proofs.Dues.Ends.{by_initiator, by_target, mover_is, target_plain, initiator_plain, offering_with, answering_with}
+use proofs.Dues.{Ends.{initiator_is, sampled_or, sampled_by, is_sampling}, Facts.{never}, Stages.{selected_target}}
+use proofs.Dues.Stages.{selected_initiator, settling_target, settling_initiator, handing_initiator, turning_target}
+use proofs.Dues.Stages.{turned_initiator, owing_initiator, offering_target, offering_initiator, answered_target}
+use proofs.Dues.Stages.{answered_initiator_in, answered_initiator_out, asking_target, asking_initiator_in}
+use proofs.Dues.Stages.{asking_initiator_out, giving_initiator_out, ending_target, ending_initiator_in}
+use proofs.Dues.Stages.{ending_initiator_out, ack_end_time, between_target, between_initiator_in, between_initiator_out}
+use proofs.Phases.{Asks.{hold_short, releases_byte, offers_byte, Asking, asks_in, asks_out}, Crossings.{target_row}}
+use proofs.Phases.Crossings.{initiator_row, takes_req_in, takes_req_out, ends_ack_in, ends_ack_out, answers_in}
+use proofs.Phases.{Crossings.{gives_byte, answers_out, or_asks}, Duties.{may_ask}, Ends.{leaves_lines, AfterLink}}
+use proofs.Phases.{Ends.{goes_on, unasked, leaves_phase}, Faults.{strikes_byte}, First.{opens, hands_over}}
+use proofs.{Phases.{Leavings.{data_out_to_initiator}, Stays.{NextLinked}}, Pulses.Dues.{pulsed_target_in}}
+use proofs.Pulses.Dues.{pulsed_target_out, pulsed_initiator_in, pulsed_initiator_out, hold_end_time, pulse_time}
+use proofs.Pulses.Dues.{leaving_time, ack_pulse_end_time, answer_time, release_time, byte_driven_time, given_bits}
+use proofs.Pulses.{Ends.{pulsed_leaves_in, pulsed_leaves_out}, First.{starts_in, starts_out}, In.{req_pulses_in}}
+use proofs.Pulses.{In.{byte_changes_in, answers_pulse_in, ends_pulse_in}, Out.{req_ends_out, req_pulses_out}}
+use proofs.Pulses.Out.{answers_pulse_out, ends_pulse_out, gives_pulsed_byte, releases_pulsed_byte, no_attention}
+use proofs.{Pulses.Rows.{NextPulsing, PulseHere, req_ends_in}, Runs.Lengths.{HasShortRuns}}
 use lib.Count.{ones}
 
 -- What the next row is due to be, of the lines of one device.
@@ -111,7 +111,7 @@ from_settling s p row n true atn msg cd io y fits always there order h books lea
     hands false z h books at = absurd cc
 from_settling s p row n false atn msg cd io y fits always there order h books least (by_initiator lat lat_is same e) = absurd (never _ (due_of row) (settling_initiator s p n atn msg cd io y lat h) e)
 from_settling s p row n true atn msg cd io y fits always there order h books least (by_target lat lat_is same e) =
-    let at = (is_at (phase_time (line_times p) + 400 + lat) (target_side (ends true false atn 0 msg cd io true y)) (due_of row) (sym (settling_target s p n true atn msg cd io y lat h) ∙ e)).time_is in
+    let at = (is_at (phase_time (line_times p) + BUS_SETTLE_DELAY + lat) (target_side (ends true false atn 0 msg cd io true y)) (due_of row) (sym (settling_target s p n true atn msg cd io y lat h) ∙ e)).time_is in
     let device = is_device s p n.initiator (initiator_side (ends true false atn 0 msg cd io false y)) there h.linked.initiator_below h.linked.initiator (λ z. let w = ap (λ (k : LineSet). k.bsy) z in cc) in
     let hands = h.hands refl in
     let sooner = not_sooner s p row n (ends true false atn 0 msg cd io false y) device.0 ((line_times p).sel + device.0) (initiator_side (ends false false atn 0 msg cd io false y)) always h.linked h.phase.begun_is device.1 (handing_initiator s p n atn msg cd io y device.0) (let u = hands.2 in omega arith) least in
@@ -119,7 +119,7 @@ from_settling s p row n true atn msg cd io y fits always there order h books lea
     let w = fits.latency n.initiator device.0 device.1 in
     absurd (omega arith)
 from_settling s p row n false atn msg cd io y fits always there order h books least (by_target lat lat_is same e) =
-    reacts s p n row n.target (phase_time (line_times p) + 400 + lat) (target_side (ends false false atn 0 msg cd io true y)) same (sym (settling_target s p n false atn msg cd io y lat h) ∙ e) books
+    reacts s p n row n.target (phase_time (line_times p) + BUS_SETTLE_DELAY + lat) (target_side (ends false false atn 0 msg cd io true y)) same (sym (settling_target s p n false atn msg cd io y lat h) ∙ e) books
     (λ at books. asks_first s p n atn msg cd io y row.time h.side h.quiet h.pulses_are (record {
       always = always;
       order = order;
@@ -151,10 +151,10 @@ from_turning s p row n atn x msg cd fits always there order h books least (by_ta
     go : (q : Bool) → (x == 0) ≡ q → AfterLink s p row n
     go true none =
         let at_zero = subst (λ z. Turning s p n atn z msg cd) (zero_of x none) h in
-        reacts s p n row n.target (phase_time (line_times p) + 800 + lat) (target_side (ends false false atn 0 msg cd true false (byte_bits (offering_with s p n true (ends false false atn 0 msg cd true false 0)).byte))) same (sym (turning_target s p n atn 0 msg cd lat at_zero) ∙ subst (λ z. target_plain s p n true (ends false false atn z msg cd true false 0) lat ≡ Some (due_of row)) (zero_of x none) e) books
+        reacts s p n row n.target (phase_time (line_times p) + TURN_DELAY + lat) (target_side (ends false false atn 0 msg cd true false (byte_bits (offering_with s p n true (ends false false atn 0 msg cd true false 0)).byte))) same (sym (turning_target s p n atn 0 msg cd lat at_zero) ∙ subst (λ z. target_plain s p n true (ends false false atn z msg cd true false 0) lat ≡ Some (due_of row)) (zero_of x none) e) books
         (λ at books. goes_on (offers_byte s p n atn msg cd (byte_bits (offering_with s p n true (ends false false atn 0 msg cd true false 0)).byte) row.time always order (omega arith) (some_byte (offering_with s p n true (ends false false atn 0 msg cd true false 0)).byte) at_zero books))
     go false some =
-        let at = (is_at (phase_time (line_times p) + 800 + lat) (target_side (ends false false atn x msg cd true false (byte_bits (offering_with s p n true (ends false false atn x msg cd true false 0)).byte))) (due_of row) (sym (turning_target s p n atn x msg cd lat h) ∙ e)).time_is in
+        let at = (is_at (phase_time (line_times p) + TURN_DELAY + lat) (target_side (ends false false atn x msg cd true false (byte_bits (offering_with s p n true (ends false false atn x msg cd true false 0)).byte))) (due_of row) (sym (turning_target s p n atn x msg cd lat h) ∙ e)).time_is in
         let owed = h.owed some in
         let device = is_device s p n.initiator (initiator_side (ends false false atn x msg cd true false 0)) there h.linked.initiator_below h.linked.initiator (λ z. let w = sym (ap (λ (k : LineSet). k.data_bits == 0) z) ∙ some in cc) in
         let sooner = not_sooner s p row n (ends false false atn x msg cd true false 0) device.0 ((own_of p n.initiator).ack + (times_of (dialogue p).heard.now.agreement.period).hold + device.0) (initiator_side (ends false false atn 0 msg cd true false 0)) always h.linked h.phase.begun_is device.1 (owing_initiator s p n atn x msg cd device.0 h some) (owed.ahead device.0 device.1) least in
@@ -184,17 +184,14 @@ from_offering s p row n atn msg cd y always order h books (by_target lat lat_is 
 
 owed_out : (d : Duty) → is_owed_out d false ≡ true
 owed_out Duty.Nothing = refl
-owed_out Duty.Asked = refl
-owed_out Duty.Owed = refl
+owed_out _ = refl
 
 -- MESSAGE OUT is not owed where a byte follows to the initiator.
 owed_in : (d : Duty) (atn msg cd : Bool) → fits_duty d atn msg ≡ true → (msg && not cd) ≡ false → ((msg && cd && atn) ≡ true → ⊥) → implies (is_owed d) (msg && cd && not true) ≡ true
 owed_in Duty.Nothing atn msg cd f k stop = refl
 owed_in Duty.Asked atn msg cd f k stop = refl
 owed_in Duty.Owed true true true f k stop = absurd (stop refl)
-owed_in Duty.Owed true true false f k stop = absurd cc
-owed_in Duty.Owed true false cd f k stop = absurd cc
-owed_in Duty.Owed false msg cd f k stop = absurd cc
+owed_in Duty.Owed _ _ _ f k stop = absurd cc
 
 from_answered : (s : ScenarioValue) (p : List Row) (row : Row) (n : Connection) (msg cd io atn : Bool) (x y : ℕ) → CalmStanding s p → last_time p ≤ row.time → Shaking p n msg cd io true true atn x y → KeepsBooksIn p row → (lat : ℕ) → row.dev ≡ n.target → target_plain s p n true (ends false true atn x msg cd io true y) lat ≡ Some (due_of row) → AfterLink s p row n
 from_answered s p row n msg cd true atn x y always order h books lat same e =
@@ -207,9 +204,7 @@ from_answered s p row n msg cd false atn x y always order h books lat same e =
 
 must_end : (s : ScenarioValue) (p : List Row) (n : Connection) (msg cd atn : Bool) (y : ℕ) → Shaking p n msg cd true false false atn 0 y → (offering_with s p n true (ends false false atn 0 msg cd true false y)).follows ≡ true → (msg && cd && atn) ≡ true → ⊥
 must_end s p n true true true y h f z = let w = sym (unasked s p n 0 y h) ∙ f in cc
-must_end s p n true true false y h f z = cc
-must_end s p n true false atn y h f z = cc
-must_end s p n false cd atn y h f z = cc
+must_end s p n _ _ _ y h f z = cc
 
 between_in : (s : ScenarioValue) (p : List Row) (row : Row) (n : Connection) (msg cd atn : Bool) (y : ℕ) → CalmStanding s p → last_time p ≤ row.time → Shaking p n msg cd true false false atn 0 y → KeepsBooksIn p row → (lat : ℕ) → row.dev ≡ n.target → target_plain s p n true (ends false false atn 0 msg cd true false y) lat ≡ Some (due_of row) → AfterLink s p row n
 between_in s p row n msg cd atn y always order h books lat same e = go (offering_with s p n true (ends false false atn 0 msg cd true false y)).follows refl (sym (between_target s p n msg cd true atn 0 y lat h) ∙ e)
@@ -264,11 +259,7 @@ by_initiator_in s p row n msg cd false true atn y order h books lat same e =
 by_initiator_in s p row n msg cd false false atn y order h books lat same e = absurd (never _ (due_of row) (between_initiator_in s p n msg cd atn y lat h) e)
 
 attends : (msg cd a atn : Bool) → implies atn (false || msg) ≡ true → (msg && not cd) ≡ false → implies (if msg && cd && true then a else atn) msg ≡ true
-attends true true a atn h k = or_yes a
-  where
-    or_yes : (q : Bool) → implies q true ≡ true
-    or_yes true = refl
-    or_yes false = refl
+attends true true a atn h k = or_asks a
 attends true false a atn h k = absurd cc
 attends false cd a atn h k = h
 

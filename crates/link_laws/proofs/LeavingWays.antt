@@ -2,10 +2,10 @@
 -- phases are left goes by these ways (`leaves`), and not by the tests of `phase_leaving` once more.
 use Rattle.link_laws.proofs
 use proofs.Names.{◌≡◌, Bool, true, false, Option, Some, None, refl, sym, ap, subst, inl, inr, ◌⊎◌, ◌+◌, ◌==◌, ◌&&◌}
-use proofs.Names.{if◌then◌else◌, is_some, nat_lt, Agreement, UNLIMITED_OFFSET, MsgIn, Policy, TargetDef, policy_of}
-use proofs.Names.{runs_in_all, one_message, two_messages, Serving, bus_free, phase_entry, message_in_entry, with_task}
-use proofs.Names.{recovery, recovery_limit, pointer_restoration, next_data_phase, request_or_command, after_offer}
-use proofs.Names.{message_repetition, message_out_leaving, after_messages, after_arrival, command_leaving}
+use proofs.Names.{cases_Bool, if◌then◌else◌, is_some, nat_lt, Agreement, UNLIMITED_OFFSET, MsgIn, Policy, TargetDef}
+use proofs.Names.{policy_of, runs_in_all, one_message, two_messages, Serving, bus_free, phase_entry, message_in_entry}
+use proofs.Names.{with_task, recovery, recovery_limit, pointer_restoration, next_data_phase, request_or_command}
+use proofs.Names.{after_offer, message_repetition, message_out_leaving, after_messages, after_arrival, command_leaving}
 use proofs.Names.{disconnection, disconnect_messages, after_run, data_in_leaving, data_out_leaving, unless_attention}
 use proofs.Names.{phase_leaving, request_by, target_answer, is_naming, Arrival, Cause, Leaving, Next, Phase, Task}
 
@@ -175,11 +175,7 @@ moved v atn phase t m e = go (nat_lt (t.runs + 1) (runs_in_all (policy_of v.def)
     go false f p is = ends_runs phase t m (record { task_is = e; more_is = f })
     go true f (Policy.Burst most) is =
         saves phase t m (record { task_is = e; more_is = f }) (ap disconnect_messages is)
-    go true f Policy.Never is =
-        disconnects phase t m (record { task_is = e; more_is = f }) (ap disconnect_messages is)
-    go true f Policy.Command is =
-        disconnects phase t m (record { task_is = e; more_is = f }) (ap disconnect_messages is)
-    go true f (Policy.NoSave most) is =
+    go true f _ is =
         disconnects phase t m (record { task_is = e; more_is = f }) (ap disconnect_messages is)
 
 opening : (v : Serving) (atn : Bool) → v.plan.cause ≡ Cause.Selected
@@ -189,14 +185,8 @@ opening v atn c = go (is_some v.plan.said.aborts) refl
     asks : (def : Option TargetDef) → v.def ≡ def → IsOpened v → v.plan.said.offer ≡ None
         → Leaves v atn Phase.MessageOut (request_or_command (request_by def))
     asks None e o n = opens o n
-    asks (Some t) e o n = by (t.begins && nat_lt 0 t.period)
-      where
-        by : (q : Bool)
-            → Leaves v atn Phase.MessageOut
-            (request_or_command
-            (if q then Some (MsgIn.Sdtr (record { period = t.period; offset = t.offset })) else None))
-        by true = requests t o n e
-        by false = opens o n
+    asks (Some t) e o n =
+        elim (cases_Bool (t.begins && nat_lt 0 t.period)) [ inl f ↦ rw f (requests t o n e) | inr f ↦ rw f (opens o n) ]
 
     replies : (offer : Agreement) → IsOpened v → v.plan.said.offer ≡ Some offer → (q : Bool)
         → Leaves v atn Phase.MessageOut

@@ -3,9 +3,10 @@
 use Rattle.std.proofs as std_proofs
 pub use std_proofs.Common.{Bool, Err, List, None, Ok, Option, Some, [], ap, arith, drop, false, inl, inr, length, not}
 pub use std_proofs.Common.{refl, subst, suc, sym, take, true, zero, ℕ, ◌%◌, ◌&&◌, ◌*◌, ◌++◌, ◌+◌, ◌-◌, ◌<◌, ◌==◌, ◌^◌}
-pub use std_proofs.{Common.{◌||◌, ◌∙◌, ◌∷◌, ◌≡◌, ◌≢◌, ◌≤◌, ◌⊎◌}, lemmas.Bool.{and_parts, cases_eq, eq-eqb, eqb-true}}
-pub use std_proofs.lemmas.Bool.{le-leb, lt-ltb, ltb-true, ne_eqb, not-true, true≢false, Decides.{nat_tests}}
-pub use std_proofs.lemmas.{List.{length-append, length-replicate, length-take}, Option.{none-some, same_Some}}
+pub use std_proofs.{Common.{◌||◌, ◌∙◌, ◌∷◌, ◌≡◌, ◌≢◌, ◌≤◌, ◌⊎◌}, lemmas.Bool.{and_parts, and_right, cases_Bool}}
+pub use std_proofs.lemmas.Bool.{cases_eq, eq-eqb, eqb-true, le-leb, lt-ltb, ltb-true, ne_eqb, not-true, true≢false}
+pub use std_proofs.lemmas.{Bool.Decides.{nat_tests}, List.{length-append, length-replicate, length-take}}
+pub use std_proofs.lemmas.Option.{none-some, same_Some}
 use Rattle.std.specs as std
 pub use std.{Int.{Bits.{or_self, or_zero_r}, RustNames.{bit_or}}, List.{AllByRecursion}, Prelude.{Result}}
 pub use std.Prelude.{if◌then◌else◌, is_none, is_some, max, min, nat_le, nat_lt, slice_index_or}
@@ -25,6 +26,7 @@ pub use bus_trace.Trace.{last_time, line_times, newer, newer_line, phase_time, s
 pub use bus_trace.declared.{Kind.TheVariants.{Drives, Fault}, Row.{Row}, agreements.Agreement.{Agreement}}
 pub use bus_trace.declared.agreements.{TheConstants.{UNLIMITED_OFFSET}, TransferTimes.{TransferTimes}}
 pub use bus_trace.declared.{changes.Change.{Change}, connection.Connection.{Connection}}
+pub use bus_trace.declared.delays.TheConstants.{BUS_SETTLE_DELAY, DATA_RELEASE_DELAY, TURN_DELAY}
 pub use bus_trace.declared.{line_times.LineTimes.{LineTimes}, selection.Call.{Call}}
 use Rattle.bus_due.specs.bus_lines.proofs as bus_lines_proofs
 pub use bus_lines_proofs.Early.{push_length, struck_length, struck_same}
@@ -111,12 +113,13 @@ pub use scsi_device_proofs.{FitLines.{obeys_fits, unit_fits}, SentBytes.{process
 use Rattle.bus_laws.specs.scsi_device.specs as scsi_device
 pub use scsi_device.Lines.{FitsBus, IsUnitLine}
 use Rattle.bus_laws.proofs as bus_laws_proofs
-pub use bus_laws_proofs.{Apart.{change_plain}, Dues.{free_due_is, is_at, is_entry, is_there}, Limits.{obeys_latencies}}
-pub use bus_laws_proofs.{Periods.{offset_is_byte}, Prompt.{least_is}, ResetSteps.{raises}, Resets.{own_fault}}
-pub use bus_laws_proofs.{Resets.{own_other}, Rows.{change_is, drives_other, drives_own, fault_change, own_time_fault}}
-pub use bus_laws_proofs.Rows.{own_time_other, own_time_own, since_is, stage_is, stands_after, stands_by}
-pub use bus_laws_proofs.Together.{ahead_with_resets, by_calm, by_reset, from_stage, reset_or_calm, stage_first}
-pub use bus_laws_proofs.Together.{standing_after, standing_first, standing_next}
+pub use bus_laws_proofs.Lines.{Apart.{change_plain}, Rows.{change_is, drives_other, drives_own, fault_change}}
+pub use bus_laws_proofs.Lines.Rows.{own_time_fault, own_time_other, own_time_own, since_is, stage_is, stands_after}
+pub use bus_laws_proofs.{Lines.Rows.{stands_by}, Resets.{Dues.{own_fault, own_other}, Steps.{raises}}}
+pub use bus_laws_proofs.Stages.{Dues.{free_due_is, is_at, is_entry, is_there}, Facts.{least_is}}
+pub use bus_laws_proofs.Stages.Next.{ahead_with_resets, by_calm, by_reset, from_stage, reset_or_calm, stage_first}
+pub use bus_laws_proofs.{Stages.Next.{standing_after, standing_first, standing_next}, Times.Limits.{obeys_latencies}}
+pub use bus_laws_proofs.Times.Periods.{offset_is_byte}
 use Rattle.bus_laws.specs as bus_laws
 pub use bus_laws.Ends.{BeginsConnection, BeginsSelected, EndLines, Linked, by_reselection, by_selection, connected_bus}
 pub use bus_laws.{Ends.{ends_selected, initiator_side, target_side}, Reactions.{device_with, own_time, unreset_due}}

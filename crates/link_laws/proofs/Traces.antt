@@ -3,16 +3,16 @@ use Rattle.link_laws.proofs
 use proofs.Names.{◌≡◌, ◌≤◌, Bool, true, false, not, ◌&&◌, ◌∙◌, List, [], ◌∷◌, None, refl, sym, ap, subst, arith}
 use proofs.Names.{and_parts, is_some, and_false, implied, since_le, LineSet, data_of, connection, bus, last_time, since}
 use proofs.Names.{line_times, phase_time, Row, Connection, Duty, ScenarioValue, IsLeast, due, IsPrompt, AreOfDevices}
-use proofs.Names.{least_is, raises, standing_first, stage_first, standing_after, standing_next, from_stage}
+use proofs.Names.{raises, least_is, standing_first, stage_first, standing_after, standing_next, from_stage}
 use proofs.Names.{ahead_with_resets, by_reset, by_calm, reset_or_calm, EndLines, Linked, BeginsConnection, by_selection}
 use proofs.Names.{by_reselection, HasShortLatencies, BusStage, on_free_bus, in_arbitration, after_arbitration}
 use proofs.Names.{with_both_ids, awaiting_answer, after_withdrawal, after_answer, after_takeover, in_reset}
 use proofs.Names.{in_connection, Standing, NextRow, is_connected, has_odd_byte, has_whole_messages, has_whole_command}
 use proofs.Names.{frees_in_time, KeepsBooksIn, in_connections, have_odd_bytes, have_whole_messages, have_whole_commands}
 use proofs.Names.{free_in_time, LinkStage, when_selected, when_settling, when_turning, when_offering, when_shaking}
-use proofs.{Names.{when_pulsing, AnyStage, apart, linked, NextAny, fits_duty, is_owed_out}, Ahead.{stage_ahead}}
-use proofs.{Enters.{below_differs}, FromLink.{from_link}, PhaseEnds.{AfterLink, goes_on, frees}}
-use proofs.RunLengths.{HasShortRuns}
+use proofs.{Names.{when_pulsing, AnyStage, apart, linked, NextAny, fits_duty, is_owed_out}, Dues.Facts.{stage_ahead}}
+use proofs.{FromLink.{from_link}, Phases.{Ends.{AfterLink, goes_on, frees}, First.{below_differs}}}
+use proofs.Runs.Lengths.{HasShortRuns}
 
 -- ---- a connection begins
 

@@ -12,7 +12,7 @@ pub use std.Prelude.{is_none, is_some, min, nat_le, nat_lt, not, slice_index, sl
 pub use std.Prelude.{◌++◌, ◌+◌, ◌-◌, ◌/◌, ◌==◌, ◌^◌, ◌||◌}
 use Rattle.bus_due.specs.bus_base.proofs as bus_base_proofs
 pub use bus_base_proofs.Tests.{and_false, and_first, and_second, and_true, eq_self, next_some, none_between}
-pub use bus_base_proofs.Tests.{none_number, not_first, wrong, wrong'}
+pub use bus_base_proofs.Tests.{none_number, not_first, plus_none, wrong, wrong'}
 use Rattle.bus_due.specs.bus_base.specs as bus_base
 pub use bus_base.{Faults.{counted_on}, declared.{AbortKind.{AbortKind}, Event.{Event}, ProcId.{ProcId}}}
 use Rattle.bus_due.specs.bus_trace.proofs as bus_trace_proofs
@@ -123,8 +123,8 @@ pub use target_units_proofs.Rooms.{IsByLine, by_line, good_range}
 use Rattle.progress_laws.specs.target_units.specs as target_units
 pub use target_units.Rooms.{AreOfLines, IsOfLine}
 use Rattle.progress_laws.specs.bus_books.proofs as bus_books_proofs
-pub use bus_books_proofs.{Aims.{aims_are}, Blocks.{follows_block}, InConnection.{InConnection, in_connection}}
-pub use bus_books_proofs.{InConnection.{reading_is, same_phase_is}, Reactions.{out_over}}
+pub use bus_books_proofs.{Carried.Blocks.{follows_block}, Common.InConnection.{InConnection, in_connection, reading_is}}
+pub use bus_books_proofs.{Common.InConnection.{same_phase_is}, Items.Facts.{aims_are}, Reactions.{out_over}}
 use Rattle.progress_laws.specs.bus_books.specs as bus_books
 pub use bus_books.{Hearing.{HasPhase, is_in_phase, is_out_phase}, Items.{IsItem, is_process}, Knowing.{Knows}}
 pub use bus_books.{Rows.{IsRowIn, RowKind, crosses, reading_in, still, strikes, turns}, Traces.{Begins, Ends, GoesOn}}
@@ -132,18 +132,19 @@ pub use bus_books.Traces.{IsAimedAt, RowOf, apart, begins, ends as row_ends, goe
 pub use bus_books.WrongParity.{complains_truly, is_complaining, is_complaint, is_left, is_refusing, is_struck_phase}
 pub use bus_books.WrongParity.{is_true_complaint}
 use Rattle.progress_laws.specs.bus_laws.proofs as bus_laws_proofs
-pub use bus_laws_proofs.{Apart.{change_plain, free_by, nothing_shown, on_free}, CallDues.{after_withdrawal_due}}
-pub use bus_laws_proofs.CallDues.{answers_due, aside_due, asks_due, before_due, calls_due, flip_at, gives_up_due}
-pub use bus_laws_proofs.CallDues.{goes_on_due, is_calling, loser_due, quiet_due, struck_due, waits_due, want_at}
-pub use bus_laws_proofs.Dues.{due_in_reset, free_due_is, idle_due, is_at, is_entry, is_entry_in, is_there, win_due}
-pub use bus_laws_proofs.FromAnswer.{from_answered, from_resumed, from_withdrawn, only_caller_acts}
-pub use bus_laws_proofs.{FromArbitration.{from_arbitration}, FromCalling.{from_asking, from_calls, ids_not_zero}}
-pub use bus_laws_proofs.{FromCalling.{only_caller}, FromFree.{from_free, row_is}, FromReset.{off_at}}
-pub use bus_laws_proofs.{FromWon.{from_won}, Held.{entries_is, winner_is}, Limits.{obeys_latencies}}
-pub use bus_laws_proofs.{Obeys.{reselected_lines, selected, won_lines}, Prompt.{least_is}, Resets.{due_calm}}
-pub use bus_laws_proofs.Resets.{due_holding, due_there, one_of, own_reset_is, released_own, reset_after, rst_own}
-pub use bus_laws_proofs.Rows.{drives_other, drives_own, fault_change, stage_is, stands_after, stands_by}
-pub use bus_laws_proofs.{Together.{always_is, by_calm, calm_first, reset_or_calm}, TwoIds.{IsCall, is_call}}
+pub use bus_laws_proofs.Lines.{Apart.{change_plain, free_by, nothing_shown, on_free}, Held.{entries_is, winner_is}}
+pub use bus_laws_proofs.Lines.{Ids.{IsCall, is_call}, Obeys.{reselected_lines, selected, won_lines}}
+pub use bus_laws_proofs.Lines.Rows.{drives_other, drives_own, fault_change, stage_is, stands_after, stands_by}
+pub use bus_laws_proofs.Resets.Dues.{due_calm, due_holding, due_there, one_of, own_reset_is, released_own, reset_after}
+pub use bus_laws_proofs.{Resets.{Dues.{rst_own}, Rows.{off_at}}, Stages.Answer.{from_answered, from_resumed}}
+pub use bus_laws_proofs.Stages.{Answer.{from_withdrawn, only_caller_acts}, Arbitration.{from_arbitration}}
+pub use bus_laws_proofs.Stages.CallDues.{after_withdrawal_due, answers_due, aside_due, asks_due, before_due, calls_due}
+pub use bus_laws_proofs.Stages.CallDues.{flip_at, gives_up_due, goes_on_due, is_calling, loser_due, quiet_due}
+pub use bus_laws_proofs.Stages.{CallDues.{struck_due, waits_due, want_at}, Calling.{from_asking, from_calls}}
+pub use bus_laws_proofs.Stages.{Calling.{ids_not_zero, only_caller}, Dues.{due_in_reset, free_due_is, idle_due, is_at}}
+pub use bus_laws_proofs.Stages.{Dues.{is_entry, is_entry_in, is_there, win_due}, Facts.{least_is}, Free.{from_free}}
+pub use bus_laws_proofs.Stages.{Free.{row_is}, Next.{always_is, by_calm, calm_first, reset_or_calm}, Won.{from_won}}
+pub use bus_laws_proofs.Times.Limits.{obeys_latencies}
 use Rattle.progress_laws.specs.bus_laws.specs as bus_laws
 pub use bus_laws.Callings.{answer_lines, answered_calling, arbitration_bus, awaiting_call, begun_call, both_ids}
 pub use bus_laws.Callings.{call_with, calling_lines, new_calling_at, resumed_calling, withdrawn_call, won_bus, won_call}
@@ -155,53 +156,58 @@ pub use bus_laws.Stages.{HasShortLatencies, HoldsReset, IsAnswered, IsContender,
 pub use bus_laws.Stages.{Standing, UnderRst, after_answer, after_arbitration, after_takeover, after_withdrawal}
 pub use bus_laws.Stages.{awaiting_answer, holds, in_arbitration, in_reset, lingers, on_free_bus, quiet, with_both_ids}
 use Rattle.progress_laws.specs.link_laws.proofs as link_laws_proofs
-pub use link_laws_proofs.{DataRows.{DataRow, bytes_stay, count_stays, sending_stays}, EndDues.{answering_with, due_of}}
-pub use link_laws_proofs.EndDues.{initiator_is, initiator_plain, is_sampling, offering_with, pace_with, sight_with}
-pub use link_laws_proofs.{EndDues.{target_is, target_plain}, Faults.{linked_fault}, FromLink.{some_byte}}
-pub use link_laws_proofs.{Leaves.{may_leave}, LinkObeys.{same_phases}, Moves.{InPhaseRow, TermsAfter}}
-pub use link_laws_proofs.Moves.{initiator_in_phase, initiator_moves, no_rise, phase_same, target_in_phase, target_moves}
-pub use link_laws_proofs.{Moves.{terms_after, terms_of}, PhaseEnds.{leaves_lines}, PulseDues.{given_bits}}
-pub use link_laws_proofs.{RunLengths.{runs_are_short}, Shakes.{initiator_row, target_row}, Traces.{link_calm}}
-pub use link_laws_proofs.Traces.{sides_are}
+pub use link_laws_proofs.Dues.Ends.{answering_with, due_of, initiator_is, initiator_plain, is_sampling, offering_with}
+pub use link_laws_proofs.{Dues.Ends.{pace_with, sight_with, target_is, target_plain}, FromLink.{some_byte}}
+pub use link_laws_proofs.Lines.{Data.{DataRow, bytes_stay, count_stays, sending_stays}, Obeys.{same_phases}}
+pub use link_laws_proofs.Lines.Rows.{InPhaseRow, TermsAfter, initiator_in_phase, initiator_moves, no_rise, phase_same}
+pub use link_laws_proofs.Lines.Rows.{target_in_phase, target_moves, terms_after, terms_of}
+pub use link_laws_proofs.Phases.{Crossings.{initiator_row, target_row}, Ends.{leaves_lines}, Faults.{linked_fault}}
+pub use link_laws_proofs.{Phases.Leavings.{may_leave}, Pulses.Dues.{given_bits}, Runs.Lengths.{runs_are_short}}
+pub use link_laws_proofs.Traces.{link_calm, sides_are}
 use Rattle.progress_laws.specs.link_laws.specs as link_laws
 pub use link_laws.LinkStages.{AnyStage, LinkStage, apart as any_apart, linked, when_offering, when_pulsing}
 pub use link_laws.{LinkStages.{when_selected, when_settling, when_shaking, when_turning}, Phases.{Offering as Offered}}
 pub use link_laws.{Phases.{Settling, Shaking, Turning, ends}, Pulses.{Pulsing, byte_in_run, next_bits, offset_here}}
 pub use link_laws.Pulses.{run_count}
+use Rattle.progress_laws.specs.row_laws.proofs as row_laws_proofs
+pub use row_laws_proofs.{Bytes.Blocks.{commands_are}, Common.{Impossible.{none_some}, PhaseLines.{in_phase}}}
+pub use row_laws_proofs.Common.{PhaseLines.{is_data_phase, is_out_next, out_lines}, Tests.{by_bool, by_option}}
+pub use row_laws_proofs.Common.Tests.{falls_true, none_both, not_unless, plus_one, some_count, some_zero, zero_below}
+pub use row_laws_proofs.{Common.Tests.{zero_times}, Lines.{Attention.{lines_are}, Called.{IsCalled, IsDueCall}}}
+pub use row_laws_proofs.Lines.{Called.{callee_at, link_none}, Connections.{RowKindOf, begins_now, connection_row}}
+pub use row_laws_proofs.Lines.{Connections.{goes_now, row_kind, stage_of_connection}, Crossings.{Goes, RowFacts}}
+pub use row_laws_proofs.Lines.{Crossings.{byte_is, ends_here, offering_is, stays}, First.{made_is, under_rst}}
+pub use row_laws_proofs.Lines.{Joint.{NextStood, Stood, link_connection, link_phase}, Kept.{EndRow, data_row}}
+pub use row_laws_proofs.Lines.Kept.{dialogue_stays, initiator_end, row_in, still_row, target_end, turn}
+pub use row_laws_proofs.Lines.{Phases.{PhaseRow, phase_row}, Plans.{Planned}, Rows.{LinkRow, is_pulsed, is_unasked}}
+pub use row_laws_proofs.Lines.{Rows.{link_row}, Turns.{freed_connection}, UnderRst.{bsy_stands, drives_next}}
+pub use row_laws_proofs.Lines.UnderRst.{ends_apart, raises_or_stands}
+use Rattle.progress_laws.specs.row_laws.specs as row_laws
+pub use row_laws.{ItemFacts.{IsNext, IsQueued, Items, is_abort, is_command, is_sense}, ItemTalks.{TalksBy, frees_bus}}
+pub use row_laws.{ItemTalks.{is_plain, talk_of}, Tells.{IsLeaving, IsServed, Tells, TellsAsLeft, of_abort, of_process}}
+use Rattle.progress_laws.specs.story_laws.proofs as story_laws_proofs
+pub use story_laws_proofs.Commands.{Counts.{refusal_offers_none}, Facts.{same_process, served_process}}
+pub use story_laws_proofs.{Complaints.Turns.{IsAttended, attended_for}, Items.Facts.{FallsQuiet, aimed_next, beginning}}
+pub use story_laws_proofs.Items.{Facts.{falls_quiet}, First.{next_unended, next_unsent}, Fresh.{calm_after}}
+pub use story_laws_proofs.Items.{Fresh.{calm_before, items_open, items_ready}, Open.{item_is}, Over.{events_grow}}
+pub use story_laws_proofs.Items.{Over.{in_append, lost_over, sense_apart}, Row.{inside_sent, over_after}, Sent.{AllOf}}
+pub use story_laws_proofs.Items.Sent.{carried_of_item, free_keeps, more_has, own_has, process_in, restored_sent, row_of}
+pub use story_laws_proofs.{Items.{Sent.{self_item, sent_grows}, Steps.{free_still}}, Offers.Facts.{refuses_later}}
+pub use story_laws_proofs.Pointers.{Begins.{first_made}, Leavings.{is_attended}, Waits.{connection_sent}}
+pub use story_laws_proofs.Talks.First.{FirstSent, first_sent, sent_with}
+use Rattle.progress_laws.specs.story_laws.specs as story_laws
+pub use story_laws.{Commands.{StandsIn, TakesBlock}, Complaints.{ComplaintsBy, Refuses}, Items.{IsServedOpen}}
+pub use story_laws.LastTalks.{EndsWell, LastBy, LastGiven, closed, closes, saves, still_stays, to_close, to_save}
+pub use story_laws.RunCounts.{pulses_here}
 use Rattle.progress_laws.specs.trace_laws.proofs as trace_laws_proofs
-pub use trace_laws_proofs.{Bytes.Blocks.{commands_are}, Closes.Ends.{EndsHere, ends_low, ends_row, lost_by, lost_in}}
-pub use trace_laws_proofs.Commands.{Counts.{refusal_offers_none}, Facts.{same_process, served_process}}
-pub use trace_laws_proofs.Common.{Impossible.{none_some}, PhaseLines.{in_phase, is_data_phase, is_out_next, out_lines}}
-pub use trace_laws_proofs.{Common.Tests.{none_both, some_zero, zero_times}, Complaints.Turns.{IsAttended, attended_for}}
-pub use trace_laws_proofs.Items.{Facts.{FallsQuiet, aimed_next, beginning, falls_quiet}, First.{next_unended}}
-pub use trace_laws_proofs.Items.{First.{next_unsent}, Fresh.{calm_after, calm_before, items_open, items_ready}}
-pub use trace_laws_proofs.Items.{Open.{item_is}, Over.{events_grow, in_append, lost_over, sense_apart}}
-pub use trace_laws_proofs.Items.{Row.{inside_sent, over_after}, Sent.{AllOf, carried_of_item, free_keeps, more_has}}
-pub use trace_laws_proofs.Items.Sent.{own_has, process_in, restored_sent, row_of, self_item, sent_grows}
-pub use trace_laws_proofs.{Items.Steps.{free_still}, Lines.{Attention.{lines_are}, Called.{IsCalled, IsDueCall}}}
-pub use trace_laws_proofs.Lines.{Called.{callee_at, link_none}, Connections.{RowKindOf, begins_now, connection_row}}
-pub use trace_laws_proofs.Lines.{Connections.{goes_now, row_kind, stage_of_connection}, Crossings.{Goes, RowFacts}}
-pub use trace_laws_proofs.Lines.{Crossings.{byte_is, ends_here, offering_is, stays}, First.{made_is, under_rst}}
-pub use trace_laws_proofs.Lines.{Joint.{NextStood, Stood, link_connection, link_phase}, Kept.{EndRow, data_row}}
-pub use trace_laws_proofs.Lines.Kept.{dialogue_stays, initiator_end, row_in, still_row, target_end, turn}
-pub use trace_laws_proofs.Lines.{Phases.{PhaseRow, phase_row}, Plans.{Planned}, Rows.{LinkRow, is_pulsed, is_unasked}}
-pub use trace_laws_proofs.Lines.{Rows.{link_row}, Turns.{freed_connection}, UnderRst.{bsy_stands, drives_next}}
-pub use trace_laws_proofs.{Lines.UnderRst.{ends_apart, raises_or_stands}, Offers.Facts.{refuses_later}}
-pub use trace_laws_proofs.{Places.{EndTells.{EndTold, end_told}, Ends.{free_shown}}, Pointers.Begins.{first_made}}
-pub use trace_laws_proofs.{Pointers.{Leavings.{is_attended}, Waits.{connection_sent}}, Runs.Begins.{enters_run}}
+pub use trace_laws_proofs.{Closes.Ends.{EndsHere, ends_low, ends_row, lost_by, lost_in}, Places.EndTells.{EndTold}}
+pub use trace_laws_proofs.{Places.{EndTells.{end_told}, Ends.{free_shown}}, Runs.Begins.{enters_run}}
 pub use trace_laws_proofs.Runs.{Counts.{handshakes_begin, or_left}, Done.{counted_runs, done_in_data, same_runs}}
 pub use trace_laws_proofs.Runs.{Facts.{task_here}, Fits.{FitsRuns, fits_runs, lines_now}, Rows.{served_id}}
-pub use trace_laws_proofs.{Runs.Steps.{pulsed_as}, Talks.First.{FirstSent, first_sent, sent_with}, Whole.{Whole}}
-pub use trace_laws_proofs.Whole.{standing_next, steps, whole}
-use Rattle.progress_laws.specs.trace_laws.specs as trace_laws
-pub use trace_laws.{Commands.{StandsIn, TakesBlock}, Complaints.{ComplaintsBy, Refuses}, ItemFacts.{IsNext, IsQueued}}
-pub use trace_laws.{ItemFacts.{Items, is_abort, is_command, is_sense}, ItemTalks.{TalksBy, frees_bus, is_plain}}
-pub use trace_laws.{ItemTalks.{talk_of}, Items.{IsServedOpen}, LastTalks.{EndsWell, LastBy, LastGiven, closed, closes}}
-pub use trace_laws.{LastTalks.{saves, still_stays, to_close, to_save}, RunCounts.{pulses_here}, Tells.{IsLeaving}}
-pub use trace_laws.Tells.{IsServed, Tells, TellsAsLeft, of_abort, of_process}
+pub use trace_laws_proofs.{Runs.Steps.{pulsed_as}, Whole.{Whole, standing_next, steps, whole}}
 use Rattle.progress_laws.proofs as progress_laws_proofs
-pub use progress_laws_proofs.{DebtNext.{ends_open, known_served}, DebtRows.{NoEnds, Shown, completes, no_ends}}
-pub use progress_laws_proofs.{DebtRows.{row_shown}, EndedOver.{all_over}, OwedRows.{changed}, Rooms.{initiator_there}}
+pub use progress_laws_proofs.Debts.{Next.{ends_open, known_served}, Rows.{NoEnds, Shown, completes, no_ends, row_shown}}
+pub use progress_laws_proofs.{Outcomes.Seats.{initiator_there}, Owed.Rows.{changed}, Queues.Over.{all_over}}
 use Rattle.right_laws.proofs as right_laws_proofs
 pub use right_laws_proofs.DataIn.{Entries.{enters_read}, Facts.{ReadBooks, read_books}, Runs.{fits_reads, whole_now}}
 pub use right_laws_proofs.{Offers.Steps.{is_data_in}, Ran.Lengths.{given_few, most_given, need_is}}

@@ -3,8 +3,8 @@
 use Rattle.std.proofs as std_proofs
 pub use std_proofs.Common.{Bool, List, None, Ok, Option, Some, [], ap, arith, false, inl, inr, length, not, one-add}
 pub use std_proofs.Common.{refl, subst, suc, sym, true, zero, ℕ, ◌%◌, ◌&&◌, ◌++◌, ◌+◌, ◌<◌, ◌^◌, ◌||◌, ◌∙◌, ◌∷◌, ◌≡◌}
-pub use std_proofs.{Common.{◌≢◌, ◌≤◌, ◌⊎◌}, Math.Nat.{mod-le}, lemmas.Bool.{and_from, and_right, cases_eq, eqb-true}}
-pub use std_proofs.lemmas.Bool.{le-leb, not-true, or_cases, or_from, or_left, or_parts, or_right, true≢false}
+pub use std_proofs.{Common.{◌≢◌, ◌≤◌, ◌⊎◌}, Math.Nat.{mod-le}, lemmas.Bool.{and_from, and_right, cases_Bool, cases_eq}}
+pub use std_proofs.lemmas.Bool.{eqb-true, le-leb, not-true, or_cases, or_from, or_left, or_parts, or_right, true≢false}
 pub use std_proofs.lemmas.{Bool.Decides.{nat_tests}, Nat.{pow_below, pow_pos}, Option.{none-some, same_Some}}
 use Rattle.std.specs as std
 pub use std.{List.{AllByRecursion, find, list_all, list_any}, Prelude.{cond, if◌then◌else◌, is_none, is_some, max}}
@@ -24,8 +24,9 @@ pub use bus_trace.{Phases.{changes_phase, is_message_in}, Terms.{arbitration, ar
 pub use bus_trace.Terms.{called_goes_on, caller_goes_on, calling_after, connection, connection_after, free_since}
 pub use bus_trace.{Terms.{is_free, receiver_in}, Trace.{bus, driven_after, drives, last_time}, declared.Kind.{Kind}}
 pub use bus_trace.declared.{Kind.TheVariants.{Drives, Fault}, Row.{Row}, arbitration.Arbitration.{Arbitration}}
-pub use bus_trace.declared.{changes.Change.{Change}, connection.Connection.{Connection}, selection.Call.{Call}}
-pub use bus_trace.declared.selection.Calling.{Calling}
+pub use bus_trace.declared.{changes.Change.{Change}, connection.Connection.{Connection}}
+pub use bus_trace.declared.delays.TheConstants.{ARBITRATION_DELAY, BUS_CLEAR_DELAY, ENTRY_DELAY}
+pub use bus_trace.declared.selection.{Call.{Call}, Calling.{Calling}}
 use Rattle.bus_due.specs.bus_lines.specs as bus_lines
 pub use bus_lines.{Handshakes.{handshakes}, Stage.{stage}, declared.stage.Stage.TheVariants.{InArbitration, InCalling}}
 pub use bus_lines.declared.stage.Stage.TheVariants.{OnFreeBus}
@@ -122,21 +123,20 @@ pub use scsi_device.Lines.{FitsBus, IsCommandLine}
 use Rattle.trace_laws.specs.target_units.proofs as target_units_proofs
 pub use target_units_proofs.UnitTimes.{place_found}
 use Rattle.trace_laws.specs.bus_books.proofs as bus_books_proofs
-pub use bus_books_proofs.{Aims.{aims_are, connected_aims}, GiveUps.{failure_is, loss_by, lost_calm}}
-pub use bus_books_proofs.{InConnection.{reading_is}, Lookups.{id_is, self_id}, ReadyProcesses.{reselects_by}}
-pub use bus_books_proofs.Senses.{running_own, self_nexus}
+pub use bus_books_proofs.{Common.{InConnection.{reading_is}, Lookups.{id_is, self_id}}, Failures.GiveUps.{failure_is}}
+pub use bus_books_proofs.{Failures.GiveUps.{loss_by, lost_calm}, Items.Facts.{aims_are, connected_aims}}
+pub use bus_books_proofs.{Items.Ready.{reselects_by}, Replies.Senses.{running_own, self_nexus}}
 use Rattle.trace_laws.specs.bus_books.specs as bus_books
-pub use bus_books.{Accounts.{is_served_by}, FullQueues.{has_event}, Hearing.{is_in_phase}, Items.{IsItem, is_abort}}
-pub use bus_books.{Items.{is_process}, Knowing.{Knows}, Traces.{Begins, Ends, IsReadyFor, RowOf, begins, ends, goes_on}}
-pub use bus_books.{Traces.{under_reset}, WrongParity.{gives_up, is_failure, is_left, is_left_as_due, is_left_by}}
-pub use bus_books.WrongParity.{is_loss, is_past_limit, is_struck_phase, is_wrong_phase, leaves_wrong_phase, left_as_due}
-pub use bus_books.WrongParity.{serves, wrong_phases}
+pub use bus_books.{Accounts.{is_served_by}, FullQueues.{has_event}, Hearing.{is_in_phase}, Items.{IsItem, is_process}}
+pub use bus_books.{Knowing.{Knows}, Traces.{Begins, Ends, IsReadyFor, RowOf, begins, ends, goes_on, under_reset}}
+pub use bus_books.WrongParity.{gives_up, is_failure, is_left, is_left_as_due, is_left_by, is_loss, is_past_limit}
+pub use bus_books.WrongParity.{is_struck_phase, is_wrong_phase, leaves_wrong_phase, left_as_due, serves, wrong_phases}
 use Rattle.trace_laws.specs.bus_laws.proofs as bus_laws_proofs
-pub use bus_laws_proofs.{Apart.{GoesApart, KeepsAll, change_plain, entry_keeps, still_keeps}, CallDues.{asks_due}}
-pub use bus_laws_proofs.{CallDues.{calls_due, gives_up_due, goes_on_due, waits_due, want_at}, Dues.{due_in}}
-pub use bus_laws_proofs.Dues.{free_due_is, idle_due, is_at, is_entry, is_entry_in, is_there, win_due}
-pub use bus_laws_proofs.{FromReset.{off_at}, Prompt.{least_is}, Resets.{comes_by, due_calm, due_holding}}
-pub use bus_laws_proofs.{Rows.{drives_own, stage_is}, Together.{by_calm, not_linked, reset_or_calm}}
+pub use bus_laws_proofs.Lines.{Apart.{GoesApart, KeepsAll, change_plain, entry_keeps, still_keeps}, Rows.{drives_own}}
+pub use bus_laws_proofs.{Lines.Rows.{stage_is}, Resets.{Dues.{comes_by, due_calm, due_holding}, Rows.{off_at}}}
+pub use bus_laws_proofs.Stages.CallDues.{asks_due, calls_due, gives_up_due, goes_on_due, waits_due, want_at}
+pub use bus_laws_proofs.Stages.Dues.{due_in, free_due_is, idle_due, is_at, is_entry, is_entry_in, is_there, win_due}
+pub use bus_laws_proofs.Stages.{Facts.{least_is}, Next.{by_calm, not_linked, reset_or_calm}}
 use Rattle.trace_laws.specs.bus_laws.specs as bus_laws
 pub use bus_laws.{Callings.{answered_calling, calling_lines, resumed_calling, won_call}, Ends.{EndLines, Linked}}
 pub use bus_laws.{Reactions.{device_with, own_time, reset_due, unreset_due}, Rows.{row_of_lines}, Stages.{Arbitrating}}
@@ -144,36 +144,41 @@ pub use bus_laws.Stages.{ArbitrationWon, BusStage, CalmStanding, FreeBus, HasDev
 pub use bus_laws.Stages.{after_answer, after_arbitration, after_takeover, after_withdrawal, awaiting_answer}
 pub use bus_laws.Stages.{in_arbitration, in_connection, in_reset, is_connected, on_free_bus, with_both_ids}
 use Rattle.trace_laws.specs.link_laws.proofs as link_laws_proofs
-pub use link_laws_proofs.EndDues.{initiator_is, initiator_plain, target_is, target_plain}
-pub use link_laws_proofs.PulseDues.{initiator_choice, pulsed_initiator_in, pulsed_initiator_out, pulsed_target_in}
-pub use link_laws_proofs.{PulseDues.{pulsed_target_out, target_choice}, StageDues.{answered_target}}
-pub use link_laws_proofs.StageDues.{asking_initiator_in, asking_initiator_out, between_target, ending_initiator_in}
-pub use link_laws_proofs.StageDues.{ending_initiator_out, giving_initiator_out, offering_target, selected_target}
-pub use link_laws_proofs.{StageDues.{settling_target, turning_target}, Traces.{link_calm, sides_are}}
+pub use link_laws_proofs.Dues.{Ends.{initiator_is, initiator_plain, target_is, target_plain}, Stages.{answered_target}}
+pub use link_laws_proofs.Dues.Stages.{asking_initiator_in, asking_initiator_out, between_target, ending_initiator_in}
+pub use link_laws_proofs.Dues.Stages.{ending_initiator_out, giving_initiator_out, offering_target, selected_target}
+pub use link_laws_proofs.{Dues.Stages.{settling_target, turning_target}, Pulses.Dues.{initiator_choice}}
+pub use link_laws_proofs.Pulses.Dues.{pulsed_initiator_in, pulsed_initiator_out, pulsed_target_in, pulsed_target_out}
+pub use link_laws_proofs.{Pulses.Dues.{target_choice}, Traces.{link_calm, sides_are}}
 use Rattle.trace_laws.specs.link_laws.specs as link_laws
 pub use link_laws.LinkStages.{AnyStage, LinkStage, apart, linked, when_offering, when_pulsing, when_selected}
 pub use link_laws.{LinkStages.{when_settling, when_shaking, when_turning}, Phases.{Shaking}, Pulses.{Pulsing}}
 pub use link_laws.Pulses.{offset_here, run_count}
+use Rattle.trace_laws.specs.row_laws.proofs as row_laws_proofs
+pub use row_laws_proofs.Common.{EachLine.{Any, each_line}, Impossible.{none_some, some_none}, Tests.{plus_one, risen}}
+pub use row_laws_proofs.{Ends.Facts.{host_found}, Events.{Others.{executed, reply_at}, Queued.{is_dropped}}}
+pub use row_laws_proofs.Events.Queues.{Spares, chosen_all, kept_all, left_all, replied_all, waits_last, with_unit_all}
+pub use row_laws_proofs.{Events.Replies.{accepted, running_id, settles}, Lines.Called.{callee_at, own_units}}
+pub use row_laws_proofs.Lines.{First.{under_rst}, Joint.{NextStood, Stood, link_connection}, UnderRst.{drives_next}}
+pub use row_laws_proofs.Lines.UnderRst.{line_off, quiet_at_end, reset_rule}
+use Rattle.trace_laws.specs.row_laws.specs as row_laws
+pub use row_laws.{Ends.{AreEnds, HasEnds}, ItemFacts.{AreChecked, IsChecked, IsNext, ItemFacts, Items, is_abort}}
+pub use row_laws.{ItemFacts.{is_command, is_sense}, ItemTalks.{TalksBy, awaits, talk_of}, Places.{Closes, HasPlaces}}
+pub use row_laws.Places.{IsTaken, PlaceFacts, PlacedBefore, PlacedIf, PlacedIn, completes, disconnects, is_in_queue}
+pub use row_laws.{Places.{is_queued}, WriteFacts.{AllUnits}}
+use Rattle.trace_laws.specs.story_laws.proofs as story_laws_proofs
+pub use story_laws_proofs.Items.{Aims.{set_other}, Facts.{aimed_next, rst_raised}, Fresh.{calm_after, calm_before}}
+pub use story_laws_proofs.Items.{Fresh.{items_open}, Open.{item_is, opened, same_process}, Over.{Grows, ends_over}}
+pub use story_laws_proofs.Items.Over.{ends_senses, events_checked, events_grow, in_append, later, lost_over, not_grown}
+pub use story_laws_proofs.Items.{Over.{sense_apart}, Sent.{AllOf, IsOf, carried_of_item, free_keeps, more_has, own_has}}
+pub use story_laws_proofs.{Items.Sent.{row_of, self_item}, Pointers.{Ends.{command_over}, Waits.{change_over}}}
+pub use story_laws_proofs.{Pointers.Waits.{connection_sent}, Talks.First.{FirstSent, first_sent, sent_with}}
+pub use story_laws_proofs.Talks.InMoves.{alternating}
 use Rattle.trace_laws.proofs as trace_laws_proofs
-pub use trace_laws_proofs.Common.{EachLine.{Any, each_line}, Impossible.{none_some, some_none}, Tests.{plus_one, risen}}
-pub use trace_laws_proofs.{Ends.Facts.{host_found}, Events.{Others.{executed, reply_at}, Queued.{is_dropped}}}
-pub use trace_laws_proofs.Events.Queues.{Spares, chosen_all, kept_all, left_all, replied_all, waits_last, with_unit_all}
-pub use trace_laws_proofs.{Events.Replies.{accepted, running_id, settles}, Items.{Aims.{set_other}, Facts.{aimed_next}}}
-pub use trace_laws_proofs.Items.{Facts.{rst_raised}, Fresh.{calm_after, calm_before, items_open}, Open.{item_is}}
-pub use trace_laws_proofs.Items.{Open.{opened, same_process}, Over.{Grows, ends_over, ends_senses, events_checked}}
-pub use trace_laws_proofs.Items.{Over.{events_grow, in_append, later, lost_over, not_grown, sense_apart}, Sent.{AllOf}}
-pub use trace_laws_proofs.Items.Sent.{IsOf, carried_of_item, free_keeps, more_has, own_has, row_of, self_item}
-pub use trace_laws_proofs.Lines.{Called.{callee_at, own_units}, First.{under_rst}, Joint.{NextStood, Stood}}
-pub use trace_laws_proofs.Lines.{Joint.{link_connection}, UnderRst.{drives_next, line_off, quiet_at_end, reset_rule}}
 pub use trace_laws_proofs.Places.{EndTells.{end_begun}, Ends.{IsEndAsked, free_shown}, Facts.{end_asked}}
-pub use trace_laws_proofs.{Places.Ready.{MayBeReady, ready_runs}, Pointers.{Ends.{command_over}, Waits.{change_over}}}
-pub use trace_laws_proofs.{Pointers.Waits.{connection_sent}, Talks.First.{FirstSent, first_sent, sent_with}}
-pub use trace_laws_proofs.{Talks.InMoves.{alternating}, Whole.{RowSteps, Whole, standing_next, steps, whole}}
+pub use trace_laws_proofs.{Places.Ready.{MayBeReady, ready_runs}, Whole.{RowSteps, Whole, standing_next, steps, whole}}
 use Rattle.trace_laws.specs as trace_laws
-pub use trace_laws.{Ends.{AreEnds, HasEnds}, ItemFacts.{AreChecked, IsChecked, IsNext, ItemFacts, Items, is_command}}
-pub use trace_laws.{ItemFacts.{is_sense}, ItemTalks.{TalksBy, awaits, talk_of}, Places.{Closes, HasPlaces, IsTaken}}
-pub use trace_laws.Places.{PlaceFacts, PlacedBefore, PlacedIf, PlacedIn, completes, disconnects, is_in_queue, is_queued}
-pub use trace_laws.{Statuses.{IsStatusOf}, WriteFacts.{AllUnits}}
+pub use trace_laws.Statuses.{IsStatusOf}
 use Rattle.progress_laws.specs as progress_laws
 pub use progress_laws.Debts.{AreFetched, DebtBooks, Debts, IsDebt, NoDebt, PaysWell, is_owed, nexus_of_command}
 pub use progress_laws.Queued.{AreOwed, AreQueued, IsOwed}

@@ -7,4 +7,6 @@ pub use Rattle.trace_laws.specs.target_units
 pub use Rattle.trace_laws.specs.bus_books
 pub use Rattle.trace_laws.specs.bus_laws
 pub use Rattle.trace_laws.specs.link_laws
+pub use Rattle.trace_laws.specs.row_laws
+pub use Rattle.trace_laws.specs.story_laws
 pub use Rattle.trace_laws

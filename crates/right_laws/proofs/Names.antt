@@ -5,15 +5,15 @@ pub use std_proofs.Common.{Bool, Err, List, None, Ok, Option, Result, Some, [], 
 pub use std_proofs.Common.{cond, drop, false, inl, inr, length, length-append, max, not, refl, subst, suc, sym, take}
 pub use std_proofs.Common.{true, true≢false, zero, ℕ, ◌%◌, ◌&&◌, ◌*◌, ◌++◌, ◌+◌, ◌-◌, ◌<◌, ◌==◌, ◌^◌, ◌||◌, ◌∙◌, ◌∷◌}
 pub use std_proofs.{Common.{◌≡◌, ◌≢◌, ◌≤◌, ◌⊎◌}, lemmas.Bool.{and_from, and_left, and_parts, and_right, cases_eq}}
-pub use std_proofs.lemmas.Bool.{eqb-true, ltb-false, ltb-true, ne_eqb, not-false, not-true, or_parts}
+pub use std_proofs.lemmas.Bool.{eqb-true, ltb-false, ltb-true, ne_eqb, not-false, not-true, or_parts, or_right}
 pub use std_proofs.lemmas.{Bool.Decides.{nat_tests}, List.{length-drop, length-replicate, length-take, reverse-append}}
 pub use std_proofs.lemmas.{List.{reverse-reverse}, Option.{same_Some}}
 use Rattle.std.specs as std
 pub use std.{Int.RustNames.{bit_or, count_ones}, List.{AllByRecursion, find, list_any}, Prelude.{if◌then◌else◌}}
 pub use std.Prelude.{is_none, is_some, min, nat_le, nat_lt, reverse, slice_index, slice_index_or, slice_set, ⊤}
 use Rattle.bus_due.specs.bus_base.proofs as bus_base_proofs
-pub use bus_base_proofs.Tests.{all_three, and_false, eq_self, eq_turned, not_first, nothing_below, plus_none, wrong}
-pub use bus_base_proofs.Tests.{wrong', zero_of}
+pub use bus_base_proofs.Tests.{all_three, and_false, and_first, eq_self, eq_turned, middle, none_number, not_first}
+pub use bus_base_proofs.Tests.{nothing_below, plus_none, wrong, wrong', zero_of}
 use Rattle.bus_due.specs.bus_base.specs as bus_base
 pub use bus_base.{Faults.{counted_on}, declared.{AbortKind.{AbortKind}, Event.{Event}, ProcId.{ProcId}}}
 use Rattle.bus_due.specs.bus_trace.proofs as bus_trace_proofs
@@ -166,25 +166,26 @@ use Rattle.trace_laws.specs.target_units.specs as target_units
 pub use target_units.{Absent.{absent_reply_by, data_or_refusal, inquiry_room, sense_room}, Fillings.{AreFilled}}
 pub use target_units.Rooms.{AreOfLines, IsOfLine}
 use Rattle.trace_laws.specs.bus_books.proofs as bus_books_proofs
-pub use bus_books_proofs.{Areas.{puts}, Blocks.{block_is_all}, CarriedBlocks.{own_of}, CarriedRows.{process_id}}
-pub use bus_books_proofs.{CarriedSteps.{IsKept, no_link, row_carried}, Gives.{requests_rise, requests_stay}}
-pub use bus_books_proofs.InConnection.{InConnection, dialogue_by, in_connection, reading_is, same_phase_is}
-pub use bus_books_proofs.Lookups.{id_is, self_id}
+pub use bus_books_proofs.Carried.{Areas.{puts}, Blocks.{block_is_all}, Commands.{own_of}, Facts.{process_id}}
+pub use bus_books_proofs.{Carried.Steps.{IsKept, no_link, row_carried}, Common.InConnection.{InConnection, dialogue_by}}
+pub use bus_books_proofs.Common.{InConnection.{in_connection, reading_is, same_phase_is}, Lookups.{id_is, self_id}}
+pub use bus_books_proofs.Given.Rows.{requests_rise, requests_stay}
 use Rattle.trace_laws.specs.bus_books.specs as bus_books
 pub use bus_books.{Accounts.{is_served_by, policy_for}, Carrying.{IsFilled, TakesBlock}, Giving.{AreGiven, OnMessage}}
 pub use bus_books.{Hearing.{LeavesWhole, is_in_phase}, Knowing.{Knows}, Reactions.{IsOver}, Rows.{IsFirstRow, IsRowIn}}
 pub use bus_books.{Rows.{RowKind, crosses, reading_in, still, strikes, turns}, Traces.{Begins, Books, GoesOn, RowOf}}
 pub use bus_books.Traces.{apart, begins, goes_on, under_reset, RowOf.{apart as row_apart}}
 use Rattle.trace_laws.specs.bus_laws.proofs as bus_laws_proofs
-pub use bus_laws_proofs.{Apart.{change_plain}, CallDues.{answers_due, aside_due, asks_due, before_due, flip_at}}
-pub use bus_laws_proofs.{CallDues.{waits_due}, Dues.{due_in, due_in_reset, is_at, is_there}, FromAnswer.{from_answered}}
-pub use bus_laws_proofs.{FromAnswer.{from_resumed, from_withdrawn}, FromArbitration.{from_arbitration}}
-pub use bus_laws_proofs.FromCalling.{answer_exists, from_asking, from_calls, ids_not_zero, only_caller}
-pub use bus_laws_proofs.{FromFree.{from_free, row_is}, FromReset.{off_at, resets_of_own}, FromWon.{from_won}}
-pub use bus_laws_proofs.{Limits.{obeys_latencies}, Prompt.{least_is}, Resets.{comes_by, comes_by_first, due_calm}}
-pub use bus_laws_proofs.Resets.{due_holding, due_there, one_of, own_fault, own_other, own_reset_is, released_own}
-pub use bus_laws_proofs.{Resets.{reset_after}, Rows.{drives_other, drives_own, fault_change, since_is, stage_is}}
-pub use bus_laws_proofs.{Rows.{stands_after}, Together.{always_is, by_calm, calm_first, from_stage, reset_or_calm}}
+pub use bus_laws_proofs.Lines.{Apart.{change_plain}, Rows.{drives_other, drives_own, fault_change, since_is, stage_is}}
+pub use bus_laws_proofs.{Lines.Rows.{stands_after}, Resets.Dues.{comes_by, comes_by_first, due_calm, due_holding}}
+pub use bus_laws_proofs.Resets.Dues.{due_there, one_of, own_fault, own_other, own_reset_is, released_own, reset_after}
+pub use bus_laws_proofs.{Resets.Rows.{off_at, resets_of_own}, Stages.Answer.{from_answered, from_resumed}}
+pub use bus_laws_proofs.Stages.{Answer.{from_withdrawn}, Arbitration.{from_arbitration}, CallDues.{answers_due}}
+pub use bus_laws_proofs.Stages.{CallDues.{aside_due, asks_due, before_due, flip_at, waits_due}, Calling.{answer_exists}}
+pub use bus_laws_proofs.Stages.{Calling.{from_asking, from_calls, ids_not_zero, only_caller}, Dues.{due_in}}
+pub use bus_laws_proofs.Stages.{Dues.{due_in_reset, is_at, is_there}, Facts.{least_is}, Free.{from_free, row_is}}
+pub use bus_laws_proofs.Stages.{Next.{always_is, by_calm, calm_first, from_stage, reset_or_calm}, Won.{from_won}}
+pub use bus_laws_proofs.Times.Limits.{obeys_latencies}
 use Rattle.trace_laws.specs.bus_laws.specs as bus_laws
 pub use bus_laws.Callings.{answer_lines, awaiting_call, begun_call, both_ids, calling_lines, new_calling_at, won_call}
 pub use bus_laws.Ends.{BeginsConnection, EndLines, Linked, by_reselection, by_selection, connected_bus, ends_selected}
@@ -193,72 +194,77 @@ pub use bus_laws.{Rows.{row_of_fault, row_of_lines}, Stages.{AwaitsAnswer, BusSt
 pub use bus_laws.Stages.{HasShortLatencies, NextRow, Standing, after_answer, after_arbitration, after_takeover}
 pub use bus_laws.Stages.{after_withdrawal, awaiting_answer, in_arbitration, in_reset, on_free_bus, with_both_ids}
 use Rattle.trace_laws.specs.link_laws.proofs as link_laws_proofs
-pub use link_laws_proofs.{Asks.{counted_some}, EndDues.{Mover, answering_with, by_fault, by_initiator, by_target}}
-pub use link_laws_proofs.EndDues.{due_of, initiator_is, initiator_plain, is_sampling, mover_is, offering_with}
-pub use link_laws_proofs.{EndDues.{pace_with, sight_with, target_is, target_plain}, Faults.{linked_fault}}
-pub use link_laws_proofs.{Leaves.{may_leave}, LinkObeys.{same_phases}, Moves.{initiator_in_phase, initiator_moves}}
-pub use link_laws_proofs.{Moves.{no_rise, target_in_phase, target_moves, terms_of}, PhaseEnds.{leaves_lines}}
-pub use link_laws_proofs.{RunLengths.{runs_are_short}, Shakes.{initiator_row, target_row}, Traces.{link_calm}}
-pub use link_laws_proofs.Traces.{sides_are}
+pub use link_laws_proofs.Dues.Ends.{Mover, answering_with, by_fault, by_initiator, by_target, due_of, initiator_is}
+pub use link_laws_proofs.Dues.Ends.{initiator_plain, is_sampling, mover_is, offering_with, pace_with, sight_with}
+pub use link_laws_proofs.{Dues.Ends.{target_is, target_plain}, Lines.{Obeys.{same_phases}, Rows.{initiator_in_phase}}}
+pub use link_laws_proofs.Lines.Rows.{initiator_moves, no_rise, target_in_phase, target_moves, terms_of}
+pub use link_laws_proofs.Phases.{Asks.{counted_some}, Crossings.{initiator_row, target_row}, Ends.{leaves_lines}}
+pub use link_laws_proofs.{Phases.{Faults.{linked_fault}, Leavings.{may_leave}}, Runs.Lengths.{runs_are_short}}
+pub use link_laws_proofs.Traces.{link_calm, sides_are}
 use Rattle.trace_laws.specs.link_laws.specs as link_laws
 pub use link_laws.LinkStages.{AnyStage, LinkStage, linked, when_offering, when_pulsing, when_selected, when_settling}
 pub use link_laws.{LinkStages.{when_shaking, when_turning}, Phases.{ends}, Pulses.{run_count}}
+use Rattle.trace_laws.specs.row_laws.proofs as row_laws_proofs
+pub use row_laws_proofs.{Bytes.{Arrays.{IsOf}, Facts.{byte_values}}, Common.Impossible.{none_some, some_none}}
+pub use row_laws_proofs.Common.PhaseLines.{command_phase, in_phase, message_line, out_in, out_line, out_lines}
+pub use row_laws_proofs.Common.{PhaseLines.{out_no_status, out_phase}, Tests.{by_bool, by_option, none_both}}
+pub use row_laws_proofs.{Common.Tests.{not_unless, risen, zero_below, zero_times}, Events.Answered.{leaves}}
+pub use row_laws_proofs.Events.Arriving.{Arrives, arrives, as_guest, in_queue, not_running, queued_rests}
+pub use row_laws_proofs.Events.{Kept.{no_array}, Others.{same_after, untouched_at_start}, Processes.{Admits}}
+pub use row_laws_proofs.Events.{Processes.{AdmitsEvent, each_after}, Queued.{stays_queued, step_units}}
+pub use row_laws_proofs.Events.{Replies.{accepted, listed_on, replies_to, running_id}, Units.{MayWait, StaysSo}}
+pub use row_laws_proofs.Events.{Units.{each_settled, events_all}, Writers.{HoldsIt, IsElsewhere, Stands, append_all}}
+pub use row_laws_proofs.Events.Writers.{empty_stays, kept_all, map_all, map_units, none_at, stands_each, start_empty}
+pub use row_laws_proofs.{Events.Writers.{without_all}, Lines.{Called.{sel_of_call}, Connections.{ConnectionRow}}}
+pub use row_laws_proofs.Lines.Connections.{GoingRow, RowKindOf, begins_now, connection_row, goes_now, going_row}
+pub use row_laws_proofs.Lines.{Connections.{row_kind, stage_of_connection}, Crossings.{RowFacts, ends_here, leaving_is}}
+pub use row_laws_proofs.Lines.{Crossings.{no_answer, no_byte, no_pulse, offering_is}, Driven.{same_ends}}
+pub use row_laws_proofs.Lines.{First.{IsFirst, made_is, quiet_sel, under_rst}, Joint.{NextStood, Stood}}
+pub use row_laws_proofs.Lines.{Joint.{link_connection, link_phase}, Kept.{initiator_end, target_end}}
+pub use row_laws_proofs.Lines.{Plans.{is_directed, writes_of, writes_out, writes_there}, Rows.{LinkRow, is_pulsed}}
+pub use row_laws_proofs.Lines.{Rows.{is_unasked, link_row}, Turns.{freed_connection}, UnderRst.{carries_none}}
+pub use row_laws_proofs.Lines.{UnderRst.{drives_next, ends_apart, quiet_at_end}, UndoneLeavings.{is_to_message_in}}
+use Rattle.trace_laws.specs.row_laws.specs as row_laws
+pub use row_laws.DataPointers.{IsPlainIn, IsServedAnew, PointersAsked, PointersIf, PointersIn, PointersOf}
+pub use row_laws.DataPointers.{PointersRefused, ServedPointers, calm, closes_again, disconnects_again, is_marked, named}
+pub use row_laws.DataPointers.{restores, restores_again, run_policy, run_start, saved, saves_again, step_in, still_calm}
+pub use row_laws.{DataPointers.{unnamed}, Ends.{AreEnds, HasEnds}, ItemFacts.{AllP, ItemFacts, RunsP, UnitsP}}
+pub use row_laws.{ItemTalks.{frees_bus}, Offers.{OfferFacts}, Places.{AnsweredOpen, Closes, Each, HasPlaces, IsAtRest}}
+pub use row_laws.Places.{IsAway, IsOutside, IsTaken, IsUntouched, MayRun, OnGuests, OnUnits, PlaceFacts, PlacedAsked}
+pub use row_laws.Places.{PlacedBefore, PlacedIf, PlacedIn, Runs, RunsOpen, Waits, completes, disconnects}
+pub use row_laws.{Tells.{AreRepliesShown}, WriteFacts.{AllUnits, IsEmptyUnit, IsOther, IsWrittenUnit}}
+use Rattle.trace_laws.specs.story_laws.proofs as story_laws_proofs
+pub use story_laws_proofs.{Instructed.Steps.{told_with}, Items.{Facts.{beginning}, Fresh.{data_premises, items_fresh}}}
+pub use story_laws_proofs.{Items.{Fresh.{items_open}, Over.{ends_over}, Sent.{sent_grows}}, Last.Rows.{KeptPlan, Stays}}
+pub use story_laws_proofs.{Last.{Rows.{stays_as}, Turns.{from_ends}}, Offers.Statuses.{falls_is, left_req, side_is}}
+pub use story_laws_proofs.Offers.{Statuses.{unrisen, zero_even, zero_is}, Steps.{stays_out}}
+pub use story_laws_proofs.Pointers.{Ends.{command_over, writer_plain}, Steps.{byte_id, byte_moves, byte_story}}
+pub use story_laws_proofs.Pointers.{Steps.{fault_id, in_known}, Stories.{story_row}, Turns.{runs_more}}
+pub use story_laws_proofs.{Pointers.Waits.{over_row}, Talks.Bytes.{no_completion}, Tells.Facts.{front_length}}
+pub use story_laws_proofs.{Tells.Rows.{no_events}, Undone.Facts.{in_of, undo_asks, undo_next, undo_start}}
+pub use story_laws_proofs.Undone.{Rows.{IsKeptInside, SameIn, empty_front}, Turns.{not_out}}
+use Rattle.trace_laws.specs.story_laws.specs as story_laws
+pub use story_laws.{Commands.{CommandFacts, StandsIn}, DataFacts.{DataFacts}, Instructed.{Instructed, InstructedFacts}}
+pub use story_laws.{Instructed.{KnownIn}, Items.{IsFresh}, LastTalks.{EndsWell, LastBy, LastFacts, LastGiven, closed}}
+pub use story_laws.{LastTalks.{closes, saves, stays, still_stays, to_close, to_save}, Named.{Named, NamedFacts, known}}
+pub use story_laws.{Named.{refused, said}, RunCounts.{AreCounted, CountFacts, pulses_here}, RunFacts.{IsServedWell}}
+pub use story_laws.{RunFacts.{RunsBy}, RunsWhole.{IsWhole, ends_badly, sends_all, sends_none}, TellFacts.{TellFacts}}
+pub use story_laws.WholeRuns.{bytes_come}
 use Rattle.trace_laws.proofs as trace_laws_proofs
-pub use trace_laws_proofs.{Attended.Asks.{away_guest}, Bytes.{Arrays.{IsOf}, Facts.{byte_values}}}
-pub use trace_laws_proofs.{Closes.Stays.{said_then}, Common.Impossible.{none_some, some_none}}
-pub use trace_laws_proofs.Common.PhaseLines.{command_phase, in_phase, message_line, out_in, out_line, out_lines}
-pub use trace_laws_proofs.Common.{PhaseLines.{out_no_status, out_phase}, Tests.{none_both, not_unless, risen}}
-pub use trace_laws_proofs.{Common.Tests.{zero_below, zero_times}, Events.{Answered.{leaves}, Arriving.{Arrives}}}
-pub use trace_laws_proofs.Events.{Arriving.{arrives, as_guest, in_queue, not_running, queued_rests}, Kept.{no_array}}
-pub use trace_laws_proofs.Events.{Others.{same_after, untouched_at_start}, Processes.{Admits, AdmitsEvent, each_after}}
-pub use trace_laws_proofs.Events.{Queued.{stays_queued, step_units}, Replies.{accepted, listed_on, replies_to}}
-pub use trace_laws_proofs.Events.{Replies.{running_id}, Units.{MayWait, StaysSo, each_settled, events_all}}
-pub use trace_laws_proofs.Events.Writers.{HoldsIt, IsElsewhere, Stands, append_all, empty_stays, kept_all, map_all}
-pub use trace_laws_proofs.Events.Writers.{map_units, none_at, stands_each, start_empty, without_all}
-pub use trace_laws_proofs.{Instructed.Steps.{told_with}, Items.{Facts.{beginning}, Fresh.{data_premises, items_fresh}}}
-pub use trace_laws_proofs.{Items.{Fresh.{items_open}, Over.{ends_over}, Sent.{sent_grows}}, Last.Rows.{KeptPlan, Stays}}
-pub use trace_laws_proofs.{Last.{Rows.{stays_as}, Turns.{from_ends}}, Lines.Called.{sel_of_call}}
-pub use trace_laws_proofs.Lines.Connections.{ConnectionRow, GoingRow, RowKindOf, begins_now, connection_row, goes_now}
-pub use trace_laws_proofs.Lines.{Connections.{going_row, row_kind, stage_of_connection}, Crossings.{RowFacts}}
-pub use trace_laws_proofs.Lines.Crossings.{ends_here, leaving_is, no_answer, no_byte, no_pulse, offering_is}
-pub use trace_laws_proofs.Lines.{Driven.{same_ends}, First.{IsFirst, made_is, quiet_sel, under_rst}, Joint.{NextStood}}
-pub use trace_laws_proofs.Lines.{Joint.{Stood, link_connection, link_phase}, Kept.{initiator_end, target_end}}
-pub use trace_laws_proofs.Lines.{Plans.{is_directed, writes_of, writes_out, writes_there}, Rows.{LinkRow, is_pulsed}}
-pub use trace_laws_proofs.Lines.{Rows.{is_unasked, link_row}, Turns.{freed_connection}, UnderRst.{carries_none}}
-pub use trace_laws_proofs.{Lines.UnderRst.{drives_next, ends_apart, quiet_at_end}, Offers.Steps.{stays_out}}
-pub use trace_laws_proofs.Places.{Ready.{on_running}, Stays.{stay_shown}, Turns.{command_not_out}}
-pub use trace_laws_proofs.{Places.Unshown.{unshown_ready}, Pointers.Ends.{command_over, writer_plain}}
-pub use trace_laws_proofs.Pointers.{Steps.{byte_id, byte_moves, byte_story, fault_id, in_known}, Stories.{story_row}}
-pub use trace_laws_proofs.{Pointers.{Turns.{runs_more}, Waits.{over_row}}, Runs.AllSent.{runs_blocks, some_run}}
-pub use trace_laws_proofs.Runs.{AllSent.{zero_blocks}, Asks.{out_step, rise_of}, Begins.{same_length}, Begun.{no_more}}
-pub use trace_laws_proofs.Runs.{Counts.{handshakes_begin, or_left}, Data.{crossing_stands}, Events.{RunsFrom}}
-pub use trace_laws_proofs.Runs.Events.{RunsInPhase, answered, moved_all, reads, run_turn, runs_from, writes}
-pub use trace_laws_proofs.Runs.Facts.{LinesOf, active_is, crossing_begun, kind_next, lines_of, raised_rst, task_here}
-pub use trace_laws_proofs.Runs.{Facts.{turns_by}, Fits.{FitsRuns, fits_runs, lines_now, none_sent, policies_most}}
-pub use trace_laws_proofs.Runs.{Fits.{size_is}, Left.{left_next, left_start}, Parts.{RunsFit, byte_within, has_byte}}
-pub use trace_laws_proofs.Runs.{Parts.{start_is}, Rows.{runs_first, served_id}, Whole.{last_run}}
-pub use trace_laws_proofs.{Sent.Stays.{is_in_next}, Statuses.Offers.{falls_is, left_req, side_is, unrisen, zero_even}}
-pub use trace_laws_proofs.{Statuses.Offers.{zero_is}, Talks.Bytes.{no_completion}, Tells.Facts.{front_length}}
-pub use trace_laws_proofs.{Tells.Rows.{no_events}, Undone.Facts.{in_of, undo_asks, undo_next, undo_start}}
-pub use trace_laws_proofs.Undone.{Leavings.{is_to_message_in}, Rows.{IsKeptInside, SameIn, empty_front}}
-pub use trace_laws_proofs.{Undone.Turns.{not_out}, Whole.{Whole, row_attendance, standing_next, whole}}
-pub use trace_laws_proofs.Writes.{Arrivals.{ArrivesNow, arrives_first}, Facts.{known_before}, Premises.{write_premises}}
-pub use trace_laws_proofs.Writes.Turns.{progress_turns}
+pub use trace_laws_proofs.{Attended.Asks.{away_guest}, Closes.Stays.{said_then}, Places.Ready.{on_running}}
+pub use trace_laws_proofs.Places.{Stays.{stay_shown}, Turns.{command_not_out}, Unshown.{unshown_ready}}
+pub use trace_laws_proofs.Runs.{AllSent.{runs_blocks, some_run, zero_blocks}, Asks.{out_step, rise_of}}
+pub use trace_laws_proofs.Runs.{Begins.{same_length}, Begun.{no_more}, Counts.{handshakes_begin, or_left}}
+pub use trace_laws_proofs.Runs.{Data.{crossing_stands}, Events.{RunsFrom, RunsInPhase, answered, moved_all, reads}}
+pub use trace_laws_proofs.Runs.{Events.{run_turn, runs_from, writes}, Facts.{LinesOf, active_is, crossing_begun}}
+pub use trace_laws_proofs.Runs.{Facts.{kind_next, lines_of, raised_rst, task_here, turns_by}, Fits.{FitsRuns}}
+pub use trace_laws_proofs.Runs.{Fits.{fits_runs, lines_now, none_sent, policies_most, size_is}, Left.{left_next}}
+pub use trace_laws_proofs.Runs.{Left.{left_start}, Parts.{RunsFit, byte_within, has_byte, start_is}, Rows.{runs_first}}
+pub use trace_laws_proofs.{Runs.{Rows.{served_id}, Whole.{last_run}}, Sent.Stays.{is_in_next}, Whole.{Whole}}
+pub use trace_laws_proofs.{Whole.{row_attendance, standing_next, whole}, Writes.Arrivals.{ArrivesNow, arrives_first}}
+pub use trace_laws_proofs.Writes.{Facts.{known_before}, Premises.{write_premises}, Turns.{progress_turns}}
 use Rattle.trace_laws.specs as trace_laws
-pub use trace_laws.{Commands.{CommandFacts, StandsIn}, DataFacts.{DataFacts}, DataPointers.{IsPlainIn, IsServedAnew}}
-pub use trace_laws.DataPointers.{PointersAsked, PointersIf, PointersIn, PointersOf, PointersRefused, ServedPointers}
-pub use trace_laws.DataPointers.{calm, closes_again, disconnects_again, is_marked, named, restores, restores_again}
-pub use trace_laws.DataPointers.{run_policy, run_start, saved, saves_again, step_in, still_calm, unnamed}
-pub use trace_laws.{Ends.{AreEnds, HasEnds}, Instructed.{Instructed, InstructedFacts, KnownIn}, ItemFacts.{AllP}}
-pub use trace_laws.{ItemFacts.{ItemFacts, RunsP, UnitsP}, ItemTalks.{frees_bus}, Items.{IsFresh}, LastTalks.{EndsWell}}
-pub use trace_laws.LastTalks.{LastBy, LastFacts, LastGiven, closed, closes, saves, stays, still_stays, to_close}
-pub use trace_laws.{LastTalks.{to_save}, Named.{Named, NamedFacts, known, refused, said}, Offers.{OfferFacts}}
-pub use trace_laws.Places.{AnsweredOpen, Closes, Each, HasPlaces, IsAtRest, IsAway, IsOutside, IsTaken, IsUntouched}
-pub use trace_laws.Places.{MayRun, OnGuests, OnUnits, PlaceFacts, PlacedAsked, PlacedBefore, PlacedIf, PlacedIn, Runs}
-pub use trace_laws.{Places.{RunsOpen, Waits, completes, disconnects}, RunCounts.{AreCounted, CountFacts, pulses_here}}
-pub use trace_laws.{RunFacts.{IsServedWell, RunsBy}, RunsLeft.{HasRunLeft, RunsLeftOf, run_total}, RunsWhole.{IsWhole}}
-pub use trace_laws.{RunsWhole.{ends_badly, sends_all, sends_none}, TellFacts.{TellFacts}, Tells.{AreRepliesShown}}
-pub use trace_laws.{WholeRuns.{bytes_come}, WriteFacts.{AllUnits, IsEmptyUnit, IsOther, IsWrittenUnit}}
+pub use trace_laws.RunsLeft.{HasRunLeft, RunsLeftOf, run_total}
 use Rattle.right_laws.specs as right_laws
 pub use right_laws.{Asked.{AllMove, GivesAtRun, IsRunning, SendsAtRun}, Awaited.{awaited, awaited_by, awaited_ids}}
 pub use right_laws.{Awaited.{byte_at, ids_at, ids_of, is_asked, listed}, Given.{GivenFacts, GivenIn, GivesAsked}}

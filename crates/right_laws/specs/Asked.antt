@@ -14,7 +14,7 @@ use Rattle.bus_due.specs.bus_story.specs.Right.{has_run}
 use Rattle.bus_due.specs.RunState.{RunState, array_of, carried_here}
 use Rattle.bus_due.specs.RunSteps.{run_state, run_state_after}
 use Rattle.bus_due.specs.Tasks.{is_writing}
-use Rattle.trace_laws.specs.WholeRuns.{bytes_come}
+use Rattle.trace_laws.specs.story_laws.specs.WholeRuns.{bytes_come}
 
 -- It runs with the row, and this is its reply.
 pub record IsRunning (s : ScenarioValue) (k : RunState) (row : Row) (p : Process) (reply : Reply) : Type 0 where

@@ -4,7 +4,7 @@ use Rattle.bus_due.specs.bus_trace.specs.declared.Row.{Row}
 use Rattle.bus_due.specs.scenario.specs.Value.{ScenarioValue}
 use Rattle.bus_due.specs.bus_story.specs.CarriedBytes.{CarriedBytes}
 use Rattle.bus_due.specs.RunState.{RunState}
-use Rattle.trace_laws.specs.Tells.{UndoesSame, UndoFacts}
+use Rattle.trace_laws.specs.row_laws.specs.Tells.{UndoesSame, UndoFacts}
 
 pub record Load : Type 0 where
   pub command : List ℕ

@@ -9,7 +9,7 @@ use Rattle.bus_due.specs.disk_array.specs.Processes.{Process, process_of}
 use Rattle.bus_due.specs.disk_array.specs.Units.{RunningProcess, Array}
 use Rattle.bus_due.specs.RunState.{RunState, array_of, carried_here}
 use Rattle.bus_due.specs.RunSteps.{run_state}
-use Rattle.trace_laws.specs.Places.{Each}
+use Rattle.trace_laws.specs.row_laws.specs.Places.{Each}
 
 abbrev pub OnEvents : (Event → Type 0) → List Event → Type 0
 OnEvents q [] = ⊤

@@ -5,3 +5,4 @@ pub mod Turns
 pub mod Next
 pub mod Facts
 pub mod Asks
+pub mod Told

@@ -1,5 +1,4 @@
 -- The status that was carried is that of the reply (`statuses`).
-pub mod Offers
 pub mod Leavings
 pub mod Carried
 pub mod Replies

@@ -3,29 +3,26 @@ use Rattle.trace_laws.proofs
 use proofs.Names.{◌≡◌, ◌⊎◌, inl, inr, ◌<◌, Bool, true, false, ◌∙◌, List, [], ◌∷◌, Option, Some, None, refl, sym, ap}
 use proofs.Names.{and_from, same_Some, if◌then◌else◌, is_some, change_of, changes_phase, is_message_in, call}
 use proofs.Names.{connection, connection_after, bus, Row, Change, Connection, ScenarioValue, Obeys, Array, RowReading}
-use proofs.Names.{row_reading, run_state_plain, allowed, IsLeast, due, IsPrompt, IsPlain, RunState, run_state, telling}
-use proofs.Names.{obeys_fits, seats_are, units_are, heard, written, AreRowsOf, complains_truly, left_as_due}
-use proofs.Names.{change_plain, obeys_latencies, least_is, runs_are_short, IsAsked, AttendedFacts, ClearFacts}
-use proofs.Names.{CloseFacts, CommandFacts, ComplaintFacts, DataFacts, is_marked, AreEnds, FailFacts, InstructedFacts}
-use proofs.Names.{PlaceFacts, ResetFacts, IsAttended, IsCalmTurn, RunsLeft, SentFacts, TellFacts, AreRepliesShown}
-use proofs.{Names.{FailsAsLeft, TellsAsLeft, WriteFacts, WritesAsked}, Attended.Asks.{attendance_asked}}
-use proofs.{Attended.{Facts.{attended_row}, Next.{attended_next, attended_start}}, Bytes.Blocks.{commands_are}}
-use proofs.{Bytes.Facts.{byte_values}, Clear.Facts.{clear_asks, clear_next, clear_start}, Closes.Facts.{close_next}}
-use proofs.{Closes.Facts.{close_start}, Commands.Asks.{command_start, command_asks, command_next}}
-use proofs.{Common.Impossible.{none_some}, Complaints.{Complained.{complained_row}, Facts.{complaints_next}}}
-use proofs.{Complaints.Facts.{complaints_start}, Ends.Facts.{ends_on, left_row}, Failures.Crossed.{CrossedFacts}}
-use proofs.Failures.{Crossed.{crossed_next, crossed_start}, Facts.{fail_start}, First.{fail_rows}, Left.{fails_as_left}}
-use proofs.Heard.{Places.{begins_placed, places_heard}, Rows.{HeardFacts, heard_row}}
-use proofs.{Instructed.Facts.{instructed_next, instructed_start}, Items.Fresh.{IsUnshown, data_premises, calm_after}}
-use proofs.{Items.{Fresh.{calm_before}, Next.{items_asks}}, Lines.Joint.{NextStood, Stood, next_stood, stood_first}}
-use proofs.{Named.Facts.{named_asks, named_at_run}, Offers.Facts.{offers_asks}, Places.Facts.{place_row}}
-use proofs.{Places.{Rows.{allowed_row, places_start}, Unshown.{unshown_ready}}, Resets.Facts.{resets_next}}
-use proofs.Resets.{Facts.{resets_start}, Holds.{HoldFacts, cut_phase, holds_next, holds_start}}
-use proofs.Runs.{AllSent.{whole_as_left}, Data.{data_asks, data_next, data_start}, Left.{runs_left_next}}
-use proofs.{Runs.Left.{runs_left_start}, Sent.Facts.{sent_asks, sent_next, sent_start}, Shown.Facts.{replies_first}}
-use proofs.{Shown.Facts.{replies_next}, Statuses.Facts.{StatusFacts, status_asks, status_next, status_start}}
-use proofs.{Tells.{Facts.{left_tells, tell_next, tell_start}, Traces.{tells_row}}, Undone.Facts.{undo_asks}}
-use proofs.Writes.{Facts.{writes_next, writes_start}, Premises.{write_premises}, Written.{written_next}}
+use proofs.Names.{row_reading, allowed, IsLeast, due, IsPrompt, run_state, telling, obeys_fits, seats_are, units_are}
+use proofs.Names.{heard, written, AreRowsOf, complains_truly, left_as_due, change_plain, least_is, obeys_latencies}
+use proofs.Names.{runs_are_short, commands_are, byte_values, none_some, ends_on, left_row, NextStood, Stood, next_stood}
+use proofs.Names.{stood_first, replies_first, replies_next, IsAsked, AttendedFacts, is_marked, AreEnds, PlaceFacts}
+use proofs.Names.{AreRepliesShown, FailsAsLeft, TellsAsLeft, WriteFacts, WritesAsked, command_start, command_asks}
+use proofs.Names.{command_next, complained_row, complaints_next, complaints_start, instructed_next, instructed_start}
+use proofs.Names.{IsUnshown, data_premises, calm_after, calm_before, items_asks, named_asks, named_at_run, offers_asks}
+use proofs.Names.{left_tells, tell_next, tell_start, undo_asks, CommandFacts, ComplaintFacts, DataFacts}
+use proofs.Names.{InstructedFacts, IsAttended, IsCalmTurn, TellFacts, ClearFacts, CloseFacts, FailFacts, ResetFacts}
+use proofs.{Names.{RunsLeft, SentFacts}, Attended.{Asks.{attendance_asked}, Facts.{attended_row}, Next.{attended_next}}}
+use proofs.{Attended.{Next.{attended_start}, Told.{tells_row}}, Clear.Facts.{clear_asks, clear_next, clear_start}}
+use proofs.{Closes.Facts.{close_next, close_start}, Failures.Crossed.{CrossedFacts, crossed_next, crossed_start}}
+use proofs.{Failures.{Facts.{fail_start}, First.{fail_rows}, Left.{fails_as_left}}, Heard.Places.{begins_placed}}
+use proofs.{Heard.{Places.{places_heard}, Rows.{HeardFacts, heard_row}}, Places.{Facts.{place_row}, Rows.{allowed_row}}}
+use proofs.{Places.{Rows.{places_start}, Unshown.{unshown_ready}}, Resets.Facts.{resets_next, resets_start}}
+use proofs.{Resets.Holds.{HoldFacts, cut_phase, holds_next, holds_start}, Runs.AllSent.{whole_as_left}}
+use proofs.Runs.{Data.{data_asks, data_next, data_start}, Left.{runs_left_next, runs_left_start}}
+use proofs.{Sent.Facts.{sent_asks, sent_next, sent_start}, Statuses.Facts.{StatusFacts, status_asks, status_next}}
+use proofs.{Statuses.Facts.{status_start}, Writes.{Facts.{writes_next, writes_start}, Premises.{write_premises}}}
+use proofs.Writes.Written.{written_next}
 
 -- What is kept of the lines and of what is said.
 pub record Whole (s : ScenarioValue) (p : List Row) : Type 0 where
@@ -106,20 +103,14 @@ asked s p row o prompt was n con calm off =
 calm : (s : ScenarioValue) (p : List Row) (row : Row) → Obeys s → IsPrompt s (row ∷ p) → Whole s p → row.dev < 8 → IsCalmTurn (row_reading (run_state s p).story.bus_state row)
 calm s p row o prompt was lt stands ep = go (connection p) refl (connection (row ∷ p)) refl
   where
-    k : RunState
-    k = run_state s p
-
     d : RowReading
-    d = row_reading k.story.bus_state row
-
-    pl : IsPlain s p k
-    pl = run_state_plain s p was.stood.standing.devices
+    d = row_reading (run_state s p).story.bus_state row
 
     c : d.change ≡ change_of p row
     c = change_plain s row p was.stood.standing.devices lt
 
     next_is : d.next ≡ connection (row ∷ p)
-    next_is = λ i. connection_after (pl.connection i) (pl.call i) (c i) row
+    next_is = λ i. connection_after (was.stood.plain.connection i) (was.stood.plain.call i) (c i) row
 
     by_rst : (n : Connection) → connection p ≡ Some n → connection (row ∷ p) ≡ Some n → (a b : Bool) → (bus p).rst ≡ a → (bus (row ∷ p)).rst ≡ b → ((d.change.before.rst ≡ false) × (d.change.after.rst ≡ false)) ⊎ (is_message_in d.change.before ≡ true)
     by_rst n con after false false e f = inl (ap (λ (x : Change). x.before.rst) c ∙ e, ap (λ (x : Change). x.after.rst) c ∙ f)

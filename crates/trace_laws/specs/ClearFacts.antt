@@ -9,7 +9,7 @@ use Rattle.bus_due.specs.disk_array.specs.Processes.{same_id}
 use Rattle.bus_due.specs.bus_story.specs.Items.{process, has_item}
 use Rattle.bus_due.specs.RunState.{RunState, bus_of, carried_here}
 use Rattle.bus_due.specs.RunSteps.{run_state}
-use Rattle.trace_laws.specs.DataPointers.{UndoesServed, is_marked}
+use Rattle.story_laws.specs.row_laws.specs.DataPointers.{UndoesServed, is_marked}
 use Rattle.trace_laws.specs.Failures.{IsClear}
 
 -- Of a process that is not over and was not answered.

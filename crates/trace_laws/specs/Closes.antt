@@ -6,14 +6,14 @@ use Rattle.bus_due.specs.bus_trace.specs.declared.Row.{Row}
 use Rattle.bus_due.specs.bus_trace.specs.declared.connection.Connection.{Connection}
 use Rattle.bus_due.specs.bus_trace.specs.Terms.{connection}
 use Rattle.bus_due.specs.bus_trace.specs.Trace.{bus}
-use Rattle.bus_due.specs.msg_grammar.specs.declared.message.MsgIn.TheVariants as to_initiator
 use Rattle.bus_due.specs.scenario.specs.Value.{ScenarioValue}
 use Rattle.bus_due.specs.disk_array.specs.Steps.{has_ended}
 use Rattle.bus_due.specs.bus_story.specs.Items.{process}
 use Rattle.bus_due.specs.bus_dialogue.specs.Exchange.{one_message}
 use Rattle.bus_due.specs.RunState.{RunState, array_of, bus_of}
 use Rattle.bus_due.specs.RunSteps.{run_state}
-use Rattle.trace_laws.specs.ItemTalks.{awaits}
+use Rattle.story_laws.specs.row_laws.specs.ItemTalks.{awaits}
+use Rattle.bus_due.specs.msg_grammar.specs.declared.message.MsgIn.TheVariants as to_initiator
 
 abbrev pub IsCompleting : RunState → Type 0
 IsCompleting k = k.exchange.plan.messages ≡ one_message to_initiator.CommandComplete

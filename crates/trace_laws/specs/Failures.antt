@@ -7,26 +7,26 @@ use Rattle.bus_due.specs.bus_trace.specs.declared.connection.Connection.{Connect
 use Rattle.bus_due.specs.bus_trace.specs.Terms.{connection}
 use Rattle.bus_due.specs.bus_trace.specs.Trace.{bus}
 use Rattle.bus_due.specs.cdb_codec.specs.declared.sense.TheConstants.{PARITY_ERROR, INITIATOR_DETECTED_ERROR}
-use Rattle.bus_due.specs.msg_grammar.specs.declared.message.MsgIn.TheVariants as to_initiator
 use Rattle.bus_due.specs.scenario.specs.Value.{ScenarioValue}
 use Rattle.bus_due.specs.bus_story.specs.CarriedBytes.{CarriedBytes}
 use Rattle.bus_due.specs.bus_story.specs.Items.{process}
 use Rattle.bus_due.specs.bus_story.specs.Links.{Link}
 use Rattle.bus_due.specs.bus_dialogue.specs.declared.exchange.Cause.{Cause}
-use Rattle.bus_due.specs.bus_dialogue.specs.declared.exchange.Cause.TheVariants as causes
 use Rattle.bus_due.specs.bus_dialogue.specs.declared.exchange.Messages.{Messages}
 use Rattle.bus_due.specs.bus_dialogue.specs.declared.exchange.Next.{Next}
-use Rattle.bus_due.specs.bus_dialogue.specs.declared.exchange.Next.TheVariants as nexts
 use Rattle.bus_due.specs.bus_dialogue.specs.declared.exchange.Phase.{Phase}
-use Rattle.bus_due.specs.bus_dialogue.specs.declared.exchange.Phase.TheVariants as phases
 use Rattle.bus_due.specs.bus_dialogue.specs.declared.exchange.Plan.{Plan}
 use Rattle.bus_due.specs.bus_dialogue.specs.Exchange.{one_message}
 use Rattle.bus_due.specs.bus_dialogue.specs.NextPhase.{phase_of}
 use Rattle.bus_due.specs.bus_dialogue.specs.Words.{parity_error}
 use Rattle.bus_due.specs.RunState.{RunState, bus_of, carried_here}
 use Rattle.bus_due.specs.RunSteps.{run_state}
-use Rattle.trace_laws.specs.Tells.{code_if, is_short, IsLeaving}
-use Rattle.trace_laws.specs.DataPointers.{is_marked}
+use Rattle.story_laws.specs.row_laws.specs.Tells.{code_if, is_short, IsLeaving}
+use Rattle.story_laws.specs.row_laws.specs.DataPointers.{is_marked}
+use Rattle.bus_due.specs.msg_grammar.specs.declared.message.MsgIn.TheVariants as to_initiator
+use Rattle.bus_due.specs.bus_dialogue.specs.declared.exchange.Cause.TheVariants as causes
+use Rattle.bus_due.specs.bus_dialogue.specs.declared.exchange.Next.TheVariants as nexts
+use Rattle.bus_due.specs.bus_dialogue.specs.declared.exchange.Phase.TheVariants as phases
 
 -- Nothing has struck it.
 pub record IsClear (c : CarriedBytes) : Type 0 where

@@ -7,7 +7,7 @@ use Rattle.bus_due.specs.bus_trace.specs.declared.connection.Connection.{Connect
 use Rattle.bus_due.specs.bus_trace.specs.Terms.{connection}
 use Rattle.bus_due.specs.bus_trace.specs.Trace.{bus, drives}
 use Rattle.bus_due.specs.scenario.specs.Value.{ScenarioValue}
-use Rattle.trace_laws.specs.WriteFacts.{ReadsUnderRst}
+use Rattle.story_laws.specs.row_laws.specs.WriteFacts.{ReadsUnderRst}
 
 pub record HasNoPhase (l : LineSet) : Type 0 where
   pub msg : l.msg ≡ false

@@ -10,15 +10,15 @@ use Rattle.bus_due.specs.bus_lines.specs.Handshakes.{Handshakes, handshakes, fir
 use Rattle.bus_due.specs.cdb_codec.specs.declared.sense.TheConstants.{INITIATOR_DETECTED_ERROR}
 use Rattle.bus_due.specs.scenario.specs.Value.{ScenarioValue}
 use Rattle.bus_due.specs.bus_story.specs.Items.{process}
-use Rattle.bus_due.specs.bus_dialogue.specs.declared.exchange.Phase.TheVariants as phases
 use Rattle.bus_due.specs.bus_dialogue.specs.Hearing.{begun}
 use Rattle.bus_due.specs.bus_dialogue.specs.NextPhase.{phase_of}
 use Rattle.bus_due.specs.RunState.{carried_here}
 use Rattle.bus_due.specs.RunSteps.{run_state}
-use Rattle.trace_laws.specs.Complaints.{any_struck}
-use Rattle.trace_laws.specs.ItemTalks.{awaits}
-use Rattle.trace_laws.specs.RunCounts.{pulses_here}
-use Rattle.trace_laws.specs.Tells.{code_if}
+use Rattle.story_laws.specs.Complaints.{any_struck}
+use Rattle.story_laws.specs.row_laws.specs.ItemTalks.{awaits}
+use Rattle.story_laws.specs.RunCounts.{pulses_here}
+use Rattle.story_laws.specs.row_laws.specs.Tells.{code_if}
+use Rattle.bus_due.specs.bus_dialogue.specs.declared.exchange.Phase.TheVariants as phases
 
 -- Byte by byte the newest request alone waits, from REQ to ACK.
 pub record IsNewest (h : Handshakes) : Type 0 where

@@ -10,22 +10,22 @@ ghost use Rattle.bus_due.specs.scenario.specs.Value.{ScenarioValue};
 ghost use Rattle.bus_due.specs.scenario.specs.Writing.{Obeys};
 ghost use Rattle.bus_due.specs.bus_reactions.specs.declared.due.Due.{Due};
 ghost use Rattle.bus_due.specs.disk_array.specs.Processes.{process_of, Process};
-ghost use Rattle.bus_books.specs.FullQueues.{has_event};
+ghost use Rattle.story_laws.specs.bus_books.specs.FullQueues.{has_event};
 ghost use Rattle.bus_due.specs.Allowed.{allowed};
 ghost use Rattle.bus_due.specs.Faithful.{faithful};
 ghost use Rattle.bus_due.specs.Next.{due, IsPrompt};
 ghost use Rattle.bus_due.specs.Plain.{AreOfDevices};
 ghost use Rattle.bus_due.specs.RunSteps.{run_state};
-ghost use Rattle.target_units.specs.scsi_device.specs.Heard.{heard};
-ghost use Rattle.target_units.specs.scsi_device.specs.Writes.{written};
-ghost use Rattle.bus_books.specs.WrongParity.{complains_truly, has_more_faults, left_as_due};
-ghost use Rattle.bus_books.specs.Traces.{AreRowsOf, Books};
+ghost use Rattle.story_laws.specs.scsi_device.specs.Heard.{heard};
+ghost use Rattle.story_laws.specs.scsi_device.specs.Writes.{written};
+ghost use Rattle.story_laws.specs.bus_books.specs.WrongParity.{complains_truly, has_more_faults, left_as_due};
+ghost use Rattle.story_laws.specs.bus_books.specs.Traces.{AreRowsOf, Books};
 ghost use Rattle.bus_due.specs.Telling.{telling};
-ghost use Rattle.trace_laws.specs.ByteValues.{HasByteValues};
-ghost use Rattle.trace_laws.specs.Ends.{AreEnds};
-ghost use Rattle.trace_laws.specs.RowAttendance.{IsAttended};
+ghost use Rattle.story_laws.specs.row_laws.specs.ByteValues.{HasByteValues};
+ghost use Rattle.story_laws.specs.row_laws.specs.Ends.{AreEnds};
+ghost use Rattle.story_laws.specs.RowAttendance.{IsAttended};
 
-use bus_books::limits_are_passed;
+use story_laws::the_bus_books::limits_are_passed;
 
 /// A prompt trace, whatever connections, faults and resets it has and however long it is, obeys every rule of the bus
 /// (`lawful`), and nothing that is due after it lies in the past (`ahead`).

@@ -13,8 +13,9 @@ pub use std.Prelude.{if◌then◌else◌, is_none, is_some, nat_lt, slice_index,
 pub use std.declared.cmp.Ordering.{Ordering, TheVariants.{Equal, Greater, Less}}
 use Rattle.bus_due.specs.bus_base.proofs as bus_base_proofs
 pub use bus_base_proofs.Tests.{and_false, and_first, and_second, and_true, eq_self, eq_turned, implication, implied}
-pub use bus_base_proofs.Tests.{is_nothing, length_more, next_some, nil_of, nothing_below, or_false, or_second, or_true}
-pub use bus_base_proofs.Tests.{rises_some, second_false, wrong, wrong', zero_of}
+pub use bus_base_proofs.Tests.{is_nothing, length_more, middle, next_some, nil_of, nothing_below, or_false, or_later}
+pub use bus_base_proofs.Tests.{or_middle, or_none_first, or_second, or_true, plus_none, rises_some, second_false, wrong}
+pub use bus_base_proofs.Tests.{wrong', zero_of}
 use Rattle.bus_due.specs.bus_base.specs as bus_base
 pub use bus_base.{Faults.{counted_on}, declared.{AbortKind.{AbortKind}, Event.{Event}, ProcId.{ProcId}}}
 use Rattle.bus_due.specs.bus_trace.specs as bus_trace
@@ -99,13 +100,13 @@ pub use scsi_device.{Heard.{is_command_phase}, Lines.{AreUnits}}
 use Rattle.progress_laws.specs.target_units.proofs as target_units_proofs
 pub use target_units_proofs.LiveQueue.{id_turned}
 use Rattle.progress_laws.specs.bus_books.proofs as bus_books_proofs
-pub use bus_books_proofs.{Aims.{aims_are}, Areas.{with_command_byte}, Blocks.{same_self}, CarriedRows.{process_id}}
-pub use bus_books_proofs.{Given.{in_is_known, in_is_whole}, Gives.{byte_messages, counted, few_messages, in_io}}
-pub use bus_books_proofs.{Gives.{not_both}, Hearable.{heard_next}, InConnection.{InConnection, SamePhase}}
-pub use bus_books_proofs.{InConnection.{in_connection, reading_is, same_phase_is}, Knows.{from_nameless, link_after}}
-pub use bus_books_proofs.{Knows.{nameless_item, others_nameless}, Leavings.{left_messages}, Lookups.{id_is, put_other}}
-pub use bus_books_proofs.{Lookups.{put_own, self_id}, Reading.{nil_is}, RowTies.{item_if_is}, Saying.{says_byte}}
-pub use bus_books_proofs.Saying.{says_more}
+pub use bus_books_proofs.Carried.{Areas.{with_command_byte}, Blocks.{same_self}, Facts.{process_id}}
+pub use bus_books_proofs.Common.InConnection.{InConnection, SamePhase, in_connection, reading_is, same_phase_is}
+pub use bus_books_proofs.{Common.Lookups.{id_is, put_other, put_own, self_id}, Given.Heard.{heard_next}}
+pub use bus_books_proofs.Given.{Leavings.{left_messages}, Messages.{in_is_known, in_is_whole}, Rows.{byte_messages}}
+pub use bus_books_proofs.{Given.Rows.{counted, few_messages, in_io, not_both}, Items.Facts.{aims_are}}
+pub use bus_books_proofs.{Known.Rows.{from_nameless, link_after, nameless_item, others_nameless}, RowTies.{item_if_is}}
+pub use bus_books_proofs.Said.{Crossings.{says_byte, says_more}, Messages.{nil_is}}
 use Rattle.progress_laws.specs.bus_books.specs as bus_books
 pub use bus_books.{Accounts.{is_open_in}, Giving.{AreGiven, Gives, OnMessage, OnMessages}, Hearing.{LeavesWhole}}
 pub use bus_books.{Hearing.{is_in_phase, is_out_phase}, Items.{IsItem, is_process}, Knowing.{IsNoName, Knows}}
@@ -115,51 +116,57 @@ pub use bus_books.Speaking.{AreWordsFor, AreWordsHeard, IsAboutToSpeak, IsSpeaki
 pub use bus_books.{Speaking.{rejects_data, rejects_status}, Tests.{is_selected}, Traces.{Begins, IsReadyFor, RowOf}}
 pub use bus_books.Traces.{begins}
 use Rattle.progress_laws.specs.bus_laws.proofs as bus_laws_proofs
-pub use bus_laws_proofs.{Apart.{change_plain}, Prompt.{least_is}, Rows.{fault_change}}
+pub use bus_laws_proofs.{Lines.{Apart.{change_plain}, Rows.{fault_change}}, Stages.Facts.{least_is}}
 use Rattle.progress_laws.specs.bus_laws.specs as bus_laws
 pub use bus_laws.Ends.{BeginsConnection, EndLines, Linked, by_reselection, by_selection, connected_bus, ends_selected}
 pub use bus_laws.{Ends.{initiator_side, target_side}, Rows.{row_of_fault, row_of_lines}}
 use Rattle.progress_laws.specs.link_laws.proofs as link_laws_proofs
-pub use link_laws_proofs.Moves.{initiator_moves, no_rise, phase_same, target_moves}
+pub use link_laws_proofs.Lines.Rows.{initiator_moves, no_rise, phase_same, target_moves}
 use Rattle.progress_laws.specs.link_laws.specs as link_laws
 pub use link_laws.{Phases.{ends}, Pulses.{run_count}}
+use Rattle.progress_laws.specs.row_laws.proofs as row_laws_proofs
+pub use row_laws_proofs.Common.{Impossible.{none_some}, PhaseLines.{command_phase, in_out, in_phase, message_line}}
+pub use row_laws_proofs.Common.{PhaseLines.{out_in, out_line, out_lines, out_no_status, out_phase}, Tests.{by_bool}}
+pub use row_laws_proofs.{Common.Tests.{by_option, plus_one}, Lines.Connections.{ConnectionRow, GoingRow, RowKindOf}}
+pub use row_laws_proofs.Lines.Connections.{begins_now, connection_row, goes_now, going_row, row_kind}
+pub use row_laws_proofs.Lines.{Connections.{stage_of_connection}, Crossings.{RowFacts, Stops, ends_here}}
+pub use row_laws_proofs.Lines.{Joint.{NextStood, link_phase, link_unbegun}, Plans.{is_in_message}, Rows.{LinkRow}}
+pub use row_laws_proofs.Lines.{Rows.{is_unasked}, UnderRst.{raises_or_stands}}
+use Rattle.progress_laws.specs.row_laws.specs as row_laws
+pub use row_laws.{DataPointers.{is_marked}, ItemFacts.{AreChecked, IsChecked, IsNext, NoClash, is_abort}}
+pub use row_laws.{ItemFacts.{is_command as is_next_command, is_sense}, ItemTalks.{IsTaken, TalksBy, talk_of}}
+pub use row_laws.{Offers.{IsHeardOut, answers_it, detects, is_detected, repeats}, Places.{IsUntouched, PlacedIf}}
+pub use row_laws.{Places.{PlacedIn}, Tells.{IsClosing, IsServed, LastIn, Tells, is_short}}
+use Rattle.progress_laws.specs.story_laws.proofs as story_laws_proofs
+pub use story_laws_proofs.{Commands.{Messages.{crossed_else}, Turns.{is_command_next}}, Items.Facts.{aimed_next}}
+pub use story_laws_proofs.Items.{Facts.{beginning}, Fresh.{calm_after, calm_before, items_found, items_fresh}}
+pub use story_laws_proofs.Items.{Fresh.{items_sent}, Open.{item_is, next_free, opened, same_process}, Over.{Grows}}
+pub use story_laws_proofs.Items.{Over.{events_grow, grows_same, in_append, not_grown, reset_senses}, Row.{LinkAfter}}
+pub use story_laws_proofs.Items.Row.{heard_link, hears, inside_sent, link_crossed, link_still, over_after, says, stays}
+pub use story_laws_proofs.Items.Sent.{carried_of_item, free_keeps, more_has, own_has, restored_sent}
+pub use story_laws_proofs.{Last.Facts.{last_or}, Named.Bytes.{Tagged, all_bytes, bare, identify_got, names_first}}
+pub use story_laws_proofs.Named.{Bytes.{names_left, numbered, tagged_is}, Rows.{in_lines}, Steps.{out_last}}
+pub use story_laws_proofs.{Named.Turns.{refusal_is}, Offers.{Bytes.{take_front}, Leavings.{all_said, parity_said}}}
+pub use story_laws_proofs.{Offers.{Steps.{left_is}, Turns.{out_by_phase}}, Pointers.Ends.{reset_over}}
+pub use story_laws_proofs.Pointers.{Steps.{fault_id, in_link, message_byte, named_story}, Stories.{story_row}}
+pub use story_laws_proofs.{Pointers.Waits.{change_over}, Talks.{Bytes.{on_message}, Steps.{last_before}}}
+pub use story_laws_proofs.Tells.{Ends.{goes_on, naming_goes_on, none_heard}, Facts.{all_given, front_length}}
+pub use story_laws_proofs.Tells.{Facts.{left_tells}, Rows.{IsHeard, is_heard, never_ends, no_events, unbegun_lines}}
+pub use story_laws_proofs.Undone.{Answers.{SamePlan, plan_stays}, Facts.{in_of}}
+use Rattle.progress_laws.specs.story_laws.specs as story_laws
+pub use story_laws.{LastTalks.{LastBy, LastGiven, closed, still_stays, to_close, to_save}, Named.{Named, Names, all}}
+pub use story_laws.Named.{known, refused, said, tag_alone}
 use Rattle.progress_laws.specs.trace_laws.proofs as trace_laws_proofs
 pub use trace_laws_proofs.Closes.{Counts.{counted_row, first_handshakes, turn_handshakes}, Stays.{complete_is}}
-pub use trace_laws_proofs.{Commands.{Messages.{crossed_else}, Turns.{is_command_next}}, Common.Impossible.{none_some}}
-pub use trace_laws_proofs.Common.PhaseLines.{command_phase, in_out, in_phase, message_line, out_in, out_line, out_lines}
-pub use trace_laws_proofs.{Common.PhaseLines.{out_no_status, out_phase}, Failures.Facts.{RestoresNone, is_restore}}
-pub use trace_laws_proofs.{Failures.Left.{fails_as_left}, Items.{Facts.{aimed_next, beginning}, Fresh.{calm_after}}}
-pub use trace_laws_proofs.Items.{Fresh.{calm_before, items_found, items_fresh, items_sent}, Open.{item_is, next_free}}
-pub use trace_laws_proofs.Items.{Open.{opened, same_process}, Over.{Grows, events_grow, grows_same, in_append}}
-pub use trace_laws_proofs.Items.{Over.{not_grown, reset_senses}, Row.{LinkAfter, heard_link, hears, inside_sent}}
-pub use trace_laws_proofs.Items.{Row.{link_crossed, link_still, over_after, says, stays}, Sent.{carried_of_item}}
-pub use trace_laws_proofs.{Items.Sent.{free_keeps, more_has, own_has, restored_sent}, Last.Facts.{last_or}}
-pub use trace_laws_proofs.Lines.Connections.{ConnectionRow, GoingRow, RowKindOf, begins_now, connection_row, goes_now}
-pub use trace_laws_proofs.Lines.{Connections.{going_row, row_kind, stage_of_connection}, Crossings.{RowFacts, Stops}}
-pub use trace_laws_proofs.Lines.{Crossings.{ends_here}, Joint.{NextStood, link_phase, link_unbegun}}
-pub use trace_laws_proofs.Lines.{Plans.{is_in_message}, Rows.{LinkRow, is_unasked}, UnderRst.{raises_or_stands}}
-pub use trace_laws_proofs.Named.Bytes.{Tagged, all_bytes, bare, identify_got, names_first, names_left, numbered}
-pub use trace_laws_proofs.Named.{Bytes.{tagged_is}, Rows.{in_lines}, Steps.{out_last}, Turns.{refusal_is}}
-pub use trace_laws_proofs.Offers.{Bytes.{take_front}, Leavings.{all_said, parity_said}, Steps.{left_is}}
-pub use trace_laws_proofs.{Offers.Turns.{out_by_phase}, Pointers.{Ends.{reset_over}, Steps.{fault_id, in_link}}}
-pub use trace_laws_proofs.Pointers.{Steps.{message_byte, named_story}, Stories.{story_row}, Waits.{change_over}}
-pub use trace_laws_proofs.Runs.{Asks.{answers_all, out_phase as data_out_phase}, Facts.{task_here}}
-pub use trace_laws_proofs.{Sent.Facts.{sent_asks}, Statuses.Leavings.{Completes, completes_from, in_status, left_alone}}
-pub use trace_laws_proofs.{Statuses.Leavings.{refused as refused_again}, Talks.Bytes.{on_message}}
-pub use trace_laws_proofs.{Talks.Steps.{last_before}, Tells.Ends.{goes_on, naming_goes_on, none_heard}}
-pub use trace_laws_proofs.Tells.{Facts.{all_given, front_length, left_tells}, Rows.{IsHeard, is_heard, never_ends}}
-pub use trace_laws_proofs.{Tells.Rows.{no_events, unbegun_lines}, Undone.Answers.{SamePlan, plan_stays}}
-pub use trace_laws_proofs.{Undone.Facts.{in_of}, Whole.{Whole, standing_next, whole}, Writes.Premises.{some_there}}
+pub use trace_laws_proofs.{Failures.{Facts.{RestoresNone, is_restore}, Left.{fails_as_left}}, Runs.Asks.{answers_all}}
+pub use trace_laws_proofs.{Runs.{Asks.{out_phase as data_out_phase}, Facts.{task_here}}, Sent.Facts.{sent_asks}}
+pub use trace_laws_proofs.Statuses.Leavings.{Completes, completes_from, in_status, left_alone, refused as refused_again}
+pub use trace_laws_proofs.{Whole.{Whole, standing_next, whole}, Writes.Premises.{some_there}}
 use Rattle.progress_laws.specs.trace_laws.specs as trace_laws
-pub use trace_laws.{DataPointers.{is_marked}, ItemFacts.{AreChecked, IsChecked, IsNext, NoClash, is_abort}}
-pub use trace_laws.{ItemFacts.{is_command as is_next_command, is_sense}, ItemTalks.{IsTaken, TalksBy, talk_of}}
-pub use trace_laws.{LastTalks.{LastBy, LastGiven, closed, still_stays, to_close, to_save}, Named.{Named, Names, all}}
-pub use trace_laws.{Named.{known, refused, said, tag_alone}, Offers.{IsHeardOut, answers_it, detects, is_detected}}
-pub use trace_laws.{Offers.{repeats}, Places.{IsUntouched, PlacedIf, PlacedIn}, Statuses.{CarriesBy, HasStatus}}
-pub use trace_laws.Tells.{IsClosing, IsServed, LastIn, Tells, is_short}
+pub use trace_laws.Statuses.{CarriesBy, HasStatus}
 use Rattle.progress_laws.proofs as progress_laws_proofs
-pub use progress_laws_proofs.{Answered.{sense_left}, DebtNext.{ends_open, known_served}, DebtRows.{NoEnds, Shown}}
-pub use progress_laws_proofs.{DebtRows.{completes, no_ends, row_shown}, OwedRows.{changed}, QueueRows.{free_over}}
+pub use progress_laws_proofs.Debts.{Next.{ends_open, known_served}, Rows.{NoEnds, Shown, completes, no_ends, row_shown}}
+pub use progress_laws_proofs.{Outcomes.Answered.{sense_left}, Owed.Rows.{changed}, Queues.Rows.{free_over}}
 use Rattle.bus_transcript.proofs as bus_transcript_proofs
 pub use bus_transcript_proofs.{Inside.{name_same, status_name}, Nexuses.{by_key}, Resets.{change_same, row_bus}}
 use Rattle.bus_transcript.specs as bus_transcript

@@ -1,17 +1,14 @@
 -- With each row before which and after which no connection stands, RST being false, the measure falls.
 use Rattle.measure_laws.proofs
 use proofs.Names.{ℕ, suc, ◌≡◌, ◌<◌, ◌≤◌, ◌∙◌, Bool, true, false, List, [], ◌∷◌, length, Option, Some, None, refl, sym}
-use proofs.Names.{ap, subst, arith, ◌+◌, ◌*◌, drop, if◌then◌else◌, falls, connection, is_fault, bus, Row, Connection}
-use proofs.Names.{ScenarioValue, FaultDef, Sent, run_state_plain, AreOfDevices, RunState, bus_of, run_state, flip_of}
-use proofs.Names.{is_refusing, is_struck_phase, row_of_fault, none_some, aborts_left, future_left, is_in_data}
+use proofs.Names.{ap, subst, arith, ◌+◌, ◌*◌, drop, if◌then◌else◌, plus_none, falls, connection, is_fault, bus, Row}
+use proofs.Names.{Connection, ScenarioValue, FaultDef, Sent, run_state_plain, AreOfDevices, RunState, bus_of, run_state}
+use proofs.Names.{flip_of, is_refusing, is_struck_phase, row_of_fault, none_some, aborts_left, future_left, is_in_data}
 use proofs.Names.{resets_left, connection_if, measure, connection_left, way_left, for_fault, for_reset}
 use proofs.{Names.{for_struck_phase}, Apart.Future.{ApartParts, commands_by, future_by, future_is, future_was}}
 use proofs.{Apart.Future.{sent_stays}, Resets.Faults.{resets_calm, resets_fault}}
 
 -- ---- the measure without a connection
-
-plus_none : (x : ℕ) → x + 0 ≡ x
-plus_none x = omega arith
 
 pub bare : (s : ScenarioValue) (p : List Row) → AreOfDevices p → connection p ≡ None → measure s p ≡ future_left s (run_state s p) + way_left (run_state s p)
 bare s p dv alone =

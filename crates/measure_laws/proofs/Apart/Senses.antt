@@ -17,10 +17,6 @@ use proofs.Names.{free_keeps, restored_sent, sent_grows, connection_sent, Whole,
 
 -- Of an event: its own, or none more.
 event_checks : (s : ScenarioValue) (b : Story) (e : Event) (n : ℕ) → list_any (λ k. k == n) (story_after_event s b e).sent.checks ≡ true → (list_any (λ k. k == n) b.sent.checks ≡ true) ⊎ (process_in e ≡ Some (command_id n))
-event_checks s b (Event.Accept id) n z = inl z
-event_checks s b (Event.Refuse id) n z = inl z
-event_checks s b (Event.Run id) n z = inl z
-event_checks s b (Event.Fail id code) n z = inl z
 event_checks s b (Event.End id status) n z = go id.sense refl (status == CHECK_CONDITION) z
   where
     c : Story
@@ -34,10 +30,10 @@ event_checks s b (Event.End id status) n z = go id.sense refl (status == CHECK_C
       | inl w ↦ inl w
       | inr w ↦ inr (λ i. Some (record { command = w i; sense = f i }))
     ]
-event_checks s b (Event.Lost id) n z = inl z
 event_checks s b (Event.Aborted host target unit what) n z =
     inl (ap (λ (x : List ℕ). list_any (λ k. k == n) x) (sym (ends_checks (is_aborted host target unit what) (is_sense_stopped host target unit what) by_abort 1 s.commands b)) ∙ z)
 event_checks s b (Event.Reset dev) n z = inl (ap (λ (x : List ℕ). list_any (λ k. k == n) x) (sym (ends_checks (λ c. true) (λ c. true) by_reset 1 s.commands b)) ∙ z)
+event_checks s b _ n z = inl z
 
 events_check : (s : ScenarioValue) (b : Story) (item : Option Item) (shown : List Event) (n : ℕ) → AllOf item shown → list_any (λ k. k == n) (story_after_events s b shown).sent.checks ≡ true
     → (list_any (λ k. k == n) b.sent.checks ≡ true) ⊎ (item ≡ Some (process (command_id n)))

@@ -2,11 +2,12 @@
 use Rattle.measure_laws.proofs
 use proofs.Names.{ℕ, zero, suc, ◌≡◌, ◌≤◌, ◌∙◌, Bool, true, false, ◌&&◌, List, [], ◌∷◌, Option, Some, refl, sym, ap}
 use proofs.Names.{subst, arith, nat_tests, same_Some, list_any, not, ◌||◌, ◌+◌, ◌-◌, ◌*◌, ◌==◌, if◌then◌else◌, nat_lt}
-use proofs.Names.{ScenarioValue, AbortDef, CmdDef, command_at, data_runs, abort_line_at, Item, Sent, abort, command_id}
-use proofs.Names.{command_item, count_item, has_item, is_done, process, same_item, sense_item, Story, is_counted}
-use proofs.Names.{retries_of, story_with_try, story_without_answer, ProcessProgress, progress_in, none_some, item_is}
-use proofs.Names.{self_item, abort_left, aborts_left, bytes_after, open_left, sense_left, serves_item, unsent_left}
-use proofs.{Names.{for_byte, for_calling, for_item, for_reselection}, Apart.Future.{command_by, commands_by}}
+use proofs.Names.{plus_none, ScenarioValue, AbortDef, CmdDef, command_at, data_runs, abort_line_at, Item, Sent, abort}
+use proofs.Names.{command_id, command_item, count_item, has_item, is_done, process, same_item, sense_item, Story}
+use proofs.Names.{is_counted, retries_of, story_with_try, story_without_answer, ProcessProgress, progress_in, none_some}
+use proofs.Names.{plus_one, item_is, self_item, abort_left, aborts_left, bytes_after, open_left, sense_left}
+use proofs.Names.{serves_item, unsent_left, for_byte, for_calling, for_item, for_reselection}
+use proofs.Apart.Future.{command_by, commands_by}
 
 -- ---- what is sent after it
 
@@ -162,24 +163,18 @@ commands_le s b served moves made q i n (c ∷ commands) unsent opens =
     sum_le (command_by s (sent_if q b i) served moves made n c) (command_by s b served moves made n c) (commands_by s (sent_if q b i) served moves made (n + 1) commands) (commands_by s b served moves made (n + 1) commands)
     (command_le s b served moves made q i n c unsent opens) (commands_le s b served moves made q i (n + 1) commands unsent opens)
 
-none_more : (n : ℕ) → n + 0 ≡ n
-none_more n = omega arith
-
-one_on : (n m : ℕ) → n + suc m ≡ n + 1 + m
-one_on n m = omega arith
-
 pub commands_pay : (s : ScenarioValue) (b : Sent) (served : Option Item) (moves : Bool) (made : List ProcessProgress) (q : Bool) (i : Item) (m n : ℕ) (commands : List CmdDef) (c : CmdDef) → has_item b.sent i ≡ false → has_item b.over i ≡ false
     → command_at commands (suc m) ≡ Some c → i ≡ command_item (n + m) → (q ≡ false → nat_lt (retries_of s.hosts c.host) (count_item b.tries i + 1) ≡ false)
     → commands_by s (sent_if q b i) served moves made n commands + 64 ≤ commands_by s b served moves made n commands
 commands_pay s b served moves made q i m n [] c unsent opens at it few = none_some c at
 commands_pay s b served moves made q i zero n (d ∷ commands) c unsent opens at it few =
     first_pays (command_by s (sent_if q b i) served moves made n d) (command_by s b served moves made n d) (commands_by s (sent_if q b i) served moves made (n + 1) commands) (commands_by s b served moves made (n + 1) commands)
-    (command_pays s b served moves made q i n d unsent opens (it ∙ ap command_item (none_more n)) (λ z. ap (λ (x : CmdDef). nat_lt (retries_of s.hosts x.host) (count_item b.tries i + 1)) (same_Some d c at) ∙ few z))
+    (command_pays s b served moves made q i n d unsent opens (it ∙ ap command_item (plus_none n)) (λ z. ap (λ (x : CmdDef). nat_lt (retries_of s.hosts x.host) (count_item b.tries i + 1)) (same_Some d c at) ∙ few z))
     (commands_le s b served moves made q i (n + 1) commands unsent opens)
 commands_pay s b served moves made q i (suc m) n (d ∷ commands) c unsent opens at it few =
     rest_pays (command_by s (sent_if q b i) served moves made n d) (command_by s b served moves made n d) (commands_by s (sent_if q b i) served moves made (n + 1) commands) (commands_by s b served moves made (n + 1) commands)
     (command_le s b served moves made q i n d unsent opens)
-    (commands_pay s b served moves made q i m (n + 1) commands c unsent opens at (it ∙ ap command_item (one_on n m)) few)
+    (commands_pay s b served moves made q i m (n + 1) commands c unsent opens at (it ∙ ap command_item (plus_one n m)) few)
 
 -- ---- aborts
 
@@ -235,10 +230,10 @@ pub aborts_pay : (s : ScenarioValue) (b : Sent) (q : Bool) (i : Item) (m n : ℕ
     → (q ≡ false → nat_lt (retries_of s.hosts a.host) (count_item b.tries i + 1) ≡ false) → aborts_left s (sent_if q b i) n aborts + 64 ≤ aborts_left s b n aborts
 aborts_pay s b q i m n [] a new at it few = none_some a at
 aborts_pay s b q i zero n (d ∷ aborts) a new at it few =
-    let here : i ≡ abort n = it ∙ ap (λ x. abort x) (none_more n) in
+    let here : i ≡ abort n = it ∙ ap (λ x. abort x) (plus_none n) in
     first_pays (abort_left s (sent_if q b i) n d) (abort_left s b n d) (aborts_left s (sent_if q b i) (n + 1) aborts) (aborts_left s b (n + 1) aborts)
     (abort_pays s b q i n d (ap (is_done b) (sym here) ∙ new) here (λ z. ap (λ (x : AbortDef). nat_lt (retries_of s.hosts x.host) (count_item b.tries i + 1)) (same_Some d a at) ∙ few z))
     (aborts_le s b q i (n + 1) aborts)
 aborts_pay s b q i (suc m) n (d ∷ aborts) a new at it few =
     rest_pays (abort_left s (sent_if q b i) n d) (abort_left s b n d) (aborts_left s (sent_if q b i) (n + 1) aborts) (aborts_left s b (n + 1) aborts)
-    (abort_le s b q i n d) (aborts_pay s b q i m (n + 1) aborts a new at (it ∙ ap (λ x. abort x) (one_on n m)) few)
+    (abort_le s b q i n d) (aborts_pay s b q i m (n + 1) aborts a new at (it ∙ ap (λ x. abort x) (plus_one n m)) few)

@@ -7,11 +7,11 @@ use proofs.Names.{none_between, ProcId, falls, rises, call, connection, is_fault
 use proofs.Names.{ScenarioValue, Obeys, AbortDef, CmdDef, Process, command_at, command_process, process_by, process_if}
 use proofs.Names.{process_of, sense_process, is_initiator, RowReading, row_reading, abort_line_at, Item, Sent, abort}
 use proofs.Names.{command_item, count_item, is_done, process, sense_item, aim_of, is_arbitration_entry, is_counted}
-use proofs.Names.{retries_of, story_after_calling, story_with_try, Ready, run_state_plain, IsPrompt, AreOfDevices}
-use proofs.Names.{RunState, run_state, initiator_if, ready_of, target_if, target_of, command_fits, obeys_fits, FitsBus}
-use proofs.Names.{aims_are, IsItem, is_process, free_by, new_calling_at, withdrawn_call, HasDevice, none_some}
-use proofs.Names.{next_unended, next_unsent, items_ready, self_item, IsDueCall, callee_at, Whole, whole, IsNext}
-use proofs.Names.{is_abort as next_abort, is_command, is_sense, initiator_there, struck_out, aborts_left, future_left}
+use proofs.Names.{retries_of, story_after_calling, story_with_try, run_state_plain, IsPrompt, AreOfDevices, RunState}
+use proofs.Names.{run_state, initiator_if, ready_of, target_if, target_of, command_fits, obeys_fits, FitsBus, aims_are}
+use proofs.Names.{IsItem, is_process, free_by, new_calling_at, withdrawn_call, HasDevice, none_some, by_option}
+use proofs.Names.{IsDueCall, callee_at, IsNext, is_abort as next_abort, is_command, is_sense, next_unended, next_unsent}
+use proofs.Names.{items_ready, self_item, Whole, whole, initiator_there, struck_out, aborts_left, future_left}
 use proofs.{Names.{is_in_data, resets_left, measure, again_if, way_left, for_fault, for_reset}, Apart.Falls.{falling}}
 use proofs.Apart.{Future.{ApartParts, commands_by, future_by, future_is, future_was}, Senses.{checked_there}}
 use proofs.Apart.Tries.{aborts_le, aborts_pay, commands_le, commands_pay, gives_up_at, sent_if, try_sent}
@@ -21,31 +21,29 @@ use Rattle.progress_laws.specs.bus_books.specs.Items.{is_abort}
 -- ---- who is there
 
 process_host : (s : ScenarioValue) (id : ProcId) (p : Process) → FitsBus s → process_of s id ≡ Some p → is_initiator s.hosts p.initiator ≡ true
-process_host s id p fits e = go (command_at s.commands id.command) refl
+process_host s id p fits e =
+    by_option (command_at s.commands id.command)
+    (λ z. none_some p (sym (ap (process_if s id) z) ∙ e))
+    (λ c z.
+    ap (λ (x : Process). is_initiator s.hosts x.initiator) (sym (same_Some (process_by s id c) p (sym (ap (process_if s id) z) ∙ e)))
+    ∙ by id.sense c (command_fits s id.command c fits z).host_is)
   where
     by : (q : Bool) (c : CmdDef) → is_initiator s.hosts c.host ≡ true → is_initiator s.hosts (if q then sense_process id c else command_process s id c).initiator ≡ true
     by true c h = h
     by false c h = h
 
-    go : (o : Option CmdDef) → command_at s.commands id.command ≡ o → is_initiator s.hosts p.initiator ≡ true
-    go None z = none_some p (sym (ap (process_if s id) z) ∙ e)
-    go (Some c) z =
-        ap (λ (x : Process). is_initiator s.hosts x.initiator) (sym (same_Some (process_by s id c) p (sym (ap (process_if s id) z) ∙ e)))
-        ∙ by id.sense c (command_fits s id.command c fits z).host_is
-
 -- A target calls an initiator of the scenario.
 ready_there : (s : ScenarioValue) (p : List Row) (c k : ℕ) → Obeys s → Whole s p → is_initiator s.hosts c ≡ false → callee_at s p c ≡ Some k → HasDevice s k
-ready_there s p c k o w none e = go (ready_of s (run_state s p) c) refl
+ready_there s p c k o w none e =
+    by_option (ready_of s (run_state s p) c)
+    (λ f. none_some k (sym (ap initiator_if f) ∙ called))
+    (λ r f.
+    let queued = items_ready s p c r w.facts.items f in
+    let host = process_host s r.process.id r.process (obeys_fits s o) queued.is in
+    subst (HasDevice s) (same_Some r.process.initiator k (sym (ap initiator_if f) ∙ called)) (initiator_there s r.process.initiator host))
   where
     called : initiator_if (ready_of s (run_state s p) c) ≡ Some k
     called = sym (ap (λ (q : Bool). if q then target_of s (aim_of (run_state s p).story.aims c) else initiator_if (ready_of s (run_state s p) c)) none) ∙ e
-
-    go : (r : Option Ready) → ready_of s (run_state s p) c ≡ r → HasDevice s k
-    go None f = none_some k (sym (ap initiator_if f) ∙ called)
-    go (Some r) f =
-        let queued = items_ready s p c r w.facts.items f in
-        let host = process_host s r.process.id r.process (obeys_fits s o) queued.is in
-        subst (HasDevice s) (same_Some r.process.initiator k (sym (ap initiator_if f) ∙ called)) (initiator_there s r.process.initiator host)
 
 -- An initiator that calls for an automatic REQUEST SENSE calls a target of the scenario.
 sense_target : (s : ScenarioValue) (n k : ℕ) (c : CmdDef) → command_at s.commands n ≡ Some c → target_of s (Some (sense_item n)) ≡ Some k → c.target ≡ k

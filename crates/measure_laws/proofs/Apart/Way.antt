@@ -8,18 +8,19 @@ use proofs.Names.{is_fault, new_calling, when, bus, drives, line_times, since_li
 use proofs.Names.{Change, Calling, stage, Stage, OnFreeBus, InArbitration, InCalling, InAnswer, InReset, ScenarioValue}
 use proofs.Names.{is_initiator, latency_of, aim_of, answered_due, contender_lines, due_at, fault_or, Due}
 use proofs.Names.{run_state_plain, IsLeast, AreOfDevices, RunState, drives_of, run_state, flip_of, callee, want_time}
-use proofs.Names.{after_withdrawal_due, answers_due, aside_due, asks_due, before_due, calls_due, flip_at, gives_up_due}
-use proofs.Names.{goes_on_due, is_calling, loser_due, quiet_due, struck_due, waits_due, want_at, free_due_is, idle_due}
-use proofs.Names.{is_at, is_entry, is_entry_in, is_there, win_due, only_caller_acts, ids_not_zero, only_caller, row_is}
-use proofs.Names.{entries_is, winner_is, reselected_lines, selected, won_lines, drives_other, drives_own, fault_change}
-use proofs.Names.{stage_is, stands_after, stands_by, IsCall, is_call, answer_lines, answered_calling, arbitration_bus}
-use proofs.Names.{awaiting_call, begun_call, both_ids, call_with, calling_lines, new_calling_at, resumed_calling}
-use proofs.Names.{withdrawn_call, won_bus, won_call, device_with, own_time, unreset_due, Stands, change_to}
-use proofs.Names.{row_of_fault, row_of_lines, ArbitrationWon, Arbitrating, AwaitsAnswer, BusStage, CalmStanding, Calls}
-use proofs.Names.{FreeBus, HasShortLatencies, IsAnswered, IsContender, IsLoser, on_free_bus, in_arbitration}
-use proofs.Names.{after_arbitration, with_both_ids, awaiting_answer, after_withdrawal, after_answer, after_takeover}
-use proofs.Names.{in_reset, none_some, again_if, answer_left, calling_left, stage_left, way_left, for_free_bus}
-use proofs.Resets.Drivers.{all_devices, busy, busy_one, busy_same, busy_swap, quiet, quiet_same}
+use proofs.Names.{entries_is, winner_is, IsCall, is_call, reselected_lines, selected, won_lines, drives_other}
+use proofs.Names.{drives_own, fault_change, stage_is, stands_after, stands_by, only_caller_acts, after_withdrawal_due}
+use proofs.Names.{answers_due, aside_due, asks_due, before_due, calls_due, flip_at, gives_up_due, goes_on_due}
+use proofs.Names.{is_calling, loser_due, quiet_due, struck_due, waits_due, want_at, ids_not_zero, only_caller}
+use proofs.Names.{free_due_is, idle_due, is_at, is_entry, is_entry_in, is_there, win_due, row_is, answer_lines}
+use proofs.Names.{answered_calling, arbitration_bus, awaiting_call, begun_call, both_ids, call_with, calling_lines}
+use proofs.Names.{new_calling_at, resumed_calling, withdrawn_call, won_bus, won_call, device_with, own_time}
+use proofs.Names.{unreset_due, Stands, change_to, row_of_fault, row_of_lines, ArbitrationWon, Arbitrating, AwaitsAnswer}
+use proofs.Names.{BusStage, CalmStanding, Calls, FreeBus, HasShortLatencies, IsAnswered, IsContender, IsLoser}
+use proofs.Names.{on_free_bus, in_arbitration, after_arbitration, with_both_ids, awaiting_answer, after_withdrawal}
+use proofs.Names.{after_answer, after_takeover, in_reset, none_some, falls_true, again_if, answer_left, calling_left}
+use proofs.{Names.{stage_left, way_left, for_free_bus}, Resets.Drivers.{all_devices, busy, busy_one, busy_same}}
+use proofs.Resets.Drivers.{busy_swap, quiet, quiet_same}
 use Rattle.bus_due.specs.bus_lines.specs.declared.stage.Stage.TheVariants.{InConnection}
 use Rattle.progress_laws.specs.bus_laws.specs.Stages.{in_connection}
 
@@ -102,12 +103,8 @@ passing s p row a b dv lt lines sel ea eb less =
 sel_stays : (p : List Row) (row : Row) (b : LineSet) → bus p ≡ b → b.sel ≡ false → falls (bus p).sel (bus (row ∷ p)).sel ≡ false
 sel_stays p row b e f = λ i. falls (((λ j. (e j).sel) ∙ f) i) (bus (row ∷ p)).sel
 
-both : (a b : Bool) → b ≡ true → falls a b ≡ false
-both true b e = ap not e
-both false b e = refl
-
 sel_holds : (p : List Row) (row : Row) (b : LineSet) → bus (row ∷ p) ≡ b → b.sel ≡ true → falls (bus p).sel (bus (row ∷ p)).sel ≡ false
-sel_holds p row b e f = both (bus p).sel (bus (row ∷ p)).sel ((λ j. (e j).sel) ∙ f)
+sel_holds p row b e f = falls_true (bus p).sel (bus (row ∷ p)).sel ((λ j. (e j).sel) ∙ f)
 
 -- ---- a free bus, and an arbitration
 
@@ -293,7 +290,7 @@ won_row s p c t0 row fits always h m =
       ]
     ]
 
--- ---- both IDs, and the answer
+-- ---- falls_true IDs, and the answer
 
 makes_asking : (s : ScenarioValue) (p : List Row) (m : Bool) (c k t0 t1 t : ℕ) → AreOfDevices p → Calls s p (begun_call m c k t0 t1) c k (both_ids m c k) none (both_ids m c k) → ApartRow s p (row_of_lines t c (calling_lines m false (2 ^ c + 2 ^ k + 256)))
 makes_asking s p m c k t0 t1 t dv h =

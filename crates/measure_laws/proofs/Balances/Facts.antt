@@ -2,11 +2,11 @@
 use Rattle.measure_laws.proofs
 use proofs.Names.{◌≡◌, ◌≤◌, ◌∙◌, true, false, List, [], ◌∷◌, refl, sym, ap, arith, Some, ◌&&◌, not, wrong, bus_on}
 use proofs.Names.{LineSet, connection, bus, drives, Row, Connection, handshakes, only_rst, ScenarioValue, Obeys, begun}
-use proofs.Names.{IsLeast, IsPrompt, due, least_is, drives_own, by_calm, reset_or_calm, BeginsConnection}
+use proofs.Names.{IsLeast, IsPrompt, due, drives_own, least_is, by_calm, reset_or_calm, BeginsConnection}
 use proofs.Names.{by_reselection, by_selection, row_of_lines, RowKindOf, begins_now, goes_now, row_kind}
-use proofs.Names.{stage_of_connection, Stood, PhaseRow, phase_row, whole, pulses_here, one_where}
+use proofs.Names.{stage_of_connection, Stood, PhaseRow, phase_row, pulses_here, whole, one_where}
 use proofs.Balances.{Rows.{balance_step}, Steps.{BalancedAt, balanced_anew}}
-use Rattle.progress_laws.specs.bus_laws.proofs.Together.{by_reset}
+use Rattle.progress_laws.specs.bus_laws.proofs.Stages.Next.{by_reset}
 
 -- The kind of a row of a connection.
 pub kind_of_row : (s : ScenarioValue) (p : List Row) (row : Row) (n : Connection) → Obeys s → IsPrompt s (row ∷ p) → Stood s p → connection p ≡ Some n → (bus p).rst ≡ false → (bus (row ∷ p)).rst ≡ false → PhaseRow s p n row

@@ -5,14 +5,14 @@ use proofs.Names.{◌&&◌, [], if◌then◌else◌, is_some, not, wrong, wrong'
 use proofs.Names.{receiver_in, drives, last_time, Row, Change, Connection, handshakes, no_handshakes, byte_crosses}
 use proofs.Names.{dialogue, phase_begins, ScenarioValue, is_pulsed_phase, begun, Serving, phase_of, phase_leaving}
 use proofs.Names.{phase_lines, lines_by, Leaving, Phase, run_state, serving_at, fault_change, EndLines, Linked}
-use proofs.Names.{connected_bus, ends_selected, target_side, change_to, row_of_fault, row_of_lines, linked_fault}
-use proofs.Names.{initiator_in_phase, initiator_moves, no_rise, target_in_phase, target_moves, terms_after, terms_of}
-use proofs.Names.{initiator_row, target_row, LinkStage, when_offering, when_pulsing, when_selected, when_settling}
+use proofs.Names.{connected_bus, ends_selected, target_side, change_to, row_of_fault, row_of_lines, initiator_in_phase}
+use proofs.Names.{initiator_moves, no_rise, target_in_phase, target_moves, terms_after, terms_of, initiator_row}
+use proofs.Names.{target_row, linked_fault, LinkStage, when_offering, when_pulsing, when_selected, when_settling}
 use proofs.Names.{when_shaking, when_turning, ends, none_some, none_both, lines_are, PhaseRow, is_pulsed}
-use proofs.{Names.{freed_connection, pulsed_as, pulses_here}, Balances.Steps.{BalancedAt, IsBalanced, balanced_anew}}
+use proofs.{Names.{freed_connection, pulses_here, pulsed_as}, Balances.Steps.{BalancedAt, IsBalanced, balanced_anew}}
 use proofs.Balances.Steps.{balanced_initiator, balanced_struck, balanced_target, ends_ack, ends_req, none_balanced}
 use proofs.{Balances.Steps.{rises_ack, rises_req, stays}, Phases.Bytes.{pulsed_stays}}
-use Rattle.progress_laws.specs.trace_laws.proofs.Lines.Phases as kinds
+use Rattle.progress_laws.specs.row_laws.proofs.Lines.Phases as kinds
 
 -- ---- the phase is left
 

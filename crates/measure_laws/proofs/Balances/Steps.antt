@@ -2,9 +2,9 @@
 use Rattle.measure_laws.proofs
 use proofs.Names.{ℕ, ◌≡◌, ◌≤◌, ◌<◌, Bool, true, false, List, ◌∷◌, refl, sym, subst, arith, ◌&&◌, ◌+◌, ◌^◌, not, rises}
 use proofs.Names.{LineSet, bus, drives, Row, Connection, Handshakes, answered_if, asked_if, handshakes, no_handshakes}
-use proofs.Names.{strikes_if, fault_change, EndLines, Linked, connected_bus, change_to, row_of_fault, linked_fault}
+use proofs.Names.{strikes_if, fault_change, EndLines, Linked, connected_bus, change_to, row_of_fault}
 use proofs.Names.{initiator_in_phase, initiator_moves, target_in_phase, target_moves, terms_after, initiator_row}
-use proofs.Names.{target_row, ends, one_where}
+use proofs.Names.{target_row, linked_fault, ends, one_where}
 
 pub record IsBalanced (h : Handshakes) (req ack : Bool) : Type 0 where
   pub few : h.requests ≤ h.answers + one_where (req && not ack)

@@ -2,7 +2,7 @@
 use Rattle.measure_laws.proofs
 use proofs.Names.{ℕ, zero, suc, ◌≡◌, ◌≤◌, ◌<◌, ◌∙◌, Bool, true, false, List, [], ◌∷◌, length, refl, sym, arith, Option}
 use proofs.Names.{Some, None, ◌+◌, ◌-◌, ◌/◌, ◌^◌, if◌then◌else◌, wrong, Row, ScenarioValue, Obeys, budget, RunsEnd}
-use proofs.Names.{StaysWithin, IsEnded, IsPrompt, next_by, Run, one_more, run_by_due, run_from, Falls, measure}
+use proofs.Names.{StaysWithin, IsEnded, IsPrompt, next_by, Run, one_more, run_by_due, run_from, by_bool, Falls, measure}
 use proofs.Budget.Start.{starts}
 
 -- ---- each row takes one of the measure
@@ -59,14 +59,13 @@ abbrev pub RunsSayTheirEnd : Type 0
 RunsSayTheirEnd = (s : ScenarioValue) (fuel : ℕ) → (run_by_due s fuel).ended ≡ true → IsEnded s (run_by_due s fuel).rows
 
 pub runs_end : Falls → RunsArePrompt → RunsSayTheirEnd → RunsEnd
-runs_end falls prompt ends s o = go (run_by_due s (budget s)).ended refl
+runs_end falls prompt ends s o =
+    by_bool (run_by_due s (budget s)).ended
+    (λ e. ends s (budget s) e)
+    (λ e. absurd (too_long (length r.rows) (budget s) (unended s (budget s) _ e) (within falls s r.rows o (prompt s (budget s)))))
   where
     r : Run
     r = run_by_due s (budget s)
-
-    go : (b : Bool) → r.ended ≡ b → IsEnded s r.rows
-    go true e = ends s (budget s) e
-    go false e = absurd (too_long (length r.rows) (budget s) (unended s (budget s) _ e) (within falls s r.rows o (prompt s (budget s))))
 
 -- ---- and it has few rows for a number of 32 bits
 

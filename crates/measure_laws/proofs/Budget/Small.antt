@@ -10,7 +10,7 @@ use proofs.Names.{fits_version, full_cmd_def, guard, has_abort_room, host_def, i
 use proofs.Names.{reset_def, said_after, target_def, time_in, unit_def, within, ScenarioValue, Obeys, built, saids}
 use proofs.Names.{AbortDef, CmdDef, FaultDef, Policy, ResetDef, TargetDef, UnitDef, range_of, data_runs, longest_need}
 use proofs.Names.{runs_at, runs_by, runs_of, runs_over, retries_of, first_run_state, obeys_fits, fault_by, reset_by}
-use proofs.Names.{FitsBus, aborts_left, bytes_after, commands_left, resets_left, measure, for_fault}
+use proofs.Names.{FitsBus, some_count, aborts_left, bytes_after, commands_left, resets_left, measure, for_fault}
 use proofs.Budget.Start.{all_faults, few_bytes, few_retries, start_resets}
 use Rattle.bus_due.specs.cdb_codec.specs.declared.command.Command.TheVariants as commands
 
@@ -34,11 +34,8 @@ runs_by_few : (policy : Policy) (blocks need : ℕ) → 1 ≤ need → blocks �
 runs_by_few Policy.Never blocks need some h = omega arith
 runs_by_few Policy.Command blocks need some h = omega arith
 runs_by_few (Policy.Burst most) blocks need some h = let w = few_bursts most blocks in omega arith
-runs_by_few (Policy.NoSave most) blocks need some h = go (nat_le blocks most)
-  where
-    go : (q : Bool) → (if q then 1 else 2) ≤ 2 * need
-    go true = omega arith
-    go false = omega arith
+runs_by_few (Policy.NoSave most) blocks need some h =
+    elim (nat_le blocks most) as (λ q. (if q then 1 else 2) ≤ 2 * need) [ true ↦ omega arith | false ↦ omega arith ]
 
 -- A command moves no fewer bytes than blocks.
 some_blocks : (u : Option UnitDef) (lba n : ℕ) → 1 ≤ block_bytes u lba n → n ≤ block_bytes u lba n
@@ -54,17 +51,11 @@ some_blocks (Some u) lba n h = go (nat_le (lba + n) u.blocks) h
     go false h = absurd (omega arith)
 
 runs_of_few : (policy : Policy) (c : Command) (u : Option UnitDef) → 1 ≤ moved c u → runs_over policy (range_of c) ≤ 2 * moved c u
-runs_of_few policy commands.TestUnitReady u h = omega arith
-runs_of_few policy (commands.RequestSense room) u h = omega arith
 runs_of_few policy (commands.Read6 lba count) u h = runs_by_few policy _ _ h (some_blocks u lba _ h)
 runs_of_few policy (commands.Write6 lba count) u h = runs_by_few policy _ _ h (some_blocks u lba _ h)
-runs_of_few policy (commands.Inquiry room) u h = omega arith
-runs_of_few policy commands.ReadCapacity u h = omega arith
 runs_of_few policy (commands.Read10 lba count) u h = runs_by_few policy _ _ h (some_blocks u lba count h)
 runs_of_few policy (commands.Write10 lba count) u h = runs_by_few policy _ _ h (some_blocks u lba count h)
-
-some_of : (n : ℕ) → (n == 0) ≡ false → 1 ≤ n
-some_of n e = grind (arith, nat_tests)
+runs_of_few policy _ u h = omega arith
 
 pub few_runs : (s : ScenarioValue) (c : CmdDef) → data_runs s c ≤ 2 * need_of s c
 unfolding need_of
@@ -81,7 +72,7 @@ few_runs s c = go (need_of s c == 0) refl
 
     go : (q : Bool) → (need_of s c == 0) ≡ q → (if q then 0 else runs_at (find (λ (t : TargetDef). t.dev == c.target) s.targets) c) ≤ 2 * need_of s c
     go true e = omega arith
-    go false e = at (find (λ (t : TargetDef). t.dev == c.target) s.targets) (has_target s c.target) (some_of (need_of s c) e)
+    go false e = at (find (λ (t : TargetDef). t.dev == c.target) s.targets) (has_target s c.target) (some_count (need_of s c) e)
 
 -- ---- resets and faults are few
 

@@ -21,9 +21,7 @@ few_retries s (h ∷ hosts) dev f = go (few_retries s hosts dev f.1) (h.dev == d
 
 cut : (policy : Policy) (size need : ℕ) → cut_bytes policy size need 0 ≤ 2 * need
 cut Policy.Never size need = grind arith
-cut Policy.Command size need = grind arith
-cut (Policy.Burst most) size need = grind arith
-cut (Policy.NoSave most) size need = grind arith
+cut _ size need = grind arith
 
 over : (policy : Policy) (range : Option (ℕ × ℕ)) (size need : ℕ) → bytes_over policy range size need 0 ≤ 2 * need
 over policy None size need = grind arith

@@ -2,26 +2,26 @@
 use Rattle.measure_laws.proofs
 use proofs.Names.{ℕ, zero, suc, ◌≡◌, ◌≢◌, ◌≤◌, ◌<◌, ◌∙◌, Bool, true, false, ◌&&◌, List, [], ◌∷◌, length, Option, Some}
 use proofs.Names.{None, refl, sym, ap, subst, arith, and_parts, ne_eqb, or_parts, same_Some, ◌+◌, ◌-◌, ◌*◌, not, ◌||◌}
-use proofs.Names.{◌==◌, drop, if◌then◌else◌, is_some, nat_lt, wrong, ProcId, change_of, LineSet, changes_phase, is_data}
-use proofs.Names.{is_message_in, call, connected, connected_by, connected_of, connection, connection_after}
-use proofs.Names.{connection_of, is_fault, bus, drives, Kind, Drives, Fault, Row, Change, Connection, Call, Calling}
-use proofs.Names.{Handshakes, MsgIn, ScenarioValue, Obeys, AbortDef, CmdDef, Tag, Process, command_at, process_if}
-use proofs.Names.{process_of, same_bool, is_initiator, data_runs, row_reading, abort_line_at, Item, Sent, abort}
-use proofs.Names.{command_id, command_item, has_item, is_done, process, same_item, sense_item, aim_of, Answering}
+use proofs.Names.{◌==◌, drop, if◌then◌else◌, is_some, nat_lt, wrong, and_false, ProcId, change_of, LineSet}
+use proofs.Names.{changes_phase, is_data, is_message_in, call, connected, connected_by, connected_of, connection}
+use proofs.Names.{connection_after, connection_of, is_fault, bus, drives, Kind, Drives, Fault, Row, Change, Connection}
+use proofs.Names.{Call, Calling, Handshakes, MsgIn, ScenarioValue, Obeys, AbortDef, CmdDef, Tag, Process, command_at}
+use proofs.Names.{process_if, process_of, same_bool, is_initiator, data_runs, row_reading, abort_line_at, Item, Sent}
+use proofs.Names.{abort, command_id, command_item, has_item, is_done, process, same_item, sense_item, aim_of, Answering}
 use proofs.Names.{Offering, policy_of, is_pulsed_phase, Exchange, bytes_of_messages, no_messages, phase_of}
 use proofs.Names.{run_length_if, first_plan, naming_messages, tag_named, Phase, Plan, run_state_plain, target_def_of}
 use proofs.Names.{ProcessProgress, progress_in, IsPrompt, AreOfDevices, IsPlain, RunState, agreement_of, bus_of}
 use proofs.Names.{drives_of, first_exchange, item_if, leaving_of, may_negotiate, messages_if, progress_after, run_state}
 use proofs.Names.{answering_of, offering_of, pace_of, task_of, abort_target, initiator_if, ready_of, target_of, Begins}
 use proofs.Names.{RowOf, apart, begins, row_ends as ends, goes_on, under_reset, is_refusing, is_struck_phase}
-use proofs.Names.{change_plain, row_is, off_at, least_is, drives_own, row_of_lines, none_some, aimed_next, calm_after}
-use proofs.Names.{calm_before, items_ready, sense_apart, self_item, IsCalled, made_is, first_made, FirstSent}
-use proofs.Names.{first_sent, sent_with, Whole, standing_next, IsNext, IsQueued, Items, is_abort, is_command, is_sense}
-use proofs.Names.{aborts_left, bytes_after, command_left, commands_left, future_left, is_in_data, one_where, open_left}
-use proofs.Names.{resets_left, sense_left, serves_item, unsent_left, measure, after_next, bytes_if_begun, is_asked}
-use proofs.Names.{phase_left, phases_in, phases_left, requests_by, requests_left, sense_bytes_left, struck_left}
-use proofs.{Names.{under_way, for_fault, for_phase, for_reselection, for_reset}, Connections.Begins.{abort_sent}}
-use proofs.Connections.Begins.{aborts_sent, command_sent, other_sent, sense_sent, sent_more}
+use proofs.Names.{change_plain, drives_own, off_at, least_is, row_is, row_of_lines, none_some, by_bool, IsCalled}
+use proofs.Names.{made_is, IsNext, IsQueued, Items, is_abort, is_command, is_sense, aimed_next, calm_after, calm_before}
+use proofs.Names.{items_ready, sense_apart, self_item, first_made, FirstSent, first_sent, sent_with, Whole}
+use proofs.Names.{standing_next, aborts_left, bytes_after, command_left, commands_left, future_left, is_in_data}
+use proofs.Names.{one_where, open_left, resets_left, sense_left, serves_item, unsent_left, measure, after_next}
+use proofs.Names.{bytes_if_begun, is_asked, phase_left, phases_in, phases_left, requests_by, requests_left}
+use proofs.Names.{sense_bytes_left, struck_left, under_way, for_fault, for_phase, for_reselection, for_reset}
+use proofs.Connections.Begins.{abort_sent, aborts_sent, command_sent, other_sent, sense_sent, sent_more}
 use proofs.{Lines.{Futures.{all_commands, but_one_command, open_of}, Lowers.{left_by}}, Phases.Still.{shape}}
 use proofs.Resets.Counts.{resets_stay}
 
@@ -249,9 +249,7 @@ few_names p = go p.tag
   where
     go : (t : Tag) → length (bytes_of_messages (record { first = Some (MsgIn.Identify p.unit); second = tag_named t })) ≤ 3
     go Tag.Untagged = omega arith
-    go (Tag.Simple n) = omega arith
-    go (Tag.Ordered n) = omega arith
-    go (Tag.Head n) = omega arith
+    go _ = omega arith
 
 -- ---- the measure
 
@@ -269,7 +267,7 @@ no_pulses_by b l x e = ap (λ (q : Bool). b && q && x) e ∙ go b
     go false = refl
 
 pub begin_falls : (s : ScenarioValue) (p : List Row) (row : Row) (n : Connection) → Obeys s → IsPrompt s (row ∷ p) → Whole s p → connection p ≡ None → connection (row ∷ p) ≡ Some n → suc (measure s (row ∷ p)) ≤ measure s p
-begin_falls s p row n o prompt was alone e = go n.reselected refl
+begin_falls s p row n o prompt was alone e = by_bool n.reselected (λ re. reselects re) (λ sel. selects sel)
   where
     q : List Row
     q = row ∷ p
@@ -286,9 +284,6 @@ begin_falls s p row n o prompt was alone e = go n.reselected refl
     lt : row.dev < 8
     lt = (least_is s p row prompt.1).inside
 
-    pk : IsPlain s p k
-    pk = run_state_plain s p dv
-
     pj : IsPlain s q j
     pj = run_state_plain s q (lt, dv)
 
@@ -302,10 +297,10 @@ begin_falls s p row n o prompt was alone e = go n.reselected refl
     change = change_plain s row p dv lt
 
     con : k.story.bus_state.connection ≡ None
-    con = pk.connection ∙ alone
+    con = was.stood.plain.connection ∙ alone
 
     next : (row_reading k.story.bus_state row).next ≡ Some n
-    next = (λ i. connection_after (pk.connection i) (pk.call i) (change i) row) ∙ e
+    next = (λ i. connection_after (was.stood.plain.connection i) (was.stood.plain.call i) (change i) row) ∙ e
 
     g : Begins s k row n
     g = begins_of s k row n con next (ap (λ (x : Change). x.after.rst) change ∙ calm) (standing_next s p row o prompt was).row_is
@@ -385,7 +380,7 @@ begin_falls s p row n o prompt was alone e = go n.reselected refl
           sent = f.sent ∙ ap (λ (b : Bool). if b then k.story.sent else sent_with k.story.sent (aim_of k.story.aims n.initiator)) re;
           served = f.served ∙ ap (λ (b : Bool). if b then item_if (ready_of s k n.target) else aim_of k.story.aims n.initiator) re ∙ ap item_if r.ready_is ∙ ap (λ (x : Item). Some x) own;
           before = none.1;
-          still = ap (λ (b : Bool). j.exchange.begun && b) moving ∙ never j.exchange.begun;
+          still = ap (λ (b : Bool). j.exchange.begun && b) moving ∙ and_false j.exchange.begun;
           progress = progress;
           resets = resets;
           faults = faults;
@@ -415,10 +410,6 @@ begin_falls s p row n o prompt was alone e = go n.reselected refl
         fewer : (a b : ℕ) → a ≤ 3 → a - b ≤ 3
         fewer a b h = omega arith
 
-        never : (b : Bool) → (b && false) ≡ false
-        never true = refl
-        never false = refl
-
         lines_in : (l : LineSet) → is_message_in l ≡ true → (l.msg ≡ true) × (l.io ≡ true)
         lines_in l z = let a = and_parts (l.msg && l.cd) l.io z in let b = and_parts l.msg l.cd a.0 in (b.0, a.1)
 
@@ -428,7 +419,3 @@ begin_falls s p row n o prompt was alone e = go n.reselected refl
             by : (o : Option CmdDef) → command_at s.commands id.command ≡ o → process_if s id o ≡ Some x → (c : CmdDef) × (command_at s.commands id.command ≡ Some c)
             by None u v = none_some x v
             by (Some c) u v = (c, u)
-
-    go : (b : Bool) → n.reselected ≡ b → suc (measure s q) ≤ measure s p
-    go true re = reselects re
-    go false sel = selects sel

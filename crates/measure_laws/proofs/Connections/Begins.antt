@@ -3,8 +3,8 @@ use Rattle.measure_laws.proofs
 use proofs.Names.{ℕ, zero, suc, ◌≡◌, ◌≤◌, ◌∙◌, Bool, true, false, ◌&&◌, List, [], ◌∷◌, Some, refl, sym, ap, subst}
 use proofs.Names.{arith, list_any, ◌+◌, ◌-◌, ◌*◌, not, ◌||◌, ◌==◌, if◌then◌else◌, wrong, wrong', ScenarioValue}
 use proofs.Names.{AbortDef, CmdDef, data_runs, abort_line_at, Item, Sent, abort, command_item, count_item, has_item}
-use proofs.Names.{is_done, same_item, sense_item, retries_of, none_some, own_has, abort_left, aborts_left, bytes_after}
-use proofs.{Names.{open_left, sense_left, unsent_left}, Lines.Lowers.{left_by}}
+use proofs.Names.{is_done, same_item, sense_item, retries_of, none_some, plus_one, own_has, abort_left, aborts_left}
+use proofs.{Names.{bytes_after, open_left, sense_left, unsent_left}, Lines.Lowers.{left_by}}
 
 -- ---- an item is sent
 
@@ -82,9 +82,6 @@ aborts_sent s b item n (a ∷ aborts) =
     go true false f = wrong' (f refl)
     go false false f = omega arith
 
-one_more : (n i : ℕ) → n + suc i ≡ n + 1 + i
-one_more n i = omega arith
-
 pub abort_sent : (s : ScenarioValue) (b : Sent) (n i : ℕ) (a : AbortDef) (aborts : List AbortDef) → abort_line_at aborts (suc i) ≡ Some a → is_done b (abort (n + i)) ≡ false
     → aborts_left s (sent_more b (abort (n + i))) n aborts + 4096 ≤ aborts_left s b n aborts
 abort_sent s b n i a [] at undone = none_some a at
@@ -100,7 +97,7 @@ abort_sent s b n zero a (x ∷ aborts) at undone =
     add : (a b x c d : ℕ) → a ≡ 0 → b ≡ x + 4096 → c ≤ d → a + c + 4096 ≤ b + d
     add a b x c d e f g = omega arith
 abort_sent s b n (suc i) a (x ∷ aborts) at undone =
-    let moved = one_more n i in
+    let moved = plus_one n i in
     let rest = abort_sent s b (n + 1) i a aborts at (ap (λ (m : ℕ). is_done b (abort m)) (sym moved) ∙ undone) in
     let one = go (is_done b (abort n)) (is_done (sent_more b (abort (n + suc i))) (abort n)) (done_more b (abort (n + suc i)) (abort n)) in
     add (abort_left s (sent_more b (abort (n + suc i))) n x) (abort_left s b n x) (aborts_left s (sent_more b (abort (n + suc i))) (n + 1) aborts) (aborts_left s b (n + 1) aborts) one

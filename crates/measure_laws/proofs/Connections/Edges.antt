@@ -8,7 +8,7 @@ use proofs.Names.{row_of_fault, row_of_lines, offering_with, target_row, ends, n
 use proofs.{Names.{is_unasked, Falls}, Apart.Rows.{calm_row_falls}, Connections.LinkOff.{link_off, frees_calm}}
 use proofs.{Connections.Parts.{CalmRow, FallsWithin, FallsApart, falls_by_parts}, Phases.Falls.{FallsWith}}
 use proofs.Phases.Falls.{InsideOrEdge, connection_falls, edge, inside, is_edge}
-use Rattle.progress_laws.specs.trace_laws.proofs.Lines.Phases as kinds
+use Rattle.progress_laws.specs.row_laws.proofs.Lines.Phases as kinds
 
 -- What is known of a row before and after which the same connection stands: RST is false before it and after it.
 pub record LinkedRow (s : ScenarioValue) (p : List Row) (row : Row) (n : Connection) : Type 0 where

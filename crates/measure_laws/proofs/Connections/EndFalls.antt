@@ -2,33 +2,33 @@
 use Rattle.measure_laws.proofs
 use proofs.Names.{inl, inr, ℕ, suc, ◌≡◌, ◌≢◌, ◌≤◌, ◌<◌, ◌⊎◌, ◌∙◌, Bool, true, false, ◌&&◌, List, [], ◌∷◌, length}
 use proofs.Names.{Option, Some, None, refl, sym, ap, subst, arith, same_Some, ◌+◌, ◌-◌, ◌*◌, not, ◌==◌, drop}
-use proofs.Names.{if◌then◌else◌, wrong, wrong', and_first, and_second, Event, ProcId, bus-fault, change_of, rises}
-use proofs.Names.{LineSet, is_data, is_message_in, arbitration, call, call_goes_on, connection, connection_after}
+use proofs.Names.{if◌then◌else◌, wrong, wrong', and_first, and_second, and_false, Event, ProcId, bus-fault, change_of}
+use proofs.Names.{rises, LineSet, is_data, is_message_in, arbitration, call, call_goes_on, connection, connection_after}
 use proofs.Names.{is_fault, bus, Kind, Drives, Fault, Row, Agreement, Change, Connection, Call, Calling, MsgIn}
-use proofs.Names.{ScenarioValue, Obeys, AbortDef, CmdDef, HostDef, command_at, Process, process_if, process_of}
-use proofs.Names.{same_bool, has_ended, Array, data_runs, row_reading, abort_line_at, abort_line_events}
-use proofs.Names.{bus_free_events, is_complete, item_abort_events, item_loss_events, row_events_by, Item, command_id}
-use proofs.Names.{command_item, is_open, abort, has_item, process, LastMessage, Link, abortive, complete, disconnect}
-use proofs.Names.{plain, Story, story_after_events, story_by_change, story_on_bus, Exchange, bytes_of_messages}
-use proofs.Names.{one_message, phase_of, answer_bytes, parity_error, Cause, Messages, Next, Phase, run_state_plain}
-use proofs.Names.{progress_in, IsPrompt, AreOfDevices, IsPlain, RunState, bus_of, or_start, exchange_after, leaving_of}
-use proofs.Names.{progress_after, run_state, served_after, Knows, Ends, RowOf, apart as row_apart, begins, row_ends}
-use proofs.Names.{goes_on, under_reset, is_refusing, is_struck_phase, change_plain, least_is, BusStage, after_answer}
+use proofs.Names.{ScenarioValue, Obeys, CmdDef, HostDef, command_at, Process, process_if, process_of, same_bool}
+use proofs.Names.{has_ended, Array, data_runs, row_reading, abort_line_at, abort_line_events, bus_free_events}
+use proofs.Names.{is_complete, item_abort_events, item_loss_events, row_events_by, Item, command_id, command_item}
+use proofs.Names.{is_open, abort, has_item, process, LastMessage, Link, abortive, complete, disconnect, plain, Story}
+use proofs.Names.{story_after_events, story_by_change, story_on_bus, Exchange, bytes_of_messages, one_message, phase_of}
+use proofs.Names.{answer_bytes, parity_error, Cause, Messages, Next, Phase, run_state_plain, progress_in, IsPrompt}
+use proofs.Names.{AreOfDevices, IsPlain, RunState, bus_of, or_start, exchange_after, leaving_of, progress_after}
+use proofs.Names.{run_state, served_after, Knows, Ends, RowOf, apart as row_apart, begins, row_ends, goes_on}
+use proofs.Names.{under_reset, is_refusing, is_struck_phase, change_plain, least_is, BusStage, after_answer}
 use proofs.Names.{after_arbitration, after_takeover, after_withdrawal, awaiting_answer, in_arbitration, in_reset}
-use proofs.Names.{on_free_bus, with_both_ids, sides_are, AnyStage, any_apart, linked as any_linked, EndsHere, ends_low}
-use proofs.Names.{ends_row, lost_by, lost_in, none_some, out_lines, item_is, lost_over, self_item, stage_of_connection}
-use proofs.Names.{NextStood, link_connection, bsy_stands, refuses_later, EndTold, end_told, free_shown, Whole}
-use proofs.Names.{standing_next, steps, ComplaintsBy, Refuses, is_plain, EndsWell, LastBy, LastGiven, closed, closes}
-use proofs.Names.{saves, still_stays, to_close, to_save, IsLeaving, IsServed, Tells, TellsAsLeft, of_abort, of_process}
-use proofs.Names.{all_over, aborts_left, bytes_after, command_left, commands_left, future_left, is_in_data, open_left}
-use proofs.Names.{resets_left, serves_item, measure, phase_left, reselection_if, sense_bytes_left, struck_left}
-use proofs.Names.{after_next, after_refused, after_words, disconnects, phases_in, phases_left, for_phase}
-use proofs.{Names.{for_reselection, for_fault, for_reset}, Connections.BeginFalls.{calm_resets, command_apart}}
-use proofs.Lines.{Futures.{but_one_command, command_lowers, command_waits, future_falls, open_of}, Lowers.{EndFirst}}
-use proofs.{Lines.Lowers.{events_lower, lowers_on, lowers_same, Lowers, aborts_lower}, Phases.Still.{shape}}
-use proofs.Resets.Falls.{shape_free}
+use proofs.Names.{on_free_bus, with_both_ids, sides_are, AnyStage, any_apart, linked as any_linked, none_some}
+use proofs.Names.{out_lines, by_bool, stage_of_connection, NextStood, link_connection, bsy_stands, is_plain, IsLeaving}
+use proofs.Names.{IsServed, Tells, TellsAsLeft, of_abort, of_process, item_is, lost_over, self_item, refuses_later}
+use proofs.Names.{ComplaintsBy, Refuses, EndsWell, LastBy, LastGiven, closed, closes, saves, still_stays, to_close}
+use proofs.Names.{to_save, EndsHere, ends_low, ends_row, lost_by, lost_in, EndTold, end_told, free_shown, Whole}
+use proofs.Names.{standing_next, steps, all_over, aborts_left, bytes_after, command_left, commands_left, future_left}
+use proofs.Names.{is_in_data, open_left, resets_left, serves_item, measure, phase_left, reselection_if}
+use proofs.Names.{sense_bytes_left, struck_left, after_next, after_refused, after_words, disconnects, phases_in}
+use proofs.{Names.{phases_left, for_phase, for_reselection, for_fault, for_reset}, Connections.BeginFalls.{calm_resets}}
+use proofs.{Connections.BeginFalls.{command_apart}, Lines.Futures.{but_one_command, command_lowers, command_waits}}
+use proofs.Lines.{Futures.{future_falls, open_of}, Lowers.{EndFirst, events_lower, lowers_on, lowers_same, Lowers}}
+use proofs.{Lines.Lowers.{aborts_lower}, Phases.Still.{shape}, Resets.Falls.{shape_free}}
 use Rattle.progress_laws.specs.bus_laws.specs.Stages.{in_connection}
-use Rattle.progress_laws.specs.trace_laws.specs.LastTalks.{stays}
+use Rattle.progress_laws.specs.story_laws.specs.LastTalks.{stays}
 
 -- ---- after the row the bus is free
 
@@ -42,11 +42,8 @@ connection_if_on q n = if q then Some n else None
 no_calling : (p : List Row) (row : Row) (k : Call) (x : Calling) → call p ≡ None → call (row ∷ p) ≡ Some k → k.calling ≡ Some x → ⊥
 no_calling p row k x none e f = go (bus (row ∷ p)).sel refl (rises (bus p).sel (bus (row ∷ p)).sel) refl
   where
-    c : Change
-    c = change_of p row
-
     is : (q r : Bool) → (bus (row ∷ p)).sel ≡ q → rises (bus p).sel (bus (row ∷ p)).sel ≡ r → (if not q then None else call_if r (record { caller = row.dev; at = row.time; calling = None }) None) ≡ Some k
-    is q r u v = sym (λ i. if not (u i) then None else call_if (v i) (record { caller = row.dev; at = row.time; calling = None }) (call_goes_on (none i) c row)) ∙ e
+    is q r u v = sym (λ i. if not (u i) then None else call_if (v i) (record { caller = row.dev; at = row.time; calling = None }) (call_goes_on (none i) (change_of p row) row)) ∙ e
 
     go : (q : Bool) → (bus (row ∷ p)).sel ≡ q → (r : Bool) → rises (bus p).sel (bus (row ∷ p)).sel ≡ r → ⊥
     go false u r v = none_some k (is false r u v)
@@ -70,11 +67,10 @@ freed_stage s p row none bsy calm alone (in_reset h) = wrong (sym h.reset ∙ ca
 freed_stage s p row none bsy calm alone (in_connection n f g h) = none_some n (sym alone ∙ f)
 
 bsy_falls : (p : List Row) (row : Row) (n : Connection) → connection p ≡ Some n → connection (row ∷ p) ≡ None → (bus (row ∷ p)).bsy ≡ false
-bsy_falls p row n con none = go (bus (row ∷ p)).bsy refl
-  where
-    go : (q : Bool) → (bus (row ∷ p)).bsy ≡ q → (bus (row ∷ p)).bsy ≡ false
-    go false e = e
-    go true e = none_some n (sym none ∙ (λ i. connection_after (con i) (call p) (change_of p row) row) ∙ ap (λ (q : Bool). connection_if_on q n) e)
+bsy_falls p row n con none =
+    by_bool (bus (row ∷ p)).bsy
+    (λ e. none_some n (sym none ∙ (λ i. connection_after (con i) (call p) (change_of p row) row) ∙ ap (λ (q : Bool). connection_if_on q n) e))
+    (λ e. e)
 
 -- ---- what is left of the phases pays
 
@@ -120,17 +116,12 @@ words_pay false k Cause.InStatus r later = wrong' r
 
 messages_pay : (m : Messages) (next : Next) → 1 ≤ after_next m next
 messages_pay m Next.FreeBus = omega arith
-messages_pay m Next.Status = omega arith
-messages_pay m Next.GoOn = omega arith
-messages_pay m Next.Command = omega arith
+messages_pay m _ = omega arith
 
 pub phases_pay : (refusing : Bool) (k : RunState) (phase : Phase) → (phase ≡ Phase.MessageOut → Refuses refusing k k.exchange.plan.cause) → (phase ≡ Phase.MessageOut → k.exchange.plan.cause ≡ Cause.InMessage → (k.exchange.plan.next ≡ Next.Command) ⊎ (k.exchange.speech.words ≡ parity_error)) → 1 ≤ phases_in refusing k.exchange.plan phase
 phases_pay refusing k Phase.MessageOut r later = words_pay refusing k k.exchange.plan.cause (r refl) (later refl)
 phases_pay refusing k Phase.MessageIn r later = messages_pay k.exchange.plan.messages k.exchange.plan.next
-phases_pay refusing k Phase.Command r later = omega arith
-phases_pay refusing k Phase.Status r later = omega arith
-phases_pay refusing k Phase.DataIn r later = omega arith
-phases_pay refusing k Phase.DataOut r later = omega arith
+phases_pay refusing k _ r later = omega arith
 
 -- ---- what is still to come, as the target lets its process go
 
@@ -230,14 +221,11 @@ end_first s b l complete = tt
 end_first s b l disconnect = tt
 end_first s b l abortive = by l.item
   where
-    line : (o : Option AbortDef) → EndFirst s b (abort_line_events o)
-    line None = tt
-    line (Some a) = (tt, tt)
-
     by : (o : Option Item) → EndFirst s b (item_abort_events s o)
     by None = tt
     by (Some (process id)) = tt
-    by (Some (abort m)) = line (abort_line_at s.aborts m)
+    by (Some (abort m)) =
+        elim (abort_line_at s.aborts m) as (λ o. EndFirst s b (abort_line_events o)) [ None ↦ tt | Some a ↦ (tt, tt) ]
 
 -- DISCONNECT was said, where the last message said so; and the command is over, where it said that.
 says_disconnect : (l : Link) (m : Messages) (next : Next) (count : ℕ) → LastGiven l m next count → l.last ≡ disconnect → disconnects m ≡ true
@@ -282,9 +270,6 @@ end_falls s p row n o prompt was con none off calm = go tells.served
     lt : row.dev < 8
     lt = (least_is s p row prompt.1).inside
 
-    pk : IsPlain s p k
-    pk = run_state_plain s p dv
-
     pj : IsPlain s q j
     pj = run_state_plain s q (lt, dv)
 
@@ -301,7 +286,7 @@ end_falls s p row n o prompt was con none off calm = go tells.served
     after = ap (λ (x : Change). x.after.rst) change ∙ calm
 
     g : Ends s k row n
-    g = ends_of s k row n (pk.connection ∙ con) (ap (λ (x : Change). x.after.bsy) change ∙ quiet) after nx.row_is
+    g = ends_of s k row n (was.stood.plain.connection ∙ con) (ap (λ (x : Change). x.after.bsy) change ∙ quiet) after nx.row_is
 
     h : EndsHere s p row n
     h = ends_row s p row n o prompt was.stood g after
@@ -373,7 +358,7 @@ end_falls s p row n o prompt was con none off calm = go tells.served
     ahead = phases_in (is_refusing s p) k.exchange.plan (phase_of (bus_of k))
 
     before_shape : measure s p ≡ future_left s k + 40 + (phases_left (is_refusing s p) k + phase_left s k n + sense_bytes_left (is_in_data k) k.progress k.served + struck_left s (is_struck_phase s p))
-    before_shape = shape s k (is_struck_phase s p) (is_refusing s p) n (ap (λ (x : LineSet). x.rst) pk.bus ∙ off) (pk.connection ∙ con)
+    before_shape = shape s k (is_struck_phase s p) (is_refusing s p) n (ap (λ (x : LineSet). x.rst) was.stood.plain.bus ∙ off) (was.stood.plain.connection ∙ con)
 
     enough : future_left s k + 40 + ahead ≤ measure s p
     enough = add (measure s p) (future_left s k) ahead (phases_left (is_refusing s p) k) (phase_left s k n) (sense_bytes_left (is_in_data k) k.progress k.served) (struck_left s (is_struck_phase s p)) before_shape
@@ -411,7 +396,7 @@ end_falls s p row n o prompt was con none off calm = go tells.served
         let w = says_complete l k.exchange.plan.messages k.exchange.plan.next k.handshakes.requests (given id sv e) c in
         let here : is_message_in (bus_of k) ≡ true = in_lines (bus_of k) e h.known in
         let asked : (k.handshakes.requests == 0) ≡ false = ap (λ (x : ℕ). x == 0) w.1 in
-        let low : (bus_of k).req ≡ false = ap (λ (x : LineSet). x.req) pk.bus ∙ h.stops.low in
+        let low : (bus_of k).req ≡ false = ap (λ (x : LineSet). x.req) was.stood.plain.bus ∙ h.stops.low in
         let b = was.closes n con off in
         let answered = b.counts.given here asked (ap (λ (x : Bool). x && not (bus_of k).ack) low) in
         let at : k.array ≡ Some was.places.array = was.places.array_is in
@@ -452,11 +437,7 @@ end_falls s p row n o prompt was con none off calm = go tells.served
         ]
           where
             not_data : (b : Bool) (l : LineSet) → is_message_in l ≡ true → (b && is_data l) ≡ false
-            not_data b l z = ap (λ (m : Bool). b && (not m && not l.cd)) (and_first l.msg l.cd (and_first (l.msg && l.cd) l.io z)) ∙ never b
-              where
-                never : (b : Bool) → (b && false) ≡ false
-                never true = refl
-                never false = refl
+            not_data b l z = ap (λ (m : Bool). b && (not m && not l.cd)) (and_first l.msg l.cd (and_first (l.msg && l.cd) l.io z)) ∙ and_false b
         by Phase.MessageOut f = other Phase.MessageOut f refl
         by Phase.Command f = other Phase.Command f refl
         by Phase.Status f = other Phase.Status f refl
@@ -464,11 +445,7 @@ end_falls s p row n o prompt was con none off calm = go tells.served
         by Phase.DataOut f = other Phase.DataOut f refl
 
     of_id : (id : ProcId) (x : Process) → k.served ≡ Some (process id) → process_of s id ≡ Some x → (b : Bool) → id.sense ≡ b → (c : Bool) → is_open j.story.sent id.command ≡ c → suc (measure s q) ≤ measure s p
-    of_id id x sv is true e c f = ended (λ m z opens. wrong (sym z ∙ ap (λ (y : Option Item). serves_item y (command_item m)) sv ∙ ap (λ (b : Bool). (id.command == m) && same_bool b false) e ∙ never (id.command == m)))
-      where
-        never : (b : Bool) → (b && false) ≡ false
-        never true = refl
-        never false = refl
+    of_id id x sv is true e c f = ended (λ m z opens. wrong (sym z ∙ ap (λ (y : Option Item). serves_item y (command_item m)) sv ∙ ap (λ (b : Bool). (id.command == m) && same_bool b false) e ∙ and_false (id.command == m)))
     of_id id x sv is false e false f = ended (λ m z opens.
         let same : process id ≡ command_item m = item_is (process id) (command_item m) (ap (λ (y : Option Item). serves_item y (command_item m)) (sym sv) ∙ z) in
         wrong (sym opens ∙ ap (λ (y : Item). is_open j.story.sent (number y)) (sym same) ∙ f))

@@ -5,7 +5,7 @@ use proofs.Names.{drives-other, LineSet, connection, bus, drives, driven_after, 
 use proofs.Names.{ScenarioValue, Serving, phase_leaving, phase_of, lines_by, Leaving, Phase, run_state, serving_at}
 use proofs.Names.{off_at, connected_bus, ends, lines_are, stage_of_connection, LinkRow, link_row, drives_next}
 use proofs.Connections.Parts.{CalmRow, FreesCalm}
-use Rattle.progress_laws.specs.trace_laws.proofs.Lines.Rows as rows
+use Rattle.progress_laws.specs.row_laws.proofs.Lines.Rows as rows
 
 abbrev kind_rst : Kind → Bool
 kind_rst (Drives l) = l.rst

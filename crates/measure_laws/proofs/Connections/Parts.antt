@@ -1,9 +1,9 @@
 -- The measure falls with each row, if it falls with those on the way to a connection and with those within one: all that begin a connection,
 -- end it, raise RST or stand under it are done.
 use Rattle.measure_laws.proofs
-use proofs.Names.{suc, ◌≡◌, ◌≤◌, Bool, true, false, ◌∙◌, List, ◌∷◌, Option, Some, None, refl, sym, wrong, connection}
-use proofs.Names.{bus, Row, Connection, ScenarioValue, Obeys, IsLeast, IsPrompt, due, least_is, unreset_due}
-use proofs.Names.{CalmStanding, link_calm, AnyStage, any_apart as apart, linked, NextStood, Whole, standing_next, whole}
+use proofs.Names.{suc, ◌≡◌, ◌≤◌, true, false, ◌∙◌, List, ◌∷◌, Option, Some, None, refl, sym, wrong, connection, bus}
+use proofs.Names.{Row, Connection, ScenarioValue, Obeys, IsLeast, IsPrompt, due, least_is, unreset_due, CalmStanding}
+use proofs.Names.{link_calm, AnyStage, any_apart as apart, linked, by_bool, NextStood, Whole, standing_next, whole}
 use proofs.{Names.{Falls, measure}, Connections.{BeginFalls.{begin_falls}, EndFalls.{end_falls}}}
 use proofs.Resets.Falls.{FallsOrCalm, by_calm, by_reset, falls_or_calm, under_reset_falls}
 
@@ -30,7 +30,10 @@ abbrev pub FreesCalm : Type 0
 FreesCalm = (s : ScenarioValue) (p : List Row) (row : Row) (n : Connection) → CalmRow s p row → connection p ≡ Some n → connection (row ∷ p) ≡ None → (bus (row ∷ p)).rst ≡ false
 
 pub falls_by_parts : FallsApart → FallsWithin → FreesCalm → Falls
-falls_by_parts ways within calm s p row o prompt = go (bus p).rst refl
+falls_by_parts ways within calm s p row o prompt =
+    by_bool (bus p).rst
+    (λ on. under on was.stood.here)
+    (λ off. by_kind off (falls_or_calm s p row was.stood.standing off least))
   where
     was : Whole s p
     was = whole s p o prompt.0
@@ -54,7 +57,3 @@ falls_by_parts ways within calm s p row o prompt = go (bus p).rst refl
     by_kind : (bus p).rst ≡ false → FallsOrCalm s p row → suc (measure s (row ∷ p)) ≤ measure s p
     by_kind off (by_reset z) = z
     by_kind off (by_calm standing first) = by_row (record { obeys = o; prompt = prompt; was = was; next = next; off = off; standing = standing; least = first }) (connection p) refl (connection (row ∷ p)) refl
-
-    go : (q : Bool) → (bus p).rst ≡ q → suc (measure s (row ∷ p)) ≤ measure s p
-    go true on = under on was.stood.here
-    go false off = by_kind off (falls_or_calm s p row was.stood.standing off least)

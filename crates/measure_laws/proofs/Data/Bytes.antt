@@ -1,8 +1,8 @@
 -- A run of data has at most the bytes that are left before it and not after it.
 use Rattle.measure_laws.proofs
 use proofs.Names.{ℕ, zero, suc, ◌≡◌, ◌≤◌, ◌<◌, Bool, true, false, ◌&&◌, Option, Some, None, refl, arith, ltb-true, ◌+◌}
-use proofs.Names.{◌-◌, ◌*◌, ◌==◌, if◌then◌else◌, min, nat_lt, nat_le, wrong', Policy, runs_by, DataRun, run_by, run_in}
-use proofs.Names.{runs_in, bytes_over, cut_bytes}
+use proofs.Names.{◌-◌, ◌*◌, ◌==◌, if◌then◌else◌, min, nat_lt, nat_le, and_second, Policy, runs_by, DataRun, run_by}
+use proofs.Names.{run_in, runs_in, bytes_over, cut_bytes}
 
 abbrev pub length_of : DataRun → ℕ
 length_of r = r.end - r.start
@@ -30,10 +30,6 @@ part_end : (q : Bool) (step need moved : ℕ) → (q ≡ true → step < moved) 
 part_end true step need moved f h = let w = f refl in omega arith
 part_end false step need moved f h = h
 
-second : (a b : Bool) → (a && b) ≡ true → b ≡ true
-second true b e = e
-second false b e = wrong' e
-
 two_goes : (made need run : ℕ) → made < 2 → run ≤ need → run - 0 + (if made + 1 == 0 then 2 * need else if made + 1 == 1 then need else 0) ≤ (if made == 0 then 2 * need else if made == 1 then need else 0)
 two_goes zero need run lt h = omega arith
 two_goes (suc zero) need run lt h = omega arith
@@ -49,7 +45,7 @@ cut_run Policy.Command blocks size need moved made h lt = first_only made need m
 cut_run (Policy.Burst most) blocks size need moved made h lt = burst_bytes (most * size) need moved made h
 cut_run (Policy.NoSave most) blocks size need moved made h lt =
     two_goes made need (if made == 0 && nat_lt (most * size) moved then most * size else moved) (few_goes (nat_le blocks most) made lt)
-    (part_end (made == 0 && nat_lt (most * size) moved) (most * size) need moved (λ e. ltb-true (most * size) moved (second (made == 0) (nat_lt (most * size) moved) e)) h)
+    (part_end (made == 0 && nat_lt (most * size) moved) (most * size) need moved (λ e. ltb-true (most * size) moved (and_second (made == 0) (nat_lt (most * size) moved) e)) h)
 
 abbrev pub blocks_of : Option (ℕ × ℕ) → Option ℕ
 blocks_of None = None

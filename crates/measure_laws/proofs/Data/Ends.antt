@@ -2,8 +2,8 @@
 -- disconnection.
 use Rattle.measure_laws.proofs
 use proofs.Names.{ℕ, suc, ◌≡◌, ◌≢◌, ◌≤◌, ◌<◌, ◌∙◌, Bool, true, false, ◌&&◌, List, ◌∷◌, length, Some, refl, sym, ap}
-use proofs.Names.{subst, arith, ◌+◌, ◌-◌, ◌*◌, not, if◌then◌else◌, wrong', LineSet, is_data, is_message_out, Row}
-use proofs.Names.{Change, Connection, ScenarioValue, CmdDef, command_at, data_runs, Sent, command_id, command_item}
+use proofs.Names.{subst, arith, ◌+◌, ◌-◌, ◌*◌, not, if◌then◌else◌, wrong', plus_none, LineSet, is_data, is_message_out}
+use proofs.Names.{Row, Change, Connection, ScenarioValue, CmdDef, command_at, data_runs, Sent, command_id, command_item}
 use proofs.Names.{has_item, phase_entry, phase_leaving, phase_of, Phase, progress_in, RunState, bus_of, run_state}
 use proofs.Names.{leaving, serving_of, is_refusing, is_struck_phase, self_item, aborts_left, bytes_after, command_left}
 use proofs.Names.{commands_left, future_left, is_in_data, open_left, resets_left, sense_left, serves_item, unsent_left}
@@ -71,7 +71,7 @@ pub run_done_pays : (s : ScenarioValue) (j k : RunState) (m : ℕ) (again : Bool
     → future_left s j + reselection_if again ≤ future_left s k
 run_done_pays s j k m again c at sent over h most =
     let same : for_fault s * length j.faults ≡ for_fault s * length k.faults = λ i. for_fault s * length (h.faults i) in
-    let commands = less_zero _ _ (but_one_command s j k (reselection_if again) 0 m c at other (plus_none _ _ _ own)) in
+    let commands = less_zero _ _ (but_one_command s j k (reselection_if again) 0 m c at other (no_more _ _ _ own)) in
     subst (λ (w : ℕ). commands_left s j 1 s.commands + aborts_left s j.story.sent 1 s.aborts + for_reset * resets_left j s.resets + w + reselection_if again ≤ future_left s k) (sym same)
     (subst (λ (b : Sent). commands_left s j 1 s.commands + aborts_left s b 1 s.aborts + for_reset * resets_left j s.resets + for_fault s * length k.faults + reselection_if again ≤ future_left s k) (sym h.sent)
     (sum (commands_left s j 1 s.commands) (commands_left s k 1 s.commands) (aborts_left s k.story.sent 1 s.aborts) (resets_left j s.resets) (resets_left k s.resets) (for_fault s * length k.faults) (reselection_if again) commands h.resets))
@@ -82,8 +82,8 @@ run_done_pays s j k m again c at sent over h most =
     less_zero : (a b : ℕ) → a ≤ b + 0 → a ≤ b
     less_zero a b h = omega arith
 
-    plus_none : (a b g : ℕ) → a + g ≤ b → a + g ≤ b + 0
-    plus_none a b g h = omega arith
+    no_more : (a b g : ℕ) → a + g ≤ b → a + g ≤ b + 0
+    no_more a b g h = omega arith
 
     made : ℕ → ℕ
     made n = (progress_in k.progress (command_id n)).runs
@@ -106,11 +106,8 @@ run_done_pays s j k m again c at sent over h most =
         (λ i. left_by s k.story.sent (open_left s (serves_item (h.before i) (command_item m)) (h.moves i) (made m) c) m c)
         ∙ (λ i. if over i then sense_left k.story.sent m else if sent i then open_left s (self_item (command_item m) i) true (made m) c else unsent_left s k.story.sent m c) in
         chain (command_left s j m c) (open_left s true false (made m + 1) c) (open_left s true true (made m) c) (command_left s k m c) (reselection_if again) e f
-        (by again most (ap (bytes_after s c) (none_more (made m + 1))))
+        (by again most (ap (bytes_after s c) (plus_none (made m + 1))))
       where
-        none_more : (n : ℕ) → n + 0 ≡ n
-        none_more n = omega arith
-
         add : (r n x y : ℕ) → x ≡ y → n < r → 1024 * (r - (n + 1) + 0) + 8 * x + 4096 + 1024 ≤ 1024 * (r - n + 0) + 8 * y + 4096
         add r n x y e h = omega arith
 

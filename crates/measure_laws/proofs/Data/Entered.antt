@@ -3,20 +3,20 @@
 use Rattle.measure_laws.proofs
 use proofs.Names.{inl, inr, ℕ, ◌≡◌, ◌≤◌, ◌<◌, ◌⊎◌, ◌∙◌, Bool, true, false, ◌&&◌, List, ◌∷◌, length, Option, Some, None}
 use proofs.Names.{Result, Ok, Err, refl, sym, ap, subst, arith, ltb-true, same_Some, ◌+◌, ◌*◌, ◌-◌, not, ◌==◌, drop}
-use proofs.Names.{if◌then◌else◌, is_some, nat_lt, and_false, wrong, wrong', ProcId, LineSet, changes_phase, is_data}
-use proofs.Names.{connection, bus, Row, Change, Connection, command_of, CdbFault, Command, GOOD, has_target, unit_of}
-use proofs.Names.{is_write, moved_by, need_of, sent_of, ScenarioValue, Obeys, CmdDef, Policy, UnitDef, array_after}
-use proofs.Names.{range_of, range_in, Process, command_at, command_process, process_by, process_if, process_of}
-use proofs.Names.{same_bool, sense_block, sense_process, Array, UnitState, unit_state_at, Item, command_id}
+use proofs.Names.{if◌then◌else◌, is_some, nat_lt, and_false, wrong, wrong', plus_none, ProcId, LineSet, changes_phase}
+use proofs.Names.{is_data, connection, bus, Row, Change, Connection, command_of, CdbFault, Command, GOOD, has_target}
+use proofs.Names.{unit_of, is_write, moved_by, need_of, sent_of, ScenarioValue, Obeys, CmdDef, Policy, UnitDef}
+use proofs.Names.{array_after, range_of, range_in, Process, command_at, command_process, process_by, process_if}
+use proofs.Names.{process_of, same_bool, sense_block, sense_process, Array, UnitState, unit_state_at, Item, command_id}
 use proofs.Names.{command_item, has_item, process, Story, policy_of, run_in, runs_in, runs_in_all, Serving, bus_free}
 use proofs.Names.{phase_entry, phase_leaving, phase_of, unless_attention, after_messages, run_length_if, Leaving, Next}
 use proofs.Names.{Phase, Task, run_state_plain, target_def_of, progress_in, IsPrompt, IsPlain, RunState, array_of}
 use proofs.Names.{bus_of, process_item, process_served, run_state, leaving, serving_of, blocks_in, is_writing}
 use proofs.Names.{moved_count, reply_now, size_of, task_if, task_of, command_fits, obeys_fits, IsCommandLine, IsByLine}
-use proofs.Names.{by_line, AreOfLines, IsOfLine, Knows, none_some, in_phase, over_after, enters_run, task_here}
-use proofs.Names.{lines_now, served_id, Whole, TalksBy, frees_bus, talk_of, enters_read, read_books, whole_now}
-use proofs.Names.{given_few, most_given, need_is, HasWhole, bytes_after, future_left, is_in_data, open_left, range_if}
-use proofs.{Names.{resets_left, serves_item, size_if, sense_bytes_left}, Connections.BeginFalls.{calm_resets}}
+use proofs.Names.{by_line, AreOfLines, IsOfLine, Knows, none_some, in_phase, by_bool, zero_below, TalksBy, frees_bus}
+use proofs.Names.{talk_of, over_after, enters_run, task_here, lines_now, served_id, Whole, enters_read, read_books}
+use proofs.Names.{whole_now, given_few, most_given, need_is, HasWhole, bytes_after, future_left, is_in_data, open_left}
+use proofs.{Names.{range_if, resets_left, serves_item, size_if, sense_bytes_left}, Connections.BeginFalls.{calm_resets}}
 use proofs.Data.{Bytes.{blocks_of, length_of, run_bytes}, Commands.{command_turn_falls}, Needs.{target_there}}
 use proofs.{Data.Turns.{data_turn_falls, run_of}, Lines.{Futures.{future_falls, open_of}, Lowers.{lowers_same}}}
 use proofs.{Phases.Falls.{FallsWith}, Turns.{Edges.{leaving_turn}, Falls.{TurnRow, turn_in, turn_kind, turn_runs}}}
@@ -58,19 +58,13 @@ freed_before {A = A} v atn y d f to = by v.plan.next f to
 
     by : (next : Next) → frees_bus next ≡ true → (unless_attention atn (after_messages v next)).to ≡ Some y → A
     by Next.FreeBus z e = go atn e
-    by Next.Command z e = wrong' z
-    by Next.Status z e = wrong' z
-    by Next.GoOn z e = wrong' z
+    by _ z e = wrong' z
 
 -- ---- the bytes that a process moves
 
 blocks_same : (r : Result Command CdbFault) → blocks_in (range_in r) ≡ blocks_of (range_if r)
 blocks_same (Err fault) = refl
-blocks_same (Ok c) = go (range_of c)
-  where
-    go : (o : Option (ℕ × ℕ)) → blocks_in o ≡ blocks_of o
-    go None = refl
-    go (Some range) = refl
+blocks_same (Ok c) = elim (range_of c) as (λ o. blocks_in o ≡ blocks_of o) [ None ↦ refl | Some range ↦ refl ]
 
 size_same : (o : Option UnitDef) (x : Option UnitState) → IsOfLine o x → size_of x ≡ size_if o
 size_same None None h = refl
@@ -136,23 +130,19 @@ sense_few s a q e lines whole =
 
 -- Its target is that of the connection.
 serves_there : (s : ScenarioValue) (p : List Row) (n : Connection) (q : Process) → Obeys s → IsPrompt s p → Whole s p → connection p ≡ Some n → (bus p).rst ≡ false → process_served s (run_state s p) ≡ Some q → q.target ≡ n.target
-serves_there s p n q o prompt was con off e = by (is_writing q) refl
+serves_there s p n q o prompt was con off e =
+    by_bool (is_writing q)
+    (λ w. (was.sends.runs.served n q stands calm e w).target_is)
+    (λ w. ((read_books s p o prompt).pointers.served n q stands calm e w).target_is)
   where
     k : RunState
     k = run_state s p
 
-    pl : IsPlain s p k
-    pl = run_state_plain s p was.stood.standing.devices
-
     stands : k.story.bus_state.connection ≡ Some n
-    stands = pl.connection ∙ con
+    stands = was.stood.plain.connection ∙ con
 
     calm : (bus_of k).rst ≡ false
-    calm = ap (λ (l : LineSet). l.rst) pl.bus ∙ off
-
-    by : (b : Bool) → is_writing q ≡ b → q.target ≡ n.target
-    by true w = (was.sends.runs.served n q stands calm e w).target_is
-    by false w = ((read_books s p o prompt).pointers.served n q stands calm e w).target_is
+    calm = ap (λ (l : LineSet). l.rst) was.stood.plain.bus ∙ off
 
 some_run : (moved runs total : ℕ) → nat_lt runs (if moved == 0 then 0 else total) ≡ true → runs < total
 some_run moved runs total e = go (moved == 0) e
@@ -196,9 +186,6 @@ sense_future s p row n c q h begun from into served sense =
     same_less : (a b : ℕ) → a ≡ b → a ≤ b
     same_less a b e = omega arith
 
-    plus_none : (a : ℕ) → a + 0 ≡ a
-    plus_none a = omega arith
-
 -- ---- the row
 
 falls : (s : ScenarioValue) (p : List Row) (row : Row) (n : Connection) → (r : LeavingRow s p row n) → is_data (bus p) ≡ false → is_data r.turned.change.after ≡ true → FallsWith s p row
@@ -220,7 +207,7 @@ falls s p row n r from into = go (process_served s k) refl
     h = leaving_turn s p row n r
 
     pl : IsPlain s p k
-    pl = run_state_plain s p h.was.stood.standing.devices
+    pl = h.was.stood.plain
 
     pl2 : IsPlain s (row ∷ p) j
     pl2 = run_state_plain s (row ∷ p) (h.below, h.was.stood.standing.devices)
@@ -254,17 +241,16 @@ falls s p row n r from into = go (process_served s k) refl
 
     -- what is served is not over
     opens : (i : Item) → k.served ≡ Some i → has_item k.story.sent.over i ≡ false
-    opens i served = at (has_item k.story.sent.over i) refl
+    opens i served =
+        by_bool (has_item k.story.sent.over i)
+        (λ e.
+        let ended = talks.over i served e in
+        freed_before v (bus_of k).atn (phase_of c.after) data_is ended.taken.next_is
+        (ap (λ (x : Phase). (phase_leaving v (bus_of k).atn x).to) (sym (in_phase (bus_of k) ended.taken.here)) ∙ to))
+        (λ e. e)
       where
         talks : TalksBy s (talk_of k) n knows.link
         talks = h.was.facts.items.items.talks n con h.goes.calm knows.link knows.link_is
-
-        at : (b : Bool) → has_item k.story.sent.over i ≡ b → has_item k.story.sent.over i ≡ false
-        at false e = e
-        at true e =
-            let ended = talks.over i served e in
-            freed_before v (bus_of k).atn (phase_of c.after) data_is ended.taken.next_is
-            (ap (λ (x : Phase). (phase_leaving v (bus_of k).atn x).to) (sym (in_phase (bus_of k) ended.taken.here)) ∙ to)
 
     go : (x : Option Process) → process_served s k ≡ x → FallsWith s p row
     go None e = none_some w.task (sym (ap (task_if s k) e) ∙ w.task_is)
@@ -396,10 +382,7 @@ falls s p row n r from into = go (process_served s k) refl
                 chain a b z g = omega (arith, z, g)
 
             made : (progress_in k.progress q.id).runs ≡ 0
-            made = first (progress_in k.progress q.id).runs (subst (λ (x : Option ℕ). (progress_in k.progress q.id).runs < runs_in policy x) none more)
-              where
-                first : (x : ℕ) → x < 1 → x ≡ 0
-                first x lt = omega (arith, lt)
+            made = zero_below (progress_in k.progress q.id).runs (subst (λ (x : Option ℕ). (progress_in k.progress q.id).runs < runs_in policy x) none more)
 
             moves : is_in_data j ≡ true
             moves = (λ i. ((turn_in s p row n c h).exchange_is i).begun && is_data ((turn_in s p row n c h).bus_is i)) ∙ into

@@ -3,23 +3,23 @@
 use Rattle.measure_laws.proofs
 use proofs.Names.{inl, inr, ℕ, suc, ◌≡◌, ◌≤◌, ◌<◌, ◌⊎◌, ◌∙◌, Bool, true, false, ◌&&◌, List, ◌∷◌, length, Option, Some}
 use proofs.Names.{None, refl, sym, ap, subst, arith, same_Some, ◌+◌, ◌*◌, not, ◌==◌, drop, if◌then◌else◌, is_some}
-use proofs.Names.{and_false, next_some, wrong, wrong', ProcId, LineSet, is_data, is_message_out, changes_phase, bus}
-use proofs.Names.{Row, Change, Connection, ScenarioValue, Obeys, CmdDef, id_self, array_after, Process, process_of}
-use proofs.Names.{same_bool, same_id, data_runs, longest_need, Item, Sent, command_id, command_item, has_item, process}
-use proofs.Names.{abort, Story, policy_of, phase_entry, phase_leaving, phase_of, one_if, Leaving, Phase, Plan, Task}
-use proofs.Names.{run_state_plain, target_def_of, ProcessProgress, progress_in, progress_with, IsPlain, RunState}
-use proofs.Names.{bus_of, process_served, progress_by_leaving, run_state, leaving, serving_of, is_writing, task_if}
-use proofs.Names.{IsByLine, by_line, is_in_phase, Knows, is_refusing, is_struck_phase, none_some, is_data_phase}
-use proofs.Names.{out_lines, items_open, over_after, counted_runs, same_runs, task_here, served_id, IsServedOpen}
-use proofs.Names.{ReadBooks, read_books, aborts_left, commands_left, future_left, is_in_data, open_left, resets_left}
-use proofs.Names.{serves_item, measure, phase_left, phases_in, phases_left, reselection_if, sense_bytes_left}
-use proofs.{Names.{struck_left, for_byte, for_fault, for_phase, for_reselection}, Connections.BeginFalls.{calm_resets}}
-use proofs.Data.{Ends.{done_turn_falls, run_done_pays}, Leavings.{DataLeaving, HasMore, data_leaving, data_out_of}}
-use proofs.Data.{Leavings.{has_more, more_left, no_data, run_done, run_struck}, Needs.{runs_left, sense_moves_none}}
-use proofs.{Data.OutFalls.{commands_more}, Lines.{Futures.{future_falls, open_of}, Lowers.{lowers_same}}}
-use proofs.{Phases.Still.{shape}, Turns.{Edges.{leaving_turn}, Falls.{TurnRow, turn_in, turn_kind, turn_phase}}}
-use proofs.Turns.{Falls.{turn_phases, turn_progress, turn_struck}, Leavings.{FallsDataLeft, LeavingRow}}
-use proofs.Turns.{Struck.{struck_known}, Table.{left_of}}
+use proofs.Names.{and_false, next_some, wrong, wrong', plus_none, ProcId, LineSet, is_data, is_message_out}
+use proofs.Names.{changes_phase, bus, Row, Change, Connection, ScenarioValue, Obeys, CmdDef, id_self, array_after}
+use proofs.Names.{Process, process_of, same_bool, same_id, data_runs, longest_need, Item, Sent, command_id}
+use proofs.Names.{command_item, has_item, process, abort, Story, policy_of, phase_entry, phase_leaving, phase_of}
+use proofs.Names.{one_if, Leaving, Phase, Plan, Task, run_state_plain, target_def_of, ProcessProgress, progress_in}
+use proofs.Names.{progress_with, IsPlain, RunState, bus_of, process_served, progress_by_leaving, run_state, leaving}
+use proofs.Names.{serving_of, is_writing, task_if, IsByLine, by_line, is_in_phase, Knows, is_refusing, is_struck_phase}
+use proofs.Names.{none_some, is_data_phase, out_lines, by_bool, items_open, over_after, IsServedOpen, counted_runs}
+use proofs.Names.{same_runs, task_here, served_id, ReadBooks, read_books, aborts_left, commands_left, future_left}
+use proofs.Names.{is_in_data, open_left, resets_left, serves_item, measure, phase_left, phases_in, phases_left}
+use proofs.Names.{reselection_if, sense_bytes_left, struck_left, for_byte, for_fault, for_phase, for_reselection}
+use proofs.{Connections.BeginFalls.{calm_resets}, Data.{Ends.{done_turn_falls, run_done_pays}, Leavings.{DataLeaving}}}
+use proofs.Data.Leavings.{HasMore, data_leaving, data_out_of, has_more, more_left, no_data, run_done, run_struck}
+use proofs.{Data.{Needs.{runs_left, sense_moves_none}, OutFalls.{commands_more}}, Lines.Futures.{future_falls, open_of}}
+use proofs.{Lines.Lowers.{lowers_same}, Phases.Still.{shape}, Turns.{Edges.{leaving_turn}, Falls.{TurnRow, turn_in}}}
+use proofs.Turns.{Falls.{turn_kind, turn_phase, turn_phases, turn_progress, turn_struck}, Leavings.{FallsDataLeft}}
+use proofs.Turns.{Leavings.{LeavingRow}, Struck.{struck_known}, Table.{left_of}}
 
 -- ---- such a row
 
@@ -201,9 +201,6 @@ sense_pays s p row n q w d e =
     same_less : (a b : ℕ) → a ≡ b → a ≤ b
     same_less a b z = omega (arith, z)
 
-    plus_none : (a : ℕ) → a + 0 ≡ a
-    plus_none a = omega arith
-
 -- ---- the run is done
 
 -- What is known of the process whose run it is.
@@ -228,7 +225,7 @@ moves_here s p row n r q from e =
     let k = run_state s p in
     let was = r.linked.calm.was in
     let books = read_books s p r.linked.calm.obeys r.linked.calm.prompt.0 in
-    let pl = run_state_plain s p was.stood.standing.devices in
+    let pl = was.stood.plain in
     let con = pl.connection ∙ r.linked.stands in
     let quiet : (bus_of k).rst ≡ false = ap (λ (l : LineSet). l.rst) pl.bus ∙ r.linked.calm.off in
     let id = served_id s k.served q e in
@@ -274,13 +271,12 @@ done_pays s p row n q o w d h = go q.id.sense refl
     command_sum f g e x y a b = omega (arith, a, b)
 
     last : q.id.sense ≡ true → more ≡ false
-    last e = by more refl
-      where
-        by : (x : Bool) → more ≡ x → more ≡ false
-        by false z = z
-        by true z =
-            let m = more_left (policy_of (target_def_of s n.target)) t z in
-            none_some m.blocks (sym (sense_moves_none s q d.own e) ∙ m.blocks_are)
+    last e =
+        by_bool more
+        (λ z.
+        let m = more_left (policy_of (target_def_of s n.target)) t z in
+        none_some m.blocks (sym (sense_moves_none s q d.own e) ∙ m.blocks_are))
+        (λ z. z)
 
     go : (x : Bool) → q.id.sense ≡ x → future_left s j + reselection_if more + sense_bytes_left (is_in_data j) j.progress j.served ≤ future_left s k + sense_bytes_left (is_in_data k) k.progress k.served
     go true e =
@@ -339,7 +335,7 @@ falls_data_left s p row n r other from = by (data_leaving (serving_of s k n.targ
     c = r.turned.change
 
     pl : IsPlain s p k
-    pl = run_state_plain s p r.linked.calm.was.stood.standing.devices
+    pl = r.linked.calm.was.stood.plain
 
     on : is_data (bus_of k) ≡ true
     on = ap is_data pl.bus ∙ from
@@ -361,14 +357,10 @@ falls_data_left s p row n r other from = by (data_leaving (serving_of s k n.targ
 
     -- DATA is left for no data
     quiet : is_data c.after ≡ false
-    quiet = stops (is_data c.after) refl
+    quiet = by_bool (is_data c.after) (λ e. no_data (phase_of c.after) away (data_phase c.after e)) (λ e. e)
       where
         away : is_data_phase (phase_of c.after) ≡ false
         away = data_out_of (serving_of s k n.target) (bus_of k).atn (phase_of (bus_of k)) (data_phase (bus_of k) on) (phase_of c.after) to
-
-        stops : (q : Bool) → is_data c.after ≡ q → is_data c.after ≡ false
-        stops false e = e
-        stops true e = no_data (phase_of c.after) away (data_phase c.after e)
 
     left : LeftRow s p row n c
     left = record { turn = turn; begun = begun; from = on; to = quiet; other = other; known = r.known }

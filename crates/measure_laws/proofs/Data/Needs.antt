@@ -8,8 +8,8 @@ use proofs.Names.{array_after, Contents, execution, is_good_range, range_of, ran
 use proofs.Names.{process_by, process_if, process_of, sense_process, command_at, context_at, Array, UnitState, nexus_of}
 use proofs.Names.{unit_state_at, data_runs, runs_at, runs_of, runs_over, policy_of, runs_in, target_def_of, RunState}
 use proofs.Names.{array_of, blocks_in, is_writing, moved_count, reply_now, size_of, IsByLine, good_range, IsOfLine}
-use proofs.Names.{none_some, some_zero, zero_times, task_here, FitsRuns, fits_runs, lines_now, fits_reads, need_is}
-use proofs.Data.Leavings.{HasMore}
+use proofs.Names.{none_some, some_zero, zero_times, by_bool, task_here, FitsRuns, fits_runs, lines_now, fits_reads}
+use proofs.{Names.{need_is}, Data.Leavings.{HasMore}}
 
 -- ---- an automatic REQUEST SENSE moves no blocks
 
@@ -61,11 +61,10 @@ target_there s dev = go s.targets
         by false more z = more z
 
 carried_out : (a : Array) (q : Process) → (moved_count q (reply_now a q) == 0) ≡ false → (reply_now a q).status ≡ GOOD
-carried_out a q some = go ((reply_now a q).status == GOOD) refl
-  where
-    go : (g : Bool) → ((reply_now a q).status == GOOD) ≡ g → (reply_now a q).status ≡ GOOD
-    go true e = eqb-true (reply_now a q).status GOOD e
-    go false e = some_zero (moved_count q (reply_now a q)) some (λ i. if e i then (if is_writing q then length q.sent else length (reply_now a q).bytes) else 0)
+carried_out a q some =
+    by_bool ((reply_now a q).status == GOOD)
+    (λ e. eqb-true (reply_now a q).status GOOD e)
+    (λ e. some_zero (moved_count q (reply_now a q)) some (λ i. if e i then (if is_writing q then length q.sent else length (reply_now a q).bytes) else 0))
 
 pub need_moved : (s : ScenarioValue) (k : RunState) (q : Process) (h : IsByLine s q) (blocks : ℕ) → Obeys s → k.array ≡ array_after s k.story.history → process_of s q.id ≡ Some q
     → is_some (target_def_of s q.target) ≡ true → blocks_in (range_in (command_of q.cdb)) ≡ Some blocks → (moved_count q (reply_now (array_of s k) q) == 0) ≡ false
@@ -79,11 +78,7 @@ need_moved s k q h blocks o is own there named some =
     a = array_of s k
 
     fits : FitsRuns s k q (task_here s k q)
-    fits = by (is_writing q) refl
-      where
-        by : (w : Bool) → is_writing q ≡ w → FitsRuns s k q (task_here s k q)
-        by true e = fits_runs s k q o is own e
-        by false e = fits_reads s k q o is e
+    fits = by_bool (is_writing q) (λ e. fits_runs s k q o is own e) (λ e. fits_reads s k q o is e)
 
     all : moved_count q (reply_now a q) ≡ blocks * size_of (unit_state_at a.units q.target q.unit)
     all = fits.fit.moved blocks named some
@@ -101,11 +96,8 @@ need_moved s k q h blocks o is own there named some =
 
 runs_same : (policy : Policy) (r : Result Command CdbFault) (blocks : ℕ) → blocks_in (range_in r) ≡ Some blocks → runs_of policy r ≡ runs_in policy (blocks_in (range_in r))
 runs_same policy (Err fault) blocks e = none_some blocks e
-runs_same policy (Ok k) blocks e = go (range_of k)
-  where
-    go : (o : Option (ℕ × ℕ)) → runs_over policy o ≡ runs_in policy (blocks_in o)
-    go None = refl
-    go (Some range) = refl
+runs_same policy (Ok k) blocks e =
+    elim (range_of k) as (λ o. runs_over policy o ≡ runs_in policy (blocks_in o)) [ None ↦ refl | Some range ↦ refl ]
 
 runs_set_aside : (s : ScenarioValue) (c : CmdDef) (blocks : ℕ) → (need_of s c == 0) ≡ false → is_some (target_def_of s c.target) ≡ true → blocks_in (range_in (command_of c.cdb)) ≡ Some blocks
     → data_runs s c ≡ runs_in (policy_of (target_def_of s c.target)) (blocks_in (range_in (command_of c.cdb)))

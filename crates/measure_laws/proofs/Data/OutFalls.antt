@@ -9,7 +9,7 @@ use proofs.Names.{Process, same_bool, data_runs, longest_need, Item, Sent, abort
 use proofs.Names.{Serving, phase_entry, phase_leaving, phase_of, cause_after, plan_in_message_out, Cause, Leaving}
 use proofs.Names.{Phase, Plan, run_state_plain, ProcessProgress, progress_in, progress_with, RunState, bus_of}
 use proofs.Names.{process_served, progress_by_leaving, run_state, hearing_of, leaving, serving_of, reading_is, Knows}
-use proofs.Names.{reading_in, is_refusing, is_struck_phase, over_after, is_attended, same_runs, aborts_left}
+use proofs.Names.{reading_in, is_refusing, is_struck_phase, by_bool, over_after, is_attended, same_runs, aborts_left}
 use proofs.Names.{bytes_after, bytes_over, command_left, commands_left, future_left, is_in_data, open_left, resets_left}
 use proofs.Names.{serves_item, measure, after_words, phase_left, phases_in, phases_left, sense_bytes_left, struck_left}
 use proofs.{Names.{for_byte, for_fault, for_reselection}, Connections.BeginFalls.{calm_resets}}
@@ -129,9 +129,7 @@ attended_done : (v : Serving) (atn : Bool) (phase : Phase) → atn ≡ true → 
 attended_done v atn Phase.MessageIn e f = ap (λ (q : Bool). (phase_leaving v q Phase.MessageIn).done) e
 attended_done v atn Phase.DataIn e f = ap (λ (q : Bool). (phase_leaving v q Phase.DataIn).done) e
 attended_done v atn Phase.Status e f = ap (λ (q : Bool). (phase_leaving v q Phase.Status).done) e
-attended_done v atn Phase.MessageOut e f = wrong' f
-attended_done v atn Phase.Command e f = wrong' f
-attended_done v atn Phase.DataOut e f = wrong' f
+attended_done v atn _ e f = wrong' f
 
 few_sense : (a : Bool) (m : List ProcessProgress) (o : Option Item) → sense_bytes_left a m o ≤ 144
 few_sense a m None = omega arith
@@ -201,8 +199,7 @@ data_out_falls s p row n c h begun out from =
 
 -- From any phase.
 pub attended_falls : (s : ScenarioValue) (p : List Row) (row : Row) (n : Connection) (c : Change) → TurnRow s p row n c → (run_state s p).exchange.begun ≡ true → is_message_out c.after ≡ true → suc (measure s (row ∷ p)) ≤ measure s p
-attended_falls s p row n c h begun out = by (is_data (bus_of (run_state s p))) refl
-  where
-    by : (q : Bool) → is_data (bus_of (run_state s p)) ≡ q → suc (measure s (row ∷ p)) ≤ measure s p
-    by true e = data_out_falls s p row n c h begun out e
-    by false e = out_turn_falls s p row n c h begun out (ap (λ (x : Bool). (run_state s p).exchange.begun && x) e ∙ and_false (run_state s p).exchange.begun)
+attended_falls s p row n c h begun out =
+    by_bool (is_data (bus_of (run_state s p)))
+    (λ e. data_out_falls s p row n c h begun out e)
+    (λ e. out_turn_falls s p row n c h begun out (ap (λ (x : Bool). (run_state s p).exchange.begun && x) e ∙ and_false (run_state s p).exchange.begun))

@@ -1,19 +1,19 @@
 -- The measure falls with the row that turns to DATA IN or DATA OUT: the bytes of the run are paid by the command, for which they are not left any more.
 use Rattle.measure_laws.proofs
 use proofs.Names.{ℕ, suc, ◌≡◌, ◌≢◌, ◌≤◌, ◌∙◌, Bool, true, false, ◌&&◌, List, ◌∷◌, length, Some, refl, sym, ap, subst}
-use proofs.Names.{arith, ◌+◌, ◌-◌, ◌*◌, not, if◌then◌else◌, wrong, wrong', ProcId, LineSet, is_data, is_message_out}
-use proofs.Names.{connection, Row, Change, Connection, Handshakes, ScenarioValue, Obeys, CmdDef, command_at, data_runs}
-use proofs.Names.{Sent, command_id, command_item, has_item, same_item, policy_of, Speech, bytes_of_messages}
-use proofs.Names.{phase_entry, phase_leaving, phase_of, run_length_if, Phase, target_def_of, progress_in, IsPrompt}
-use proofs.Names.{RunState, bus_of, drives_of, run_state, answering_of, leaving, offering_of, pace_of, serving_of}
-use proofs.Names.{task_of, is_refusing, is_struck_phase, self_item, aborts_left, bytes_after, command_left}
-use proofs.Names.{commands_left, future_left, is_in_data, open_left, resets_left, sense_left, serves_item, unsent_left}
-use proofs.Names.{measure, bytes_if_begun, is_asked, phase_left, phases_in, phases_left, requests_by, requests_left}
-use proofs.Names.{sense_bytes_left, struck_left, under_way, for_fault, for_phase, for_reselection, for_reset}
-use proofs.{Connections.BeginFalls.{command_apart}, Lines.{Futures.{but_one_command}, Lowers.{left_by}}}
-use proofs.{Phases.Still.{shape}, Turns.Falls.{TurnRow, fresh_way, no_data_in, no_data_out, turn_handshakes, turn_in}}
-use proofs.Turns.{Falls.{turn_phases, turn_struck}, Pays.{out_facts, phase_pays}, Struck.{struck_known}}
-use proofs.Turns.Table.{left_of}
+use proofs.Names.{arith, ◌+◌, ◌-◌, ◌*◌, not, if◌then◌else◌, wrong, wrong', plus_none, ProcId, LineSet, is_data}
+use proofs.Names.{is_message_out, connection, Row, Change, Connection, Handshakes, ScenarioValue, Obeys, CmdDef}
+use proofs.Names.{command_at, data_runs, Sent, command_id, command_item, has_item, same_item, policy_of, Speech}
+use proofs.Names.{bytes_of_messages, phase_entry, phase_leaving, phase_of, run_length_if, Phase, target_def_of}
+use proofs.Names.{progress_in, IsPrompt, RunState, bus_of, drives_of, run_state, answering_of, leaving, offering_of}
+use proofs.Names.{pace_of, serving_of, task_of, is_refusing, is_struck_phase, self_item, aborts_left, bytes_after}
+use proofs.Names.{command_left, commands_left, future_left, is_in_data, open_left, resets_left, sense_left, serves_item}
+use proofs.Names.{unsent_left, measure, bytes_if_begun, is_asked, phase_left, phases_in, phases_left, requests_by}
+use proofs.Names.{requests_left, sense_bytes_left, struck_left, under_way, for_fault, for_phase, for_reselection}
+use proofs.{Names.{for_reset}, Connections.BeginFalls.{command_apart}, Lines.Futures.{but_one_command}}
+use proofs.{Lines.Lowers.{left_by}, Phases.Still.{shape}, Turns.Falls.{TurnRow, fresh_way, no_data_in, no_data_out}}
+use proofs.Turns.{Falls.{turn_handshakes, turn_in, turn_phases, turn_struck}, Pays.{out_facts, phase_pays}}
+use proofs.Turns.{Struck.{struck_known}, Table.{left_of}}
 
 -- ---- what the new phase may ask for: its run
 
@@ -100,7 +100,7 @@ pub command_pays_run : (s : ScenarioValue) (j k : RunState) (m run : ℕ) (c : C
     → future_left s j + 8 * run ≤ future_left s k
 command_pays_run s j k m run c at sent over h fewer =
     let same : for_fault s * length j.faults ≡ for_fault s * length k.faults = λ i. for_fault s * length (h.faults i) in
-    let commands = less_zero _ _ (but_one_command s j k (8 * run) 0 m c at other (plus_none _ _ _ own)) in
+    let commands = less_zero _ _ (but_one_command s j k (8 * run) 0 m c at other (no_more _ _ _ own)) in
     subst (λ (w : ℕ). commands_left s j 1 s.commands + aborts_left s j.story.sent 1 s.aborts + for_reset * resets_left j s.resets + w + 8 * run ≤ future_left s k) (sym same)
     (subst (λ (b : Sent). commands_left s j 1 s.commands + aborts_left s b 1 s.aborts + for_reset * resets_left j s.resets + for_fault s * length k.faults + 8 * run ≤ future_left s k) (sym h.sent)
     (sum (commands_left s j 1 s.commands) (commands_left s k 1 s.commands) (aborts_left s k.story.sent 1 s.aborts) (resets_left j s.resets) (resets_left k s.resets) (for_fault s * length k.faults) commands h.resets))
@@ -111,8 +111,8 @@ command_pays_run s j k m run c at sent over h fewer =
     less_zero : (a b : ℕ) → a ≤ b + 0 → a ≤ b
     less_zero a b h = omega arith
 
-    plus_none : (a b g : ℕ) → a + g ≤ b → a + g ≤ b + 0
-    plus_none a b g h = omega arith
+    no_more : (a b g : ℕ) → a + g ≤ b → a + g ≤ b + 0
+    no_more a b g h = omega arith
 
     made : ℕ → ℕ
     made n = (progress_in k.progress (command_id n)).runs
@@ -134,11 +134,8 @@ command_pays_run s j k m run c at sent over h fewer =
         let e : command_left s j m c ≡ open_left s true true (made m) c = after m c ∙ (λ i. if over i then sense_left k.story.sent m else if sent i then open_left s (self_item (command_item m) i) true (made m) c else unsent_left s k.story.sent m c) in
         let f : command_left s k m c ≡ open_left s true false (made m) c = before m c ∙ (λ i. if over i then sense_left k.story.sent m else if sent i then open_left s (self_item (command_item m) i) false (made m) c else unsent_left s k.story.sent m c) in
         chain (command_left s j m c) (open_left s true true (made m) c) (open_left s true false (made m) c) (command_left s k m c) e f
-        (by (data_runs s c) (made m) (bytes_after s c (made m + 1)) (bytes_after s c (made m)) (bytes_after s c (made m + 0)) (ap (bytes_after s c) (none_more (made m))) fewer)
+        (by (data_runs s c) (made m) (bytes_after s c (made m + 1)) (bytes_after s c (made m)) (bytes_after s c (made m + 0)) (ap (bytes_after s c) (plus_none (made m))) fewer)
       where
-        none_more : (n : ℕ) → n + 0 ≡ n
-        none_more n = omega arith
-
         by : (r n x y z : ℕ) → z ≡ y → run + x ≤ y → 1024 * (r - n + 0) + 8 * x + 4096 + 8 * run ≤ 1024 * (r - n + 0) + 8 * z + 4096
         by r n x y z e h = omega arith
 

@@ -4,10 +4,9 @@ use Rattle.measure_laws.proofs
 use proofs.Names.{◌≡◌, ◌<◌, ◌∙◌, Bool, true, false, List, [], ◌∷◌, Option, Some, None, refl, sym, ap, subst}
 use proofs.Names.{if◌then◌else◌, Event, LineSet, connection, bus, Row, Change, Connection, ScenarioValue, RowReading}
 use proofs.Names.{row_reading, CarriedBytes, carried_if, is_completion, row_events_by, has_item, process, Link, Story}
-use proofs.Names.{story_by_change, story_on_bus, run_state_plain, IsPlain, RunState, bus_of, item_of, run_state, Knows}
-use proofs.Names.{change_plain, carried_of_item, NextStood, Whole, ends_open, known_served, NoEnds, Shown, completes}
-use proofs.{Names.{no_ends, row_shown}, Lines.Lowers.{EndFirst, Lowers, events_lower, lowers_on, lowers_same}}
-use proofs.Lines.Shifts.{inside}
+use proofs.Names.{story_by_change, story_on_bus, RunState, bus_of, item_of, run_state, Knows, change_plain, NextStood}
+use proofs.Names.{carried_of_item, Whole, ends_open, known_served, NoEnds, Shown, completes, no_ends, row_shown}
+use proofs.Lines.{Lowers.{EndFirst, Lowers, events_lower, lowers_on, lowers_same}, Shifts.{inside}}
 
 -- Each event of the row that ends a command is the first that does.
 abbrev pub TellsFirst : ScenarioValue → List Row → Row → Type 0
@@ -65,14 +64,11 @@ row_first s p row n lt was st con off calm = go (row_shown s k.story d row knows
     b : Story
     b = story_by_change s k.story d row
 
-    pl : IsPlain s p k
-    pl = run_state_plain s p was.stood.standing.devices
-
     con_is : k.story.bus_state.connection ≡ Some n
-    con_is = pl.connection ∙ con
+    con_is = was.stood.plain.connection ∙ con
 
     off_is : (bus_of k).rst ≡ false
-    off_is = ap (λ (l : LineSet). l.rst) pl.bus ∙ off
+    off_is = ap (λ (l : LineSet). l.rst) was.stood.plain.bus ∙ off
 
     calm_is : d.change.after.rst ≡ false
     calm_is = ap (λ (x : Change). x.after.rst) (change_plain s row p was.stood.standing.devices lt) ∙ calm

@@ -5,7 +5,8 @@ use proofs.Names.{list_any, ◌+◌, ◌-◌, ◌*◌, ◌==◌, ◌||◌, ◌++
 use proofs.Names.{CHECK_CONDITION, ScenarioValue, AbortDef, CmdDef, Item, Sent, abort, command_item, count_item}
 use proofs.Names.{has_item, is_done, is_open, process, sense_item, Ending, Story, by_abort, by_reset, by_status}
 use proofs.Names.{is_aborted, is_sense_stopped, story_after_event, story_after_events, story_with_end, story_with_ends}
-use proofs.Names.{story_with_over, with_check, retries_of, in_append, more_has, aborts_left, sense_left, unsent_left}
+use proofs.Names.{story_with_over, with_check, retries_of, not_unless, in_append, more_has, aborts_left, sense_left}
+use proofs.Names.{unsent_left}
 
 -- ---- what is sent and tried stays, what is over stays so, and who newly ended with CHECK CONDITION was not over
 
@@ -23,10 +24,6 @@ lowers_same a b e = record {
   checks = λ n z. inl (ap (λ (x : Sent). list_any (λ k. k == n) x.checks) (sym e) ∙ z);
 }
 
-not_before : (q r : Bool) → (q ≡ true → r ≡ true) → r ≡ false → q ≡ false
-not_before true r f e = wrong (sym (f refl) ∙ e)
-not_before false r f e = refl
-
 pub lowers_on : (a b c : Sent) → Lowers a b → Lowers b c → Lowers a c
 lowers_on a b c h g = record {
   sent = g.sent ∙ h.sent;
@@ -34,7 +31,7 @@ lowers_on a b c h g = record {
   over = λ i z. g.over i (h.over i z);
   checks = λ n z. elim (g.checks n z) [
     | inl x ↦ h.checks n x
-    | inr x ↦ inr (not_before (has_item a.over (command_item n)) (has_item b.over (command_item n)) (h.over (command_item n)) x)
+    | inr x ↦ inr (not_unless (has_item a.over (command_item n)) (has_item b.over (command_item n)) (h.over (command_item n)) x)
   ];
 }
 
@@ -84,14 +81,11 @@ ends_lower drops stops e n (c ∷ commands) b =
     lowers_on b.sent next.sent (story_with_ends drops stops e (n + 1) commands next).sent (one_end (is_open b.sent n && drops c) (stops c && list_any (λ k. k == n) b.sent.checks) n e b) (ends_lower drops stops e (n + 1) commands next)
 
 pub event_lowers : (s : ScenarioValue) (b : Story) (event : Event) → EndsFirst b event → Lowers b.sent (story_after_event s b event).sent
-event_lowers s b (Event.Accept id) h = lowers_same b.sent b.sent refl
-event_lowers s b (Event.Refuse id) h = lowers_same b.sent b.sent refl
-event_lowers s b (Event.Run id) h = lowers_same b.sent b.sent refl
-event_lowers s b (Event.Fail id code) h = lowers_same b.sent b.sent refl
 event_lowers s b (Event.End id status) h = end_lowers b id status h
 event_lowers s b (Event.Lost id) h = over_lowers b.sent (process id)
 event_lowers s b (Event.Aborted host target unit what) h = ends_lower (is_aborted host target unit what) (is_sense_stopped host target unit what) by_abort 1 s.commands b
 event_lowers s b (Event.Reset dev) h = ends_lower (λ c. true) (λ c. true) by_reset 1 s.commands b
+event_lowers s b _ h = lowers_same b.sent b.sent refl
 
 -- All events of a row.
 abbrev pub EndFirst : ScenarioValue → Story → List Event → Type 0
@@ -158,9 +152,6 @@ one_lowers s a b x y n c h many less = go (has_item a.over (command_item n)) ref
     few : sense_left b n ≤ 4096
     few = sense_few b n
 
-    more : 4096 ≤ unsent_left s a n c
-    more = unsent_many s a n c
-
     go : (p : Bool) → has_item a.over (command_item n) ≡ p → (q : Bool) → has_item b.over (command_item n) ≡ q → (r : Bool) → has_item a.sent (command_item n) ≡ r
         → left_by s b x n c ≤ left_by s a y n c
     go p ep q eq r er = over (λ i. has_item (h.sent i) (command_item n)) p ep q eq r er
@@ -183,7 +174,7 @@ one_lowers s a b x y n c h many less = go (has_item a.over (command_item n)) ref
             by true true r f u v w t = sense_lowers a b n h u
             by true false r f u v w t = wrong (sym (f refl) ∙ v)
             by false true true f u v w t = let k = few in omega arith
-            by false true false f u v w t = let k = few in let l = more in omega arith
+            by false true false f u v w t = let k = few in let l = (unsent_many s a n c) in omega arith
             by false false true f u v w t = less (λ i. t i && not (v i))
             by false false false f u v w t = let k = same in omega arith
 

@@ -7,7 +7,7 @@ use proofs.Names.{connection_after, Row, Connection, handshakes, ScenarioValue, 
 use proofs.Names.{command_item, Link, Story, story_in_connection, begun, phase_of, run_state_plain, progress_in}
 use proofs.Names.{RunState, bus_of, process_served, leaving_of, progress_after, progress_by_leaving, run_state}
 use proofs.Names.{served_after, answering_of, offering_of, is_refusing, is_struck_phase, change_plain, EndLines}
-use proofs.Names.{connected_bus, row_of_lines, inside_sent, EndRow, turn, is_pulsed, future_left, is_in_data, open_left}
+use proofs.Names.{connected_bus, row_of_lines, EndRow, turn, is_pulsed, inside_sent, future_left, is_in_data, open_left}
 use proofs.Names.{resets_left, serves_item, measure, phases_left, requests_left, sense_bytes_left, struck_left}
 use proofs.{Names.{for_byte}, Lines.{Futures.{future_falls, open_of}, Lowers.{Lowers}}, Phases.Calm.{phase_by_lines}}
 use proofs.Phases.{Calm.{way_by}, Still.{shape}}

@@ -1,17 +1,17 @@
 -- The measure falls with each kind of row in a phase with which neither REQ nor ACK rises.
 use Rattle.measure_laws.proofs
-use proofs.Names.{ℕ, suc, zero, ◌≡◌, ◌≤◌, ◌∙◌, Bool, true, false, List, ◌∷◌, length, refl, sym, ap, subst, arith, ◌&&◌}
+use proofs.Names.{ℕ, suc, ◌≡◌, ◌≤◌, ◌∙◌, Bool, true, false, List, ◌∷◌, length, refl, sym, ap, subst, arith, ◌&&◌}
 use proofs.Names.{eqb-true, ◌+◌, ◌-◌, ◌*◌, ◌==◌, if◌then◌else◌, not, nat_lt, slice_index_or, eq_self, LineSet, Row}
 use proofs.Names.{Connection, Handshakes, handshakes, ScenarioValue, bits_if, byte_bits, Offering, policy_of}
 use proofs.Names.{bytes_of_messages, begun, phase_of, follows_in, run_length_if, Sending, Phase, run_state_plain}
 use proofs.Names.{target_def_of, AreOfDevices, bus_of, run_state, answering_of, offering_of, sending_of, serving_at}
-use proofs.Names.{task_of, EndLines, Linked, initiator_side, target_side, row_of_lines, DataRow, bytes_stay}
-use proofs.Names.{count_stays, sending_stays, some_byte, given_bits, initiator_row, target_row, Settling, Shaking}
-use proofs.Names.{Turning, ends, Pulsing, byte_in_run, next_bits, offset_here, run_count, byte_is, offering_is}
-use proofs.Names.{data_row, turn, is_pulsed, one_where, measure, is_asked, requests_by, requests_left}
-use proofs.Phases.Calm.{Calm, calm_falls, calm_initiator, calm_requests, calm_still, calm_target, hand_stays}
-use proofs.Phases.{Calm.{offset_stays, way_by}, Pulls.{hands, in_shape, next_left, offers, out_shape, releases}}
-use proofs.Phases.{Pulls.{waiting_out}, Still.{ack_ends_falls, gives_falls, req_ends_falls}}
+use proofs.Names.{task_of, EndLines, Linked, initiator_side, target_side, row_of_lines, some_byte, DataRow, bytes_stay}
+use proofs.Names.{count_stays, sending_stays, initiator_row, target_row, given_bits, Settling, Shaking, Turning, ends}
+use proofs.Names.{Pulsing, byte_in_run, next_bits, offset_here, run_count, some_count, byte_is, offering_is, data_row}
+use proofs.{Names.{turn, is_pulsed, one_where, measure, is_asked, requests_by, requests_left}, Phases.Calm.{Calm}}
+use proofs.Phases.Calm.{calm_falls, calm_initiator, calm_requests, calm_still, calm_target, hand_stays, offset_stays}
+use proofs.Phases.{Calm.{way_by}, Pulls.{hands, in_shape, next_left, offers, out_shape, releases, waiting_out}}
+use proofs.Phases.Still.{ack_ends_falls, gives_falls, req_ends_falls}
 
 -- ---- before the first REQ
 
@@ -206,10 +206,6 @@ pulsing_changes s p t n ack atn y dv h other =
     let is : next_left z z ≡ 0 = ap (λ (q : Bool). one_where (not q)) (eq_self z) in
     calm_pulse_in s p t n.target _ _ n ack atn false ack atn false y z h (calm_target s p t n (ends false ack atn 0 false false true false y) false z true dv h.linked h.phase.begun_is h.offset refl) (omega (arith, was, is))
 
-some_wait : (w : ℕ) → (w == 0) ≡ false → 1 ≤ w
-some_wait zero e = absurd cc
-some_wait (suc w) e = omega arith
-
 one_at_most : (q : Bool) → one_where q ≤ 1
 one_at_most true = omega arith
 one_at_most false = omega arith
@@ -220,7 +216,7 @@ pub pulsing_gives : (s : ScenarioValue) (p : List Row) (t : ℕ) (n : Connection
 pulsing_gives s p t n req atn x dv h waits other =
     let g = byte_bits (data_given (sending_of s (run_state s p))) in
     let w = length (handshakes p).waiting in
-    let some = some_wait w waits in
+    let some = some_count w waits in
     let few = one_at_most (not (g == 0)) in
     let was : one_where ((true && x == g) && not (w == 0)) ≡ 0 = ap (λ (q : Bool). one_where ((true && q) && not (w == 0))) other in
     let is : one_where ((true && g == g) && not (w == 0)) ≡ 1 = λ i. one_where ((true && eq_self g i) && not (waits i)) in

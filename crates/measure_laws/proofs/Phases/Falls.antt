@@ -4,8 +4,8 @@ use proofs.Names.{ℕ, suc, ◌≡◌, ◌≤◌, ◌<◌, ◌∙◌, Bool, true
 use proofs.Names.{ltb-true, ◌==◌, not, if◌then◌else◌, nat_lt, wrong, LineSet, connection, bus, Row, Connection}
 use proofs.Names.{Handshakes, handshakes, ScenarioValue, Obeys, begun, phase_of, follows_in, Phase, IsPrompt}
 use proofs.Names.{AreOfDevices, run_state, serving_at, obeys_fits, least_is, EndLines, Linked, offering_with}
-use proofs.Names.{runs_are_short, initiator_row, target_row, Settling, Shaking, ends, run_count, PhaseRow, is_pulsed}
-use proofs.Names.{pulsed_as, Whole, standing_next, whole, read_books, is_data_in, measure}
+use proofs.Names.{initiator_row, target_row, runs_are_short, Settling, Shaking, ends, run_count, by_bool, PhaseRow}
+use proofs.Names.{is_pulsed, pulsed_as, Whole, standing_next, whole, read_books, is_data_in, measure}
 use proofs.{Balances.Facts.{all_answered, kind_of_row}, Lines.Endings.{TellsFirst, row_first}, Phases.Asks.{HasRoomOut}}
 use proofs.Phases.{Asks.{offered_asks_by, room_in, room_out, settled_asks_by, shaking_asks_by}, Bytes.{shift_told}}
 use proofs.Phases.CalmKinds.{pulsing_changes, pulsing_ends_ack, pulsing_ends_req, pulsing_gives, pulsing_releases}
@@ -14,7 +14,7 @@ use proofs.Phases.{CalmKinds.{turning_offers, turning_releases}, Pulses.{pulsing
 use proofs.Phases.{Pulses.{pulsing_asks_out, pulsing_sends}, Room.{first_room_in, next_room_in}, Rows.{shaking_answers}}
 use proofs.{Phases.Rows.{shaking_answers_data, shaking_sends_by, shaking_sends_data}, Words.Rows.{words_first}}
 use proofs.Words.{Rows.{words_next, words_say}, Takes.{takes_few}}
-use Rattle.progress_laws.specs.trace_laws.proofs.Lines.Phases as kinds
+use Rattle.progress_laws.specs.row_laws.proofs.Lines.Phases as kinds
 
 abbrev pub FallsWith : ScenarioValue → List Row → Row → Type 0
 FallsWith s p row = suc (measure s (row ∷ p)) ≤ measure s p
@@ -91,9 +91,6 @@ out_sends s p row n atn true cd x o prompt dv h some e =
 -- ---- any row
 
 pub inside_falls : (s : ScenarioValue) (p : List Row) (row : Row) (n : Connection) → Obeys s → IsPrompt s p → AreOfDevices p → TellsFirst s p row → (k : PhaseRow s p n row) → is_edge k ≡ false → FallsWith s p row
-inside_falls s p row n o prompt dv first (kinds.opens h e) z = wrong z
-inside_falls s p row n o prompt dv first (kinds.strikes f bit h b got who e) z = wrong z
-inside_falls s p row n o prompt dv first (kinds.leaves atn msg cd io x y h b known asked rest follows e) z = wrong z
 inside_falls s p row n o prompt dv first (kinds.hands atn msg cd io y h e) z = subst (FallsWith s p) (sym e) (settling_hands s p row.time n atn msg cd io y dv h)
 inside_falls s p row n o prompt dv first (kinds.releases atn x msg cd h some e) z = subst (FallsWith s p) (sym e) (turning_releases s p row.time n atn x msg cd dv h some)
 inside_falls s p row n o prompt dv first (kinds.offers atn x msg cd h e) z = subst (FallsWith s p) (sym e) (turning_offers s p row.time n atn x msg cd _ dv h)
@@ -119,6 +116,7 @@ inside_falls s p row n o prompt dv first (kinds.ends_req_pulse io ack atn x y h 
 inside_falls s p row n o prompt dv first (kinds.changes_pulse ack atn y h other e) z = subst (FallsWith s p) (sym e) (pulsing_changes s p row.time n ack atn y dv h other)
 inside_falls s p row n o prompt dv first (kinds.asks_pulse_in ack atn y h byte follows room e) z = subst (FallsWith s p) (sym e) (pulsing_asks_in s p row.time n ack atn y o dv h follows)
 inside_falls s p row n o prompt dv first (kinds.asks_pulse_out ack atn x h follows room e) z = subst (FallsWith s p) (sym e) (pulsing_asks_out s p row.time n ack atn x o dv h follows)
+inside_falls s p row n o prompt dv first _ z = wrong z
 
 -- The same of the next row of a prompt trace: it falls, or is of one of these three kinds.
 pub data InsideOrEdge (s : ScenarioValue) (p : List Row) (row : Row) (n : Connection) : Type 0 where
@@ -126,7 +124,10 @@ pub data InsideOrEdge (s : ScenarioValue) (p : List Row) (row : Row) (n : Connec
   edge : (k : PhaseRow s p n row) → is_edge k ≡ true → InsideOrEdge s p row n
 
 pub connection_falls : (s : ScenarioValue) (p : List Row) (row : Row) (n : Connection) → Obeys s → IsPrompt s (row ∷ p) → connection p ≡ Some n → (bus p).rst ≡ false → (bus (row ∷ p)).rst ≡ false → InsideOrEdge s p row n
-connection_falls s p row n o prompt con calm off = go (is_edge k) refl
+connection_falls s p row n o prompt con calm off =
+    by_bool (is_edge k)
+    (λ e. edge k e)
+    (λ e. inside (inside_falls s p row n o prompt.0 was.stood.standing.devices first k e))
   where
     was : Whole s p
     was = whole s p o prompt.0
@@ -136,7 +137,3 @@ connection_falls s p row n o prompt con calm off = go (is_edge k) refl
 
     first : TellsFirst s p row
     first = row_first s p row n (least_is s p row prompt.1).inside was (standing_next s p row o prompt was) con calm off
-
-    go : (q : Bool) → is_edge k ≡ q → InsideOrEdge s p row n
-    go true e = edge k e
-    go false e = inside (inside_falls s p row n o prompt.0 was.stood.standing.devices first k e)

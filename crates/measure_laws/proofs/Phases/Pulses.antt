@@ -5,8 +5,8 @@ use proofs.Names.{◌&&◌, ltb-true, nat_tests, ◌+◌, ◌-◌, ◌*◌, ◌+
 use proofs.Names.{counted_on, LineSet, Row, Connection, Handshakes, answered, answered_if, asked, asked_if, handshakes}
 use proofs.Names.{opened, Request, ScenarioValue, Obeys, bits_if, byte_bits, AreOfDevices, run_state, answering_of}
 use proofs.Names.{offering_of, sending_of, obeys_fits, is_refusing, EndLines, initiator_side, target_side, row_of_lines}
-use proofs.Names.{bytes_stay, count_stays, initiator_in_phase, no_rise, target_in_phase, runs_are_short, initiator_row}
-use proofs.Names.{target_row, ends, Pulsing, byte_in_run, next_bits, run_count, data_row, turn, one_where, measure}
+use proofs.Names.{bytes_stay, count_stays, initiator_in_phase, no_rise, target_in_phase, initiator_row, target_row}
+use proofs.Names.{runs_are_short, ends, Pulsing, byte_in_run, next_bits, run_count, data_row, turn, one_where, measure}
 use proofs.{Names.{requests_left, for_byte}, Lines.Shifts.{Shifts, shift_falls}, Phases.Bytes.{quiet_other}}
 use proofs.Phases.{Bytes.{shift_initiator, shift_target}, Calm.{way_by}, CalmKinds.{bits_at, data_given, data_requests}}
 use proofs.Phases.{CalmKinds.{given_at}, Pulls.{in_shape, next_left, out_shape, waiting_out}, Stays.{phases_stay}}

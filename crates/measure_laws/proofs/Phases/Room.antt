@@ -1,8 +1,8 @@
 -- What is asked for is of the phase: so fewer requests are left after it, of MESSAGE IN, STATUS, DATA IN and DATA OUT.
 use Rattle.measure_laws.proofs
 use proofs.Names.{ℕ, ◌≡◌, ◌≤◌, ◌<◌, ◌∙◌, Bool, true, false, List, [], ◌∷◌, length, refl, sym, ap, subst, arith, Option}
-use proofs.Names.{Some, None, ◌&&◌, ltb-true, ◌+◌, ◌++◌, ◌==◌, ◌^◌, if◌then◌else◌, not, ◌||◌, is_some, nat_lt, wrong'}
-use proofs.Names.{Row, Connection, Handshakes, handshakes, no_handshakes, MsgIn, ScenarioValue, Obeys}
+use proofs.Names.{Some, None, ltb-true, ◌+◌, ◌++◌, ◌==◌, ◌^◌, if◌then◌else◌, not, ◌||◌, is_some, nat_lt, wrong'}
+use proofs.Names.{and_second, Row, Connection, Handshakes, handshakes, no_handshakes, MsgIn, ScenarioValue, Obeys}
 use proofs.Names.{bytes_of_messages, message_bytes, phase_of, follows_in, Messages, Phase, run_state_plain}
 use proofs.Names.{AreOfDevices, run_state, serving_at, obeys_fits, Linked, offering_with, runs_are_short, Shaking, ends}
 use proofs.{Names.{run_count, Planned}, Phases.Asks.{HasRoomIn}}
@@ -65,15 +65,11 @@ first_room_in s p n bsy atn false false y o dv planned h quiet run =
 
 -- ---- the next one
 
-two_parts : (a b : Bool) → (a && b) ≡ true → b ≡ true
-two_parts true b e = e
-two_parts false b e = wrong' e
-
 pub next_room_in : (s : ScenarioValue) (p : List Row) (n : Connection) (atn msg cd : Bool) (y : ℕ) → Obeys s → Shaking p n msg cd true false false atn 0 y → (offering_with s p n true (ends false false atn 0 msg cd true false y)).follows ≡ true
     → HasRoomIn msg cd (handshakes p).requests (length (bytes_of_messages (run_state s p).exchange.plan.messages)) (run_count s p n)
 next_room_in s p n atn true cd y o h follows =
     let m = (run_state s p).exchange.plan.messages in
-    (ltb-true (handshakes p).requests (length (bytes_of_messages m)) (two_parts ((handshakes p).requests == 0 || not atn) (nat_lt (handshakes p).requests (length (bytes_of_messages m))) follows), messages_short m)
+    (ltb-true (handshakes p).requests (length (bytes_of_messages m)) (and_second ((handshakes p).requests == 0 || not atn) (nat_lt (handshakes p).requests (length (bytes_of_messages m))) follows), messages_short m)
 next_room_in s p n atn false true y o h follows = wrong' (sym h.asked ∙ follows)
 next_room_in s p n atn false false y o h follows =
     let less : nat_lt (handshakes p).requests (run_count s p n) ≡ true =

@@ -21,11 +21,7 @@ heard_words false p x y Cause.InStatus = refl
 
 heard_phases : (b : Bool) (p : Plan) (x : Said) (y : Bool) (phase : Phase) → phases_in b (record p { said = x; struck = y }) phase ≡ phases_in b p phase
 heard_phases b p x y Phase.MessageOut = heard_words b p x y p.cause
-heard_phases b p x y Phase.MessageIn = refl
-heard_phases b p x y Phase.Command = refl
-heard_phases b p x y Phase.Status = refl
-heard_phases b p x y Phase.DataIn = refl
-heard_phases b p x y Phase.DataOut = refl
+heard_phases b p x y _ = refl
 
 byte_phases : (b : Bool) (p : Plan) (last : Bool) (m : Option MsgOut) (out : Bool) (phase : Phase) → phases_in b (if out then plan_after_message p last m else p) phase ≡ phases_in b p phase
 byte_phases b p true m true phase = heard_phases b p (said_with_if m nothing_heard) false phase

@@ -6,7 +6,7 @@ use proofs.Names.{change_of, rises, LineSet, bus, drives, driven_after, Row, Cha
 use proofs.Names.{command_at, event_sent, RowReading, row_reading, link_events, Item, Sent, command_item, has_item}
 use proofs.Names.{is_open, sense_item, Ending, Story, by_reset, story_after_event, story_after_events, story_with_end}
 use proofs.Names.{story_with_ends, story_with_over, story_on_bus, AreOfDevices, RunState, run_state, change_plain}
-use proofs.{Names.{none_some, more_has, own_has, raises_or_stands}, Lines.Lowers.{Lowers, events_lower, lowers_same}}
+use proofs.{Names.{none_some, raises_or_stands, more_has, own_has}, Lines.Lowers.{Lowers, events_lower, lowers_same}}
 
 -- ---- what an event that names a command leaves of it
 

@@ -3,7 +3,7 @@ use Rattle.measure_laws.proofs
 use proofs.Names.{inl, inr, ℕ, ◌≡◌, ◌≢◌, ◌<◌, ◌∙◌, false, List, [], ◌∷◌, refl, sym, ap, subst, arith, Option, cases_eq}
 use proofs.Names.{common_steps, elements, ◌+◌, not, slice_set, falls, LineSet, when, drives, driven_at, Row, Change}
 use proofs.Names.{ScenarioValue, ResetDef, row_reading, run_state_plain, is_reset_past, Own, own_after, own_at, own_of}
-use proofs.Names.{AreOfDevices, RunState, drives_of, run_state, released_own, drives_own, row_of_lines, awaits_reset}
+use proofs.Names.{AreOfDevices, RunState, drives_of, run_state, drives_own, released_own, row_of_lines, awaits_reset}
 use proofs.Names.{one_where, resets_left}
 
 pub driven_other : (xs : List LineSet) (i j : ℕ) (v : LineSet) → i ≢ j → driven_at (slice_set xs i v) j ≡ driven_at xs j

@@ -67,11 +67,8 @@ abbrev pub quiet : (ℕ → LineSet) → ℕ
 quiet f = quiet_one (f 0) + quiet_one (f 1) + quiet_one (f 2) + quiet_one (f 3) + quiet_one (f 4) + quiet_one (f 5) + quiet_one (f 6) + quiet_one (f 7)
 
 one_or : (l : LineSet) → busy_one l + quiet_one l ≡ 1
-one_or l = go (same_set l none)
-  where
-    go : (q : Bool) → (if q then 0 else 1) + (if q then 1 else 0) ≡ 1
-    go true = refl
-    go false = refl
+one_or l =
+    elim (same_set l none) as (λ q. (if q then 0 else 1) + (if q then 1 else 0) ≡ 1) [ true ↦ refl | false ↦ refl ]
 
 pub all_devices : (f : ℕ → LineSet) → busy f + quiet f ≡ 8
 all_devices f =

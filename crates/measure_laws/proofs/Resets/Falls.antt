@@ -10,11 +10,11 @@ use proofs.Names.{RowReading, row_reading, Sent, is_open, story_after_events, is
 use proofs.Names.{story_with_aim, bus_clear, due_at, earlier_due, sooner_time, time_if, Due, run_state_plain}
 use proofs.Names.{is_reset_past, reset_from, IsLeast, due, own_at, own_after, own_of, AreOfDevices, IsPlain, RunState}
 use proofs.Names.{bus_of, drives_of, run_state, is_refusing, is_struck_phase, change_plain, nothing_shown, on_free}
-use proofs.Names.{due_in_reset, is_at, row_is, off_at, due_calm, due_holding, due_there, one_of, own_reset_is}
-use proofs.Names.{released_own, reset_after, rst_own, drives_own, drives_other, always_is, calm_first, device_with}
+use proofs.Names.{drives_own, drives_other, due_calm, due_holding, due_there, one_of, own_reset_is, released_own}
+use proofs.Names.{reset_after, rst_own, off_at, due_in_reset, is_at, row_is, always_is, calm_first, device_with}
 use proofs.Names.{own_time, reset_due, unreset_due, row_of_lines, BusStage, CalmStanding, HoldsReset, IsUnderRst}
-use proofs.Names.{Standing, UnderRst, holds, lingers, quiet, FallsQuiet, falls_quiet, under_rst, bsy_stands, ends_apart}
-use proofs.Names.{awaits_reset, future_left, one_where, resets_left, connection_if, measure, measure_by}
+use proofs.Names.{Standing, UnderRst, holds, lingers, quiet, by_bool, under_rst, bsy_stands, ends_apart, FallsQuiet}
+use proofs.Names.{falls_quiet, awaits_reset, future_left, one_where, resets_left, connection_if, measure, measure_by}
 use proofs.{Names.{connection_left, drivers, stage_left}, Lines.{Futures.{future_falls}, Lowers.{lowers_same}}}
 use proofs.Resets.{Closed.{closed_under_reset, under_reset_row}, Counts.{driven_other, owns_other, resets_stay}}
 use proofs.Resets.Drivers.{few_drivers, lets_go}
@@ -212,7 +212,10 @@ lowers_drivers s p t d dv lt was on some less =
 
 -- RST stays true where a device releases other lines.
 stays_true : (p : List Row) (t d : ℕ) → (bus p).rst ≡ true → d < 8 → (drives p d).rst ≡ false → (bus (row_of_lines t d none ∷ p)).rst ≡ true
-stays_true p t d rst lt off = go (bus q).rst refl
+stays_true p t d rst lt off =
+    by_bool (bus q).rst
+    (λ h. h)
+    (λ h. wrong (sym rst ∙ bus_off (λ y. y.rst) (λ _ _. refl) refl p (all_off h)))
   where
     q : List Row
     q = row_of_lines t d none ∷ p
@@ -223,10 +226,6 @@ stays_true p t d rst lt off = go (bus q).rst refl
           | inl same ↦ ap (λ (k : ℕ). (drives p k).rst) same ∙ off
           | inr ne ↦ ap (λ (y : LineSet). y.rst) (sym (drives_other p t d none e ne)) ∙ off_at q h e le
         ]
-
-    go : (r : Bool) → (bus q).rst ≡ r → (bus q).rst ≡ true
-    go true h = h
-    go false h = wrong (sym rst ∙ bus_off (λ y. y.rst) (λ _ _. refl) refl p (all_off h))
 
 -- A device releases what it drove, but not RST.
 pub clear_falls : (s : ScenarioValue) (p : List Row) (t d : ℕ) → AreOfDevices p → d < 8 → (bus p).rst ≡ true → (drives p d).rst ≡ false → same_set (drives p d) none ≡ false → suc (measure s (row_of_lines t d none ∷ p)) ≤ measure s p
@@ -329,14 +328,11 @@ free_falls s p t d dv lt u apart calm off some less =
     pk : IsPlain s p k
     pk = run_state_plain s p dv
 
-    link : k.story.link ≡ None
-    link = u.link
-
     sent : j.story.sent ≡ k.story.sent
     sent =
         let e : reading.change.after.rst ≡ false = ap (λ (c : Change). c.after.rst) change ∙ off in
         let next : reading.next ≡ None = (λ i. connection_after (pk.connection i) (pk.call i) (change i) row) ∙ alone in
-        let shown = nothing_shown s k.story reading row e link in
+        let shown = nothing_shown s k.story reading row e u.link in
         let by = on_free s k.story reading row e (pk.connection ∙ apart) next in
         let entry : is_arbitration_entry k.story reading ≡ false = ap (λ (x : Bool). x && not reading.change.before.sel && is_none k.story.bus_state.connection) (no_rise reading.change.own.bsy) in
         let sel : falls reading.change.before.sel reading.change.after.sel ≡ false = ap (λ (c : Change). falls c.before.sel c.after.sel) change ∙ ap (λ (x : Bool). falls x (bus q).sel) calm.sel in

@@ -3,7 +3,7 @@ use Rattle.measure_laws.proofs
 use proofs.Names.{inl, inr, ℕ, ◌≡◌, ◌≢◌, ◌<◌, ◌∙◌, false, List, [], ◌∷◌, refl, sym, ap, subst, arith, cases_eq}
 use proofs.Names.{common_steps, elements, ◌+◌, slice_set, drives-fault, LineSet, bus, drives, driven_at, Kind, Drives}
 use proofs.Names.{Fault, Row, ScenarioValue, ResetDef, row_reading, run_state_plain, own_at, AreOfDevices, RunState}
-use proofs.Names.{drives_of, run_state, off_at, drives_own, row_of_fault, row_of_lines, awaits_reset, one_where}
+use proofs.Names.{drives_of, run_state, drives_own, off_at, row_of_fault, row_of_lines, awaits_reset, one_where}
 use proofs.{Names.{resets_left}, Resets.Counts.{resets_stay}}
 
 driven_other : (xs : List LineSet) (i j : ℕ) (v : LineSet) → i ≢ j → driven_at (slice_set xs i v) j ≡ driven_at xs j

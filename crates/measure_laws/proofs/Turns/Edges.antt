@@ -32,14 +32,14 @@ leaving_turn s p row n r = turn_row s p row n r.linked r.turned (ap changes_phas
 
 pub falls_turning : FallsTurning
 falls_turning s p row n r other from into =
-    let pl = run_state_plain s p r.linked.calm.was.stood.standing.devices in
+    let pl = r.linked.calm.was.stood.plain in
     named_turn_falls s p row n r.turned.change r.linked.calm.obeys r.linked.calm.prompt (leaving_turn s p row n r) r.linked.stands (pl.begun ∙ r.begun_is) (ap is_data pl.bus ∙ from) into other r.known
 
 -- ---- a phase turns to MESSAGE OUT
 
 pub falls_words : FallsWordsEntered
 falls_words s p row n r out =
-    let pl = run_state_plain s p r.linked.calm.was.stood.standing.devices in
+    let pl = r.linked.calm.was.stood.plain in
     attended_falls s p row n r.turned.change (leaving_turn s p row n r) (pl.begun ∙ r.begun_is) out
 
 -- ---- a byte of a phase is struck

@@ -3,20 +3,21 @@
 use Rattle.measure_laws.proofs
 use proofs.Names.{inl, inr, ℕ, suc, ◌≡◌, ◌≤◌, ◌<◌, ◌⊎◌, ◌∙◌, Bool, true, false, ◌&&◌, List, ◌∷◌, length, Option, Some}
 use proofs.Names.{None, refl, sym, ap, subst, arith, ◌+◌, ◌*◌, not, ◌||◌, ◌==◌, drop, if◌then◌else◌, is_some, wrong}
-use proofs.Names.{wrong', ProcId, rises, LineSet, changes_phase, is_data, is_message_out, is_fault, receiver_in, bus}
-use proofs.Names.{Row, Change, Connection, Handshakes, no_handshakes, handshakes_after, answered_if, asked_if}
-use proofs.Names.{ScenarioValue, Process, Item, abort, command_id, command_item, process, Answering, Offering}
-use proofs.Names.{policy_of, Speech, bytes_of_messages, plan_anew, phase_entry, phase_leaving, phase_of, run_length_if}
-use proofs.Names.{plan_in_message_out, Leaving, Phase, Plan, run_state_plain, target_def_of, ProcessProgress}
-use proofs.Names.{progress_in, progress_with, RunState, bus_of, drives_of, process_served, leaving_of, progress_after}
-use proofs.Names.{progress_by_leaving, run_state, answering_of, hearing_of, leaving, offering_of, pace_of, serving_of}
-use proofs.Names.{task_of, InConnection, in_connection, reading_is, Knows, RowKind, reading_in, GoesOn, is_refusing}
-use proofs.Names.{is_struck_phase, over_after, Goes, same_runs, done_in_data, Whole, future_left, is_in_data, one_where}
-use proofs.Names.{open_left, resets_left, serves_item, measure, bytes_if_begun, is_asked, phase_left, phases_in}
-use proofs.Names.{phases_left, requests_by, requests_left, sense_bytes_left, struck_left, under_way, has_next_byte}
-use proofs.{Names.{for_byte, for_phase, for_reselection}, Connections.BeginFalls.{calm_resets, few_under_way}}
-use proofs.{Lines.{Futures.{future_falls, open_of}, Lowers.{lowers_same}}, Phases.Still.{shape}, Turns.Table.{left_in}}
-use proofs.{Turns.Table.{left_of, left_to}, Words.Lengths.{few_messages, few_words}}
+use proofs.Names.{wrong', plus_none, and_false, ProcId, rises, LineSet, changes_phase, is_data, is_message_out}
+use proofs.Names.{is_fault, receiver_in, bus, Row, Change, Connection, Handshakes, no_handshakes, handshakes_after}
+use proofs.Names.{answered_if, asked_if, ScenarioValue, Process, Item, abort, command_id, command_item, process}
+use proofs.Names.{Answering, Offering, policy_of, Speech, bytes_of_messages, plan_anew, phase_entry, phase_leaving}
+use proofs.Names.{phase_of, run_length_if, plan_in_message_out, Leaving, Phase, Plan, run_state_plain, target_def_of}
+use proofs.Names.{ProcessProgress, progress_in, progress_with, RunState, bus_of, drives_of, process_served, leaving_of}
+use proofs.Names.{progress_after, progress_by_leaving, run_state, answering_of, hearing_of, leaving, offering_of}
+use proofs.Names.{pace_of, serving_of, task_of, InConnection, in_connection, reading_is, Knows, RowKind, reading_in}
+use proofs.Names.{GoesOn, is_refusing, is_struck_phase, by_bool, Goes, over_after, same_runs, done_in_data, Whole}
+use proofs.Names.{future_left, is_in_data, one_where, open_left, resets_left, serves_item, measure, bytes_if_begun}
+use proofs.Names.{is_asked, phase_left, phases_in, phases_left, requests_by, requests_left, sense_bytes_left}
+use proofs.Names.{struck_left, under_way, has_next_byte, for_byte, for_phase, for_reselection}
+use proofs.{Connections.BeginFalls.{calm_resets, few_under_way}, Lines.Futures.{future_falls, open_of}}
+use proofs.{Lines.Lowers.{lowers_same}, Phases.Still.{shape}, Turns.Table.{left_in, left_of, left_to}}
+use proofs.Words.Lengths.{few_messages, few_words}
 use Rattle.progress_laws.specs.bus_books.specs.Rows as rows
 
 -- A row of a connection that turns to another phase, RST being false before it.
@@ -74,11 +75,9 @@ fresh_way true b h t i g a e = subst (λ (x : Handshakes). under_way true b x t 
 
 few_requests : (struck asked : Bool) (h : Handshakes) (p : Speech) (bytes run : ℕ) (phase : Phase) → h ≡ no_handshakes → length p.words ≤ 8 → bytes ≤ 5 → (phase ≡ Phase.DataIn → ⊥) → (phase ≡ Phase.DataOut → ⊥) → requests_by struck asked h p bytes run phase ≤ 12
 few_requests struck asked h p bytes run Phase.MessageOut e w b fi fo = subst (λ (x : Handshakes). requests_by struck asked x p bytes run Phase.MessageOut ≤ 12) (sym e) (omega arith)
-few_requests struck asked h p bytes run Phase.MessageIn e w b fi fo = omega arith
-few_requests struck asked h p bytes run Phase.Command e w b fi fo = omega arith
-few_requests struck asked h p bytes run Phase.Status e w b fi fo = omega arith
 few_requests struck asked h p bytes run Phase.DataIn e w b fi fo = absurd (fi refl)
 few_requests struck asked h p bytes run Phase.DataOut e w b fi fo = absurd (fo refl)
+few_requests struck asked h p bytes run _ e w b fi fo = omega arith
 
 begun_sum : (b : Bool) (r u : ℕ) → r ≤ 12 → u ≤ 10 → bytes_if_begun b r + u ≤ 106
 begun_sum true r u h g = omega arith
@@ -113,11 +112,7 @@ turn_phase s p row n c h e =
 
 entered : (r : Bool) (p : Plan) (l : Leaving) (phase : Phase) → (phase ≡ Phase.MessageOut → ⊥) → phases_in r (record (plan_anew p) { messages = l.messages; next = l.next }) phase ≡ left_in l phase
 entered r p l Phase.MessageOut z = absurd (z refl)
-entered r p l Phase.MessageIn z = refl
-entered r p l Phase.Command z = refl
-entered r p l Phase.Status z = refl
-entered r p l Phase.DataIn z = refl
-entered r p l Phase.DataOut z = refl
+entered r p l _ z = refl
 
 not_out : (l : LineSet) → is_message_out l ≡ false → (l.msg ≡ true → l.cd ≡ true) → phase_of l ≡ Phase.MessageOut → ⊥
 not_out l e known f = go l.msg refl l.cd refl l.io refl
@@ -139,7 +134,7 @@ turn_phases s p row n c h begun other known r =
     let t = turn_in s p row n c h in
     let l = leaving s k n.target in
     let w = hearing_of k row (reading_in k.story.bus_state n c false) in
-    let b = (run_state_plain s p h.was.stood.standing.devices).begun in
+    let b = h.was.stood.plain.begun in
     let to : l.to ≡ Some (phase_of c.after) = h.lines.whereto (ap changes_phase h.lines_are ∙ h.turned) (sym b ∙ begun) ∙ ap (λ (x : Change). Some (phase_of x.after)) h.lines_are in
     (λ i. if (t.exchange_is i).begun then phases_in r (t.exchange_is i).plan (phase_of (t.bus_is i)) else for_reselection + 8 * for_phase)
     ∙ ap (λ (q : Bool). phases_in r (if not q then record (plan_anew k.exchange.plan) { messages = l.messages; next = l.next } else if k.exchange.begun then plan_in_message_out w k.exchange.plan else plan_anew k.exchange.plan) (phase_of c.after)) other
@@ -149,7 +144,10 @@ turn_phases s p row n c h begun other known r =
 -- ---- the runs that are counted
 
 pub not_done : (s : ScenarioValue) (k : RunState) (n : Connection) → is_in_data k ≡ false → k.exchange.begun ≡ true → (leaving s k n.target).done ≡ false
-not_done s k n still_here b = go (leaving s k n.target).done refl
+not_done s k n still_here b =
+    by_bool (leaving s k n.target).done
+    (λ e. absurd (never (done_in_data (serving_of s k n.target) (bus_of k).atn (phase_of (bus_of k)) (sym (ap (λ (l : Leaving). l.done) left) ∙ e))))
+    (λ e. e)
   where
     from : is_data (bus_of k) ≡ false
     from = sym (λ i. b i && is_data (bus_of k)) ∙ still_here
@@ -160,10 +158,6 @@ not_done s k n still_here b = go (leaving s k n.target).done refl
     never : (phase_of (bus_of k) ≡ Phase.DataIn) ⊎ (phase_of (bus_of k) ≡ Phase.DataOut) → ⊥
     never (inl e) = no_data_in (bus_of k) from e
     never (inr e) = no_data_out (bus_of k) from e
-
-    go : (q : Bool) → (leaving s k n.target).done ≡ q → (leaving s k n.target).done ≡ false
-    go false e = e
-    go true e = absurd (never (done_in_data (serving_of s k n.target) (bus_of k).atn (phase_of (bus_of k)) (sym (ap (λ (l : Leaving). l.done) left) ∙ e)))
 
 pub turn_progress : (s : ScenarioValue) (p : List Row) (row : Row) (n : Connection) (c : Change) → TurnRow s p row n c → (run_state s (row ∷ p)).progress ≡ (if (run_state s p).exchange.begun then progress_by_leaving (run_state s p) (process_served s (run_state s p)) (leaving s (run_state s p) n.target) else (run_state s p).progress)
 turn_progress s p row n c h =
@@ -220,7 +214,7 @@ turn_falls s p row n c h from to pays =
     let lines = (turn_kind row n c g.row_is.kind h.turned).0 in
     let knows : Knows s k n = h.was.stood.books.knows n g.row_is.connection_is g.calm in
     let sent = (over_after s k row n c false knows.link g.row_is (ap (λ (x : Option ℕ). is_some x) (turn_kind row n c g.row_is.kind h.turned).1) knows.link_is).same (inl h.turned) in
-    let still_after : is_in_data j ≡ false = ap (λ (x : Bool). j.exchange.begun && x) (ap is_data t.bus_is ∙ to) ∙ and_no j.exchange.begun in
+    let still_after : is_in_data j ≡ false = ap (λ (x : Bool). j.exchange.begun && x) (ap is_data t.bus_is ∙ to) ∙ and_false j.exchange.begun in
     let moves = still_after ∙ sym from in
     let runs : (id : ProcId) → (progress_in j.progress id).runs ≡ (progress_in k.progress id).runs = turn_runs s p row n c h from in
     let pl = run_state_plain s q (h.below, dv) in
@@ -239,12 +233,5 @@ turn_falls s p row n c h from to pays =
     turn_sum (future_left s j) (future_left s k) (phases_left (is_refusing s q) j) (phases_left (is_refusing s p) k) (phase_left s j n) (phase_left s k n) (sense_bytes_left (is_in_data j) j.progress j.served) (sense_bytes_left (is_in_data k) k.progress k.served) (struck_left s (is_struck_phase s p)) (measure s p) (measure s q)
     after before future pays (turn_phase s p row n c h to) senses
   where
-    and_no : (b : Bool) → (b && false) ≡ false
-    and_no true = refl
-    and_no false = refl
-
     same_less : (a b : ℕ) → a ≡ b → a ≤ b
     same_less a b e = omega arith
-
-    plus_none : (a : ℕ) → a + 0 ≡ a
-    plus_none a = omega arith

@@ -1,9 +1,9 @@
 -- With a row that turns from a phase to the initiator to MESSAGE OUT a phase less is left, or the strike of the phase before it pays.
 use Rattle.measure_laws.proofs
 use proofs.Names.{ℕ, ◌≡◌, ◌≤◌, ◌∙◌, Bool, true, false, List, ◌∷◌, length, refl, sym, ap, subst, arith, Option, Some}
-use proofs.Names.{None, ◌&&◌, ◌+◌, ◌-◌, ◌*◌, not, ◌||◌, if◌then◌else◌, is_some, nat_lt, wrong, wrong', same_phase}
-use proofs.Names.{LineSet, same, changes_phase, is_message_out, is_fault, receiver_in, Row, Change, Connection}
-use proofs.Names.{ScenarioValue, longest_need, from_byte, message_bytes, plan_anew, phase_of, cause_after}
+use proofs.Names.{None, ◌&&◌, ◌+◌, ◌-◌, ◌*◌, not, ◌||◌, if◌then◌else◌, is_some, nat_lt, wrong, wrong', and_true}
+use proofs.Names.{same_phase, LineSet, same, changes_phase, is_message_out, is_fault, receiver_in, Row, Change}
+use proofs.Names.{Connection, ScenarioValue, longest_need, from_byte, message_bytes, plan_anew, phase_of, cause_after}
 use proofs.Names.{plan_in_message_out, Cause, Hearing, Messages, Next, Phase, Plan, RunState, run_state, hearing_of}
 use proofs.Names.{leaving, in_connection, reading_is, HasPhase, is_out_phase, IsRowIn, RowKind, reading_in, is_refusing}
 use proofs.Names.{is_struck_phase, is_out_next, IsAttended, attended_for, is_attended, after_next, after_words}
@@ -30,21 +30,15 @@ from_less m n = go (nat_lt n (length (message_bytes m.first)))
 
 messages_again : (m : Messages) (place : ℕ) (x : ℕ) (next : Next) → 128 + after_next (from_byte m place) next + 128 ≤ after_next m next + (x + 8 * 128)
 messages_again m place x Next.FreeBus = let less = from_less m place in omega (arith, less)
-messages_again m place x Next.Status = omega arith
-messages_again m place x Next.GoOn = omega arith
-messages_again m place x Next.Command = omega arith
+messages_again m place x _ = omega arith
 
 request_answered : (m : Messages) (next : Next) → after_answer next + 128 ≤ after_next m next + 0
 request_answered m Next.FreeBus = omega arith
-request_answered m Next.Status = omega arith
-request_answered m Next.GoOn = omega arith
-request_answered m Next.Command = omega arith
+request_answered m _ = omega arith
 
 next_some : (m : Messages) (next : Next) → 128 ≤ after_next m next
 next_some m Next.FreeBus = omega arith
-next_some m Next.Status = omega arith
-next_some m Next.GoOn = omega arith
-next_some m Next.Command = omega arith
+next_some m _ = omega arith
 
 -- The phase before it by MSG and C/D, I/O being true.
 pays_by : (s : ScenarioValue) (r struck m d : Bool) (p : Plan) (place : ℕ)
@@ -76,10 +70,6 @@ out_phase l e = go l.msg l.cd l.io e
     go true true true z = absurd cc
     go true false i z = absurd cc
     go false d i z = absurd cc
-
-and_true : (q : Bool) → (q && true) ≡ q
-and_true true = refl
-and_true false = refl
 
 -- What is left after it.
 pub out_after : (s : ScenarioValue) (p : List Row) (row : Row) (n : Connection) (c : Change) → IsRowIn (run_state s p) row n c → changes_phase c ≡ true → (run_state s p).exchange.begun ≡ true → is_message_out c.after ≡ true → c.before.io ≡ true

@@ -5,13 +5,13 @@ use proofs.Names.{inl, inr, ℕ, suc, ◌≡◌, ◌≤◌, ◌∙◌, Bool, tru
 use proofs.Names.{ap, subst, arith, and_parts, ◌+◌, ◌*◌, not, ◌||◌, if◌then◌else◌, is_none, is_some, wrong, wrong'}
 use proofs.Names.{LineSet, changes_phase, is_data, is_message_out, connection, Row, Agreement, Change, Connection}
 use proofs.Names.{ScenarioValue, Obeys, RowReading, row_reading, plan_anew, Serving, phase_entry, phase_leaving}
-use proofs.Names.{phase_of, plan_in_message_out, Cause, Leaving, Messages, Next, Phase, Plan, run_state_plain, IsPrompt}
-use proofs.Names.{IsPlain, RunState, bus_of, run_state, hearing_of, leaving, serving_of, out_over, reading_in}
-use proofs.Names.{complains_truly, is_complaint, is_complaining, is_left, is_refusing, is_struck_phase}
-use proofs.Names.{is_true_complaint, refusal_offers_none, out_lines, stage_of_connection, link_phase, refuses_later}
-use proofs.Names.{whole, measure, after_next, after_refused, after_words, phases_in, phases_left, struck_left}
-use proofs.{Names.{for_phase, for_reselection}, Turns.Falls.{TurnRow, turn_falls, turn_in, turn_phases, no_data_out}}
-use proofs.Turns.{Falls.{no_data_in}, Struck.{struck_known}, Table.{left_of}}
+use proofs.Names.{phase_of, plan_in_message_out, Cause, Leaving, Messages, Next, Phase, Plan, IsPrompt, IsPlain}
+use proofs.Names.{RunState, bus_of, run_state, hearing_of, leaving, serving_of, out_over, reading_in, complains_truly}
+use proofs.Names.{is_complaint, is_complaining, is_left, is_refusing, is_struck_phase, is_true_complaint, out_lines}
+use proofs.Names.{by_bool, stage_of_connection, link_phase, refusal_offers_none, refuses_later, whole, measure}
+use proofs.Names.{after_next, after_refused, after_words, phases_in, phases_left, struck_left, for_phase}
+use proofs.{Names.{for_reselection}, Turns.Falls.{TurnRow, turn_falls, turn_in, turn_phases, no_data_out, no_data_in}}
+use proofs.Turns.{Struck.{struck_known}, Table.{left_of}}
 use Rattle.measure_laws.specs.Turns.{after_answer}
 use Rattle.progress_laws.specs.link_laws.proofs.LeavingWays as ways
 
@@ -51,30 +51,24 @@ by_next s q p n e x h = let w = subst (λ (y : Next). x ≤ after_next p.message
 -- The phase itself is paid for.
 next_least : (m : Messages) (n : Next) → 128 ≤ after_next m n
 next_least m Next.Command = omega arith
-next_least m Next.Status = omega arith
-next_least m Next.GoOn = omega arith
-next_least m Next.FreeBus = omega arith
+next_least m _ = omega arith
 
 out_least : (s : ScenarioValue) (r q : Bool) (p : Plan) → OutFacts r p → (c : Cause) → p.cause ≡ c
     → 128 ≤ after_words r p p.cause + struck_left s q
 out_least s r q p out Cause.Selected e = by_cause s r q p Cause.Selected e 128 (omega arith)
 out_least s r q p out Cause.InData e = by_complaint s r q p Cause.InData e out refl 128 (omega arith)
 out_least s r q p out Cause.InStatus e = by_complaint s r q p Cause.InStatus e out refl 128 (omega arith)
-out_least s r q p out Cause.InMessage e = go (is_some p.said.offer) refl
-  where
-    go : (x : Bool) → is_some p.said.offer ≡ x → 128 ≤ after_words r p p.cause + struck_left s q
-    go true some = let w = by_answer s r q p e out some in omega arith
-    go false none =
-        by_complaint s r q p Cause.InMessage e out (none_some_not p.said.offer none) 128 (omega arith)
+out_least s r q p out Cause.InMessage e =
+    by_bool (is_some p.said.offer)
+    (λ some. let w = by_answer s r q p e out some in omega arith)
+    (λ none.
+    by_complaint s r q p Cause.InMessage e out (none_some_not p.said.offer none) 128 (omega arith))
 
 least : (s : ScenarioValue) (r q : Bool) (p : Plan) (phase : Phase) → (phase ≡ Phase.MessageOut → OutFacts r p)
     → 128 ≤ phases_in r p phase + struck_left s q
 least s r q p Phase.MessageOut out = out_least s r q p (out refl) p.cause refl
 least s r q p Phase.MessageIn out = let w = next_least p.messages p.next in omega arith
-least s r q p Phase.Command out = omega arith
-least s r q p Phase.Status out = omega arith
-least s r q p Phase.DataIn out = omega arith
-least s r q p Phase.DataOut out = omega arith
+least s r q p _ out = omega arith
 
 goes_on : (s : ScenarioValue) (v : Serving) (r q : Bool) {atn : Bool} {phase : Phase} → ways.GoesOn v atn phase
     → 3 * 128 + 128 ≤ phases_in r v.plan phase + struck_left s q
@@ -143,7 +137,7 @@ out_facts s p row n c o prompt h con begun out = record { truly = truly; asked =
     d = row_reading k.story.bus_state row
 
     pk : IsPlain s p k
-    pk = run_state_plain s p h.was.stood.standing.devices
+    pk = h.was.stood.plain
 
     there : is_message_out (bus_of k) ≡ true
     there =
@@ -178,7 +172,7 @@ opening_falls s p row n c h begun =
     let t = turn_in s p row n c h in
     let l = leaving s k n.target in
     let w = hearing_of k row (reading_in k.story.bus_state n c false) in
-    let b = (run_state_plain s p h.was.stood.standing.devices).begun in
+    let b = h.was.stood.plain.begun in
     let out : is_message_out c.after ≡ true = ap (λ (x : Change). is_message_out x.after) (sym h.lines_are) ∙ h.lines.first (ap changes_phase h.lines_are ∙ h.turned) (sym b ∙ begun) in
     let about = (h.was.stood.books.speaks n h.goes.row_is.connection_is h.goes.calm).before_all begun in
     let r = is_refusing s (row ∷ p) in

@@ -11,14 +11,14 @@ use proofs.Names.{is_pulsed_phase, Exchange, Speech, bytes_of_messages, struck_p
 use proofs.Names.{Cause, Phase, Plan, run_state_plain, target_def_of, IsLeast, AreOfDevices, IsPlain, RunState, bus_of}
 use proofs.Names.{process_item, process_served, array_after_events, leaving_of, progress_after, progress_by_leaving}
 use proofs.Names.{run_state, answering_of, flip_of, offering_of, task_if, task_of, InConnection, in_connection, IsRowIn}
-use proofs.Names.{strikes, is_refusing, is_struck_phase, change_plain, is_there, fault_change, EndLines, Linked}
+use proofs.Names.{strikes, is_refusing, is_struck_phase, change_plain, fault_change, is_there, EndLines, Linked}
 use proofs.Names.{connected_bus, initiator_side, target_side, device_with, own_time, unreset_due, change_to}
 use proofs.Names.{row_of_fault, answering_with, due_of, initiator_is, initiator_plain, is_sampling, offering_with}
-use proofs.Names.{pace_with, sight_with, target_is, target_plain, linked_fault, no_rise, none_both, is_pulsed}
-use proofs.Names.{initiator_lines, target_lines, of_lines, aborts_left, future_left, is_in_data, one_where, resets_left}
-use proofs.Names.{measure, after_words, has_first_byte, has_next_byte, is_asked, is_driven, phase_left, phases_in}
-use proofs.Names.{phases_left, repeated, requests_by, requests_left, sense_bytes_left, struck_left, under_way}
-use proofs.Names.{waiting_left, words_left, for_byte, for_fault, for_phase, for_reselection, for_reset}
+use proofs.Names.{pace_with, sight_with, target_is, target_plain, no_rise, linked_fault, none_both, by_option}
+use proofs.Names.{is_pulsed, initiator_lines, target_lines, of_lines, aborts_left, future_left, is_in_data, one_where}
+use proofs.Names.{resets_left, measure, after_words, has_first_byte, has_next_byte, is_asked, is_driven, phase_left}
+use proofs.Names.{phases_in, phases_left, repeated, requests_by, requests_left, sense_bytes_left, struck_left}
+use proofs.Names.{under_way, waiting_left, words_left, for_byte, for_fault, for_phase, for_reselection, for_reset}
 use proofs.{Names.{for_struck_phase}, Apart.{Falls.{one_fault, times_one}, Future.{commands_by, future_was}}}
 use proofs.{Lines.Shifts.{inside}, Phases.{Bytes.{tells_quiet}, Calm.{phase_by_lines, way_by}, Still.{shape}}}
 use proofs.{Resets.Faults.{resets_fault}, Words.Lengths.{few_words}}
@@ -31,7 +31,10 @@ calm_due false last flip plain f = refl
 
 pub strikes_fault : (s : ScenarioValue) (p : List Row) (row : Row) (n : Connection) (e : EndLines) → AreOfDevices p → Linked p n e → begun p ≡ true → row.dev ≡ (if e.io then n.initiator else n.target) → is_fault row.kind ≡ true → IsLeast (unreset_due s p) 8 row
     → length (run_state s p).faults ≡ suc (length (drop 1 (run_state s p).faults))
-strikes_fault s p row n e dv h b who fault least = by (flip_of (run_state s p).faults (last_time p)) refl
+strikes_fault s p row n e dv h b who fault least =
+    by_option (flip_of (run_state s p).faults (last_time p))
+    (λ z. wrong (sym fault ∙ lines z e.io refl))
+    (λ bit z. one_fault (run_state s p).faults (last_time p) bit z)
   where
     there : (lat : ℕ) × (latency_of s row.dev ≡ Some lat)
     there = is_there s p row.dev (due_of row) least.is_due
@@ -49,10 +52,6 @@ strikes_fault s p row n e dv h b who fault least = by (flip_of (run_state s p).f
         of_lines (target_plain s p n true e there.0) (due_of row)
         (target_lines true (sight_with p n e) (handshakes p) (device_with n.target there.0 (target_side e) (own_time p n.target)) (pace_with s p true e n.target) (offering_with s p n true e))
         (sym (calm_due (is_sampling s p n n.target) (last_time p) (flip_of (run_state s p).faults (last_time p)) (target_plain s p n true e there.0) z) ∙ due)
-
-    by : (flip : Option ℕ) → flip_of (run_state s p).faults (last_time p) ≡ flip → length (run_state s p).faults ≡ suc (length (drop 1 (run_state s p).faults))
-    by (Some bit) z = one_fault (run_state s p).faults (last_time p) bit z
-    by None z = wrong (sym fault ∙ lines z e.io refl)
 
 -- ---- what it makes of the phase: its words once more at most, and three rows
 
@@ -137,11 +136,7 @@ struck_words false p Cause.InStatus = refl
 struck_phases : (b q : Bool) (p : Plan) (phase : Phase) → phases_in b (if q then struck_plan p else p) phase ≡ phases_in b p phase
 struck_phases b false p phase = refl
 struck_phases b true p Phase.MessageOut = struck_words b p p.cause
-struck_phases b true p Phase.MessageIn = refl
-struck_phases b true p Phase.Command = refl
-struck_phases b true p Phase.Status = refl
-struck_phases b true p Phase.DataIn = refl
-struck_phases b true p Phase.DataOut = refl
+struck_phases b true p _ = refl
 
 struck_messages : (q : Bool) (p : Plan) → (if q then struck_plan p else p).messages ≡ p.messages
 struck_messages true p = refl

@@ -3,10 +3,10 @@ use Rattle.measure_laws.proofs
 use proofs.Names.{ℕ, ◌≡◌, ◌<◌, ◌∙◌, Bool, true, false, ◌&&◌, List, ◌∷◌, Option, Some, None, refl, sym, ap, subst}
 use proofs.Names.{same_Some, not, not_first, wrong, change_of, changes_phase, connection, connection_after, Row, Change}
 use proofs.Names.{Connection, ScenarioValue, row_reading, Serving, phase_leaving, phase_of, lines_by, Leaving, Phase}
-use proofs.Names.{run_state_plain, AreOfDevices, IsPlain, RunState, run_state, serving_at, GoesOn, RowOf, apart, begins}
+use proofs.Names.{AreOfDevices, IsPlain, RunState, run_state, serving_at, GoesOn, RowOf, apart, begins}
 use proofs.Names.{row_ends as ends, goes_on, under_reset, change_plain, BeginsSelected, Linked, connected_bus}
-use proofs.Names.{target_side, row_of_lines, offering_with, may_leave, same_phases, target_moves, leaves_lines}
-use proofs.Names.{target_row, none_some, connection_row, Goes, RowFacts, ends_here, stays, freed_connection}
+use proofs.Names.{target_side, row_of_lines, offering_with, same_phases, target_moves, target_row, leaves_lines}
+use proofs.Names.{may_leave, none_some, connection_row, Goes, RowFacts, ends_here, stays, freed_connection}
 use proofs.Connections.Edges.{LinkedRow}
 use Rattle.progress_laws.specs.link_laws.specs.Phases as stages
 
@@ -92,14 +92,11 @@ turned_row s p row n r = by_facts (connection_row s p row n r.calm.obeys r.calm.
     k : RunState
     k = run_state s p
 
-    dv : AreOfDevices p
-    dv = r.calm.was.stood.standing.devices
-
     pl : IsPlain s p k
-    pl = run_state_plain s p dv
+    pl = r.calm.was.stood.plain
 
     changed : (row_reading k.story.bus_state row).change ≡ change_of p row
-    changed = change_plain s row p dv r.calm.least.inside
+    changed = change_plain s row p r.calm.was.stood.standing.devices r.calm.least.inside
 
     next_is : (row_reading k.story.bus_state row).next ≡ Some n
     next_is = (λ i. connection_after (pl.connection i) (pl.call i) (changed i) row) ∙ r.next

@@ -5,8 +5,8 @@ use proofs.Names.{◌^◌, if◌then◌else◌, is_some, not, ◌||◌, wrong, c
 use proofs.Names.{connection, is_fault, bus, Kind, Drives, Fault, Row, Connection, Handshakes, answered_if, asked_if}
 use proofs.Names.{handshakes, handshakes_after, no_handshakes, strikes_if, byte_crosses, byte_in, byte_out, dialogue}
 use proofs.Names.{heard_with_command, phase_begins, Dialogue, ScenarioValue, Obeys, begun, begun_after, IsPrompt}
-use proofs.Names.{same_phase_is, BeginsConnection, by_reselection, by_selection, terms_after, RowKindOf, begins_now}
-use proofs.Names.{goes_now, row_kind, handshakes_begin, or_left, whole}
+use proofs.Names.{same_phase_is, BeginsConnection, by_reselection, by_selection, terms_after, by_bool, RowKindOf}
+use proofs.Names.{begins_now, goes_now, row_kind, handshakes_begin, or_left, whole}
 
 -- The lines of COMMAND.
 pub record InCommand (b : LineSet) : Type 0 where
@@ -88,14 +88,13 @@ stays_taken p row n con after ep h was = go row.kind refl
         made (kept_by r (handshakes p).answers (dialogue p).heard.now.command.count _ _ count same was.few was.bounded)
 
 next_taken : (p : List Row) (row : Row) (n : Connection) → connection p ≡ Some n → connection (row ∷ p) ≡ Some n → InCommand (bus (row ∷ p)) → (changes_phase (change_of p row) ≡ false → InCommand (bus p) → IsTaken p) → IsTaken (row ∷ p)
-next_taken p row n con after here was = go (changes_phase (change_of p row)) refl
-  where
-    go : (q : Bool) → changes_phase (change_of p row) ≡ q → IsTaken (row ∷ p)
-    go true ep = none_taken (row ∷ p) (handshakes_begin p row n after ep)
-    go false ep =
-        let z = same_phase_is (change_of p row) ep in
-        let before : InCommand (bus p) = record { msg = sym z.msg ∙ here.msg; cd = sym z.cd ∙ here.cd; io = sym z.io ∙ here.io } in
-        stays_taken p row n con after ep before (was ep before)
+next_taken p row n con after here was =
+    by_bool (changes_phase (change_of p row))
+    (λ ep. none_taken (row ∷ p) (handshakes_begin p row n after ep))
+    (λ ep.
+    let z = same_phase_is (change_of p row) ep in
+    let before : InCommand (bus p) = record { msg = sym z.msg ∙ here.msg; cd = sym z.cd ∙ here.cd; io = sym z.io ∙ here.io } in
+    stays_taken p row n con after ep before (was ep before))
 
 first_taken : (p : List Row) (n : Connection) → BeginsConnection p n → begun p ≡ true → IsTaken p
 first_taken p n (by_selection h) b = wrong (sym b ∙ h.begun_is)

@@ -19,9 +19,7 @@ joined a b n m h g = let w = length-append a b in omega arith
 
 tag_few : (t : Tag) → length (tag_bytes t) ≤ 2
 tag_few Tag.Untagged = omega arith
-tag_few (Tag.Simple n) = omega arith
-tag_few (Tag.Ordered n) = omega arith
-tag_few (Tag.Head n) = omega arith
+tag_few _ = omega arith
 
 offer_few : (q : Bool) (h : Option HostDef) → length (offer_if q h) ≤ 5
 offer_few false h = omega arith
@@ -44,9 +42,7 @@ abort_few (Some a) = go a.what
   where
     go : (k : AbortKind) → length (out_bytes (MsgOut.Identify false a.unit) ++ abort_bytes k) ≤ 8
     go AbortKind.All = omega arith
-    go (AbortKind.Tag n) = omega arith
-    go AbortKind.WholeQueue = omega arith
-    go AbortKind.Device = omega arith
+    go _ = omega arith
 
 opening_few : (s : ScenarioValue) (dev : ℕ) (q : Bool) (o : Option Item) → length (opening s dev q o) ≤ 8
 opening_few s dev q None = omega arith
@@ -127,16 +123,13 @@ rest_few m n few = go (nat_lt n (length (message_bytes m.first)))
 plan_few : (w : Hearing) (l : Leaving) (p : Plan) → FewIn l.messages → FewIn p.messages → FewIn (plan_after w l p).messages
 plan_few w l p left few = go (changes_phase w.change) (is_message_out w.change.after) w.begun (is_message_in w.change.before) w.crosses (is_message_out w.change.before) (w.fault && not w.change.before.io) w.is_last
   where
-    heard : (q : Bool) → FewIn (plan_after_message p q w.out).messages
-    heard true = few
-    heard false = few
-
     go : (a b c d e f g h : Bool) → FewIn (if a then (if not b then record (plan_anew p) { messages = l.messages; next = l.next } else if c then record (plan_anew p) { cause = cause_after w.change.before; messages = if d then from_byte p.messages (w.offered - 1) else p.messages } else plan_anew p) else if e then (if f then plan_after_message p w.is_last w.out else p) else if g then struck_plan p else p).messages
     go true false c d e f g h = left
     go true true true true e f g h = rest_few p.messages (w.offered - 1) few
     go true true true false e f g h = few
     go true true false d e f g h = few
-    go false b c d true true g h = heard w.is_last
+    go false b c d true true g h =
+        elim w.is_last as (λ q. FewIn (plan_after_message p q w.out).messages) [ true ↦ few | false ↦ few ]
     go false b c d true false g h = few
     go false b c d false f true h = few
     go false b c d false f false h = few
@@ -147,9 +140,7 @@ named_few (Some r) = go r.process.tag
   where
     go : (t : Tag) → FewIn (record { first = Some (MsgIn.Identify r.process.unit); second = tag_named t })
     go Tag.Untagged = omega arith
-    go (Tag.Simple n) = omega arith
-    go (Tag.Ordered n) = omega arith
-    go (Tag.Head n) = omega arith
+    go _ = omega arith
 
 begins_few : (s : ScenarioValue) (k : RunState) (n : Connection) (o : Option Item) → FewIn (first_exchange s k n o).plan.messages
 begins_few s k n o = go n.reselected

@@ -5,9 +5,9 @@ use proofs.Names.{subst, arith, Some, None, ◌&&◌, nat_tests, ◌+◌, ◌++�
 use proofs.Names.{counted_on, LineSet, is_message_out, bus, Row, Connection, Handshakes, answered, handshakes, dialogue}
 use proofs.Names.{Dialogue, ScenarioValue, Obeys, Exchange, attends_with, plan_anew_if, begun, Plan, run_state_plain}
 use proofs.Names.{IsPrompt, run_state, EndLines, Linked, initiator_side, target_side, offering_with, initiator_in_phase}
-use proofs.Names.{initiator_row, target_row, Settling, Shaking, ends, is_pulsed, pulsed_as, whole, requests_left}
-use proofs.{Names.{words_left}, Balances.Facts.{all_answered}, Phases.{Asks.{asked_hand}, Bytes.{quiet_other}}}
-use proofs.Phases.{Bytes.{shift_initiator, shift_target}, Rows.{requests_said}, Stays.{shift_exchange}}
+use proofs.Names.{initiator_row, target_row, Settling, Shaking, ends, some_count, is_pulsed, pulsed_as, whole}
+use proofs.{Names.{requests_left, words_left}, Balances.Facts.{all_answered}, Phases.Asks.{asked_hand}}
+use proofs.Phases.{Bytes.{quiet_other, shift_initiator, shift_target}, Rows.{requests_said}, Stays.{shift_exchange}}
 use proofs.Words.{Steps.{hears_by, said_left, says_by, words_said}, VoiceRows.{InWords}, Voiced.{voiced}}
 use proofs.Words.Voices.{VoicedAt}
 
@@ -30,7 +30,7 @@ place_there : (s : ScenarioValue) (p : List Row) (n : Connection) (bsy ack atn r
 place_there s p n bsy ack atn req x y o prompt h b =
     let w = whole s p o prompt in
     let k = run_state s p in
-    let pl = run_state_plain s p w.stood.standing.devices in
+    let pl = w.stood.plain in
     let on = pl.bus ∙ h.stands.bus_is in
     let v = (w.stood.books.speaks n (pl.connection ∙ h.stands.connection_is) (ap (λ (l : LineSet). l.rst) on)).in_message_out (pl.begun ∙ b) (ap is_message_out on) in
     let more = length_more v.heard.before v.heard.byte v.heard.rest in
@@ -113,9 +113,6 @@ words_first s p t n bsy atn true y o prompt h =
     (subst (λ b. suc (said_left k.exchange.plan.struck true k.exchange.speech.place (length k.exchange.speech.words)) ≤ b) (sym was)
     (first_one k.exchange.speech.place (length k.exchange.speech.words) k.exchange.plan.struck place there))
 
-not_zero : (n : ℕ) → (n == 0) ≡ false → 1 ≤ n
-not_zero n e = grind (arith, nat_tests)
-
 is_some_count : (n : ℕ) → 1 ≤ n → (n == 0) ≡ false
 is_some_count n e = grind (arith, nat_tests)
 
@@ -137,7 +134,7 @@ words_next s p t n atn true y o prompt h follows =
     let v = voice_here s p n false false atn false 0 y o prompt h.linked h.phase.begun_is in
     let there = place_there s p n false false atn false 0 y o prompt h.linked h.phase.begun_is in
     let all = all_answered s p o prompt n con calm h.phase.begun_is (sym (pulsed_as p n e h.linked) ∙ h.unpulsed) (ap (λ (l : LineSet). l.req && not l.ack) on) in
-    let rose = not_zero (handshakes p).requests h.asked in
+    let rose = some_count (handshakes p).requests h.asked in
     let some : ((handshakes p).answers == 0) ≡ false = is_some_count (handshakes p).answers (omega (arith, all, rose)) in
     let attention : atn ≡ not (dialogue p).is_last = (w.stood.driven n con calm e h.linked h.phase.begun_is).attention refl refl in
     let struck : (k.exchange.speech.place == 0) ≡ true → k.exchange.plan.struck ≡ true =

@@ -1,13 +1,13 @@
 -- In COMMAND fewer than 12 bytes are asked for: while the block is not whole one follows, and a block has at most ten (7.2).
 use Rattle.measure_laws.proofs
 use proofs.Names.{ℕ, ◌≡◌, ◌≤◌, ◌<◌, ◌∙◌, Bool, true, false, List, length, refl, sym, ap, subst, arith, Option, Some}
-use proofs.Names.{None, ◌&&◌, eqb-true, if◌then◌else◌, not, nat_lt, slice_index, wrong', ProcId, LineSet, bus, Row}
-use proofs.Names.{Connection, handshakes, has_group_len, is_len, dialogue, Dialogue, CommandBytes, ScenarioValue, Obeys}
-use proofs.Names.{Process, process_of, phase_of, has_whole_block, Phase, run_state_plain, IsPrompt, carried_here}
+use proofs.Names.{None, ◌&&◌, eqb-true, if◌then◌else◌, not, nat_lt, slice_index, wrong', and_second, ProcId, LineSet}
+use proofs.Names.{bus, Row, Connection, handshakes, has_group_len, is_len, dialogue, Dialogue, CommandBytes}
+use proofs.Names.{ScenarioValue, Obeys, Process, process_of, phase_of, has_whole_block, Phase, IsPrompt, carried_here}
 use proofs.Names.{run_state, task_if, task_of, follows_block, EndLines, offering_with, Shaking, ends, commands_are}
-use proofs.{Names.{same_process, served_process, pulsed_as, whole, StandsIn, TakesBlock}, Balances.Facts.{all_answered}}
+use proofs.{Names.{same_process, served_process, StandsIn, TakesBlock, pulsed_as, whole}, Balances.Facts.{all_answered}}
 use proofs.Words.Commands.{taken}
-use Rattle.progress_laws.specs.bus_books.proofs.CarriedBlocks.{own_of}
+use Rattle.progress_laws.specs.bus_books.proofs.Carried.Commands.{own_of}
 
 -- A block that is as long as its group says has at most ten bytes.
 abbrev group_of : Bool → Bool → Option ℕ
@@ -21,10 +21,6 @@ short_group false false n e = absurd cc
 group_short : (block : List ℕ) → has_group_len block ≡ true → length block ≤ 10
 group_short block e = short_group (nat_lt (slice_index block 0) 0x20) (nat_lt (slice_index block 0) 0x40) (length block) e
 
-second : (a b : Bool) → (a && b) ≡ true → b ≡ true
-second true b e = e
-second false b e = wrong' e
-
 flip : (q : Bool) → not q ≡ true → q ≡ false
 flip true z = wrong' z
 flip false z = refl
@@ -33,7 +29,7 @@ pub takes_few : (s : ScenarioValue) (p : List Row) (n : Connection) (atn : Bool)
 takes_few s p n atn y o prompt h follows =
     let w = whole s p o prompt in
     let k = run_state s p in
-    let pl = run_state_plain s p w.stood.standing.devices in
+    let pl = w.stood.plain in
     let e : EndLines = ends false false atn 0 false true false false y in
     let con = h.linked.stands.connection_is in
     let on = h.linked.stands.bus_is in
@@ -43,7 +39,7 @@ takes_few s p n atn y o prompt h follows =
     let v = takes.0 in
     let same = same_process s k v in
     let open_is : has_group_len (carried_here k v.process.id).block ≡ false =
-    sym (ap (λ (x : Option Process). has_whole_block (task_if s k x)) (served_process s k v)) ∙ flip (has_whole_block (task_of s k)) (second (not k.exchange.plan.struck) (not (has_whole_block (task_of s k))) follows) in
+    sym (ap (λ (x : Option Process). has_whole_block (task_if s k x)) (served_process s k v)) ∙ flip (has_whole_block (task_of s k)) (and_second (not k.exchange.plan.struck) (not (has_whole_block (task_of s k))) follows) in
     let own = own_of s k v.process w.stood.books.carry (ap (process_of s) same ∙ v.process_is) in
     let whole_group = (commands_are s o).group k v.process (served_process s k v) in
     let less = follows_block (carried_here k v.process.id).block own.command.rest v.process.cdb own.command.block_is whole_group open_is in

@@ -6,7 +6,7 @@ use proofs.Names.{is_of_device, ScenarioValue, Obeys, begun, begun_after, IsProm
 use proofs.Names.{by_selection, none_some, RowKindOf, begins_now, connection_row, goes_now, row_kind, RowFacts}
 use proofs.{Names.{ends_here, stays, PhaseRow, or_left, whole}, Balances.Facts.{kind_of_row}, Words.VoiceRows.{InWords}}
 use proofs.Words.{VoiceRows.{voice_step}, Voices.{VoicedAt}}
-use Rattle.progress_laws.specs.trace_laws.proofs.Lines.Phases as kinds
+use Rattle.progress_laws.specs.row_laws.proofs.Lines.Phases as kinds
 
 received : (o : Option ℕ) (d : ℕ) → is_of_device o d ≡ true → is_some o ≡ true
 received None d e = wrong' e

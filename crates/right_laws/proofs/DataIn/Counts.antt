@@ -9,12 +9,12 @@ use proofs.Names.{row_reading, is_status_phase, row_events_by, Story, policy_of,
 use proofs.Names.{begun_after, Serving, leaving_by, phase_leaving, phase_of, run_length_if, Leaving, Phase, Task}
 use proofs.Names.{run_state_plain, target_def_of, ProcessProgress, progress_in, IsPrompt, AreOfDevices, IsPlain}
 use proofs.Names.{RunState, array_of, bus_of, process_item, process_served, progress_by_leaving, run_state, leaving}
-use proofs.Names.{serving_of, is_writing, moved_count, reply_now, task_if, obeys_fits, seats_are, requests_rise}
-use proofs.Names.{requests_stay, InConnection, in_connection, reading_is, same_phase_is, Knows, IsRowIn, RowKind, still}
-use proofs.Names.{strikes, crosses, turns, least_is, BeginsConnection, by_reselection, by_selection, run_count}
-use proofs.Names.{none_some, GoingRow, RowKindOf, begins_now, connection_row, goes_now, going_row, row_kind, IsFirst}
-use proofs.Names.{runs_more, same_length, no_more, handshakes_begin, or_left, task_here, FitsRuns, lines_now, size_is}
-use proofs.Names.{RunsFit, has_byte, progress_turns, IsServedWell, RunsBy, any_may_change, may_change, OnEvents}
+use proofs.Names.{serving_of, is_writing, moved_count, reply_now, task_if, obeys_fits, seats_are, InConnection}
+use proofs.Names.{in_connection, reading_is, same_phase_is, requests_rise, requests_stay, Knows, IsRowIn, RowKind}
+use proofs.Names.{still, strikes, crosses, turns, least_is, BeginsConnection, by_reselection, by_selection, run_count}
+use proofs.Names.{none_some, by_bool, GoingRow, RowKindOf, begins_now, connection_row, goes_now, going_row, row_kind}
+use proofs.Names.{IsFirst, runs_more, IsServedWell, RunsBy, same_length, no_more, handshakes_begin, or_left, task_here}
+use proofs.Names.{FitsRuns, lines_now, size_is, RunsFit, has_byte, progress_turns, any_may_change, may_change, OnEvents}
 use proofs.{DataIn.{Entries.{EntersRead, enters_read}, Runs.{fits_reads}}, Given.Crossings.{req_rises}}
 use proofs.Offers.{Facts.{DataOfferFacts, data_in_carries, data_no_out, data_parts, to_data}, Rows.{kept_row}}
 use proofs.{Offers.Steps.{is_data_in}, Ran.{Crossings.{here_goes, known_served}, Facts.{Known, apart_of, here_is}}}
@@ -120,10 +120,10 @@ read_begun s p row n w con calm g turned reading = go (process_served s k) refl
     dv2 = h.next.stood.standing.devices
 
     pl : IsPlain s p k
-    pl = run_state_plain s p dv
+    pl = h.was.plain
 
     pl2 : IsPlain s (row ∷ p) j
-    pl2 = run_state_plain s (row ∷ p) dv2
+    pl2 = run_state_plain s (row ∷ p) h.next.stood.standing.devices
 
     policy : Policy
     policy = policy_of (target_def_of s n.target)
@@ -150,11 +150,10 @@ read_begun s p row n w con calm g turned reading = go (process_served s k) refl
     change = r.change_is
 
     begun_is : k.exchange.begun ≡ true
-    begun_is = on k.exchange.begun refl
-      where
-        on : (q : Bool) → k.exchange.begun ≡ q → k.exchange.begun ≡ true
-        on true e = e
-        on false e = wrong' (sym (data_no_out c.after after) ∙ (ap (λ (x : Change). is_message_out x.after) (sym change) ∙ g.goes.first (ap changes_phase change ∙ ep) e))
+    begun_is =
+        by_bool k.exchange.begun
+        (λ e. e)
+        (λ e. wrong' (sym (data_no_out c.after after) ∙ (ap (λ (x : Change). is_message_out x.after) (sym change) ∙ g.goes.first (ap changes_phase change ∙ ep) e)))
 
     leaving_is : leaving s k n.target ≡ phase_leaving v (bus_of k).atn (phase_of (bus_of k))
     leaving_is = λ z. leaving_by v (begun_is z) (bus_of k)
@@ -241,10 +240,10 @@ stays_few s p row n w con calm after off g ep here was = record { some = subst (
     dv2 = h.next.stood.standing.devices
 
     pl : IsPlain s p k
-    pl = run_state_plain s p dv
+    pl = h.was.plain
 
     pl2 : IsPlain s (row ∷ p) (run_state s (row ∷ p))
-    pl2 = run_state_plain s (row ∷ p) dv2
+    pl2 = run_state_plain s (row ∷ p) h.next.stood.standing.devices
 
     knows : Knows s k n
     knows = h.was.books.knows n (pl.connection ∙ con) (ap (λ (x : LineSet). x.rst) pl.bus ∙ calm)

@@ -7,13 +7,13 @@ use proofs.Names.{wrong, wrong', zero_of, Event, changes_phase, Row, Connection,
 use proofs.Names.{array_after, reply_in, shows_run, Reply, Array, RowReading, row_reading, row_events_by, process}
 use proofs.Names.{Story, policy_of, run_at, run_in, run_length, runs_in, runs_in_all, is_status_next, Serving}
 use proofs.Names.{after_run, disconnect_messages, disconnection, phase_entry, phase_leaving, phase_of, unless_attention}
-use proofs.Names.{with_task, Next, Phase, Task, run_state_plain, target_def_of, progress_in, IsPlain, RunState}
-use proofs.Names.{array_of, bus_of, carried_here, or_start, process_item, process_served, array_after_events, run_state}
-use proofs.Names.{serving_of, reply_now, task_if, is_true_telling, telling, policy_for, change_plain, least_is}
-use proofs.Names.{writes_there, runs_blocks, some_run, zero_blocks, RunsFrom, RunsInPhase, answered, moved_all, reads}
-use proofs.Names.{run_turn, runs_from, writes, LinesOf, active_is, lines_of, task_here, FitsRuns, RunsFit, last_run}
-use proofs.Names.{Whole, frees_bus, AnsweredOpen, IsTaken, PlacedBefore, PlacedIf, PlacedIn, IsServedWell, HasRunLeft}
-use proofs.{Names.{RunsLeftOf, run_total, PointsAtEnd}, DataIn.{Counts.{IsReader, ReadRow}, Pointers.{read_done}}}
+use proofs.Names.{with_task, Next, Phase, Task, target_def_of, progress_in, RunState, array_of, bus_of, carried_here}
+use proofs.Names.{or_start, process_item, process_served, array_after_events, run_state, serving_of, reply_now, task_if}
+use proofs.Names.{is_true_telling, telling, policy_for, change_plain, least_is, by_bool, by_option, writes_there}
+use proofs.Names.{frees_bus, AnsweredOpen, IsTaken, PlacedBefore, PlacedIf, PlacedIn, IsServedWell, runs_blocks}
+use proofs.Names.{some_run, zero_blocks, RunsFrom, RunsInPhase, answered, moved_all, reads, run_turn, runs_from, writes}
+use proofs.Names.{LinesOf, active_is, lines_of, task_here, FitsRuns, RunsFit, last_run, Whole, HasRunLeft, RunsLeftOf}
+use proofs.{Names.{run_total, PointsAtEnd}, DataIn.{Counts.{IsReader, ReadRow}, Pointers.{read_done}}}
 use proofs.{DataIn.Runs.{fits_reads}, Given.Sent.{runs_so}, Ran.Crossings.{GoesSo, here_goes, known_served}}
 use proofs.Ran.{Open.{none_is}, Sent.{answer_of}, Shown.{IsAnswer, RunsAs, runs_alone, runs_arrived, row_runs}}
 
@@ -48,11 +48,10 @@ last_all policy t f last = some (t.moved == 0) refl t.blocks refl
 -- ---- its runs are not all made
 
 some_total : (policy : Policy) (t : Task) → RunsFit policy t → (t.moved == 0) ≡ false → 1 ≤ runs_in policy t.blocks
-some_total policy t f some = go t.blocks refl
-  where
-    go : (o : Option ℕ) → t.blocks ≡ o → 1 ≤ runs_in policy t.blocks
-    go None e = subst (λ (b : Option ℕ). 1 ≤ runs_in policy b) (sym e) (omega arith)
-    go (Some blocks) e = subst (λ (b : Option ℕ). 1 ≤ runs_in policy b) (sym e) (some_run policy blocks f.most (zero_blocks blocks t.size t.moved some (f.moved blocks e some)))
+some_total policy t f some =
+    by_option t.blocks
+    (λ e. subst (λ (b : Option ℕ). 1 ≤ runs_in policy b) (sym e) (omega arith))
+    (λ blocks e. subst (λ (b : Option ℕ). 1 ≤ runs_in policy b) (sym e) (some_run policy blocks f.most (zero_blocks blocks t.size t.moved some (f.moved blocks e some))))
 
 clash : (made whole : ℕ) → 1 ≤ whole → whole ≤ made → HasRunLeft whole made → ⊥
 clash made whole one few (inl z) = absurd omega (arith, one, few, z)
@@ -83,9 +82,6 @@ points_at_end s p row w was next left q reply is reading good = by (here_goes s 
 
     runs_with : RunsAs q.id shown
     runs_with = row_runs s k row q.id is.runs
-
-    pl : IsPlain s p k
-    pl = run_state_plain s p was.stood.standing.devices
 
     now : reply_in next.places.array.replies q.id ≡ Some (reply_now was.places.array q)
     now = runs_so s was.places.array next.places.array q shown w.obeys was.places.sound is.process_is runs_with (sym (λ i. array_after_events s (was.places.array_is i) shown) ∙ next.places.array_is)
@@ -140,7 +136,7 @@ points_at_end s p row w was next left q reply is reading good = by (here_goes s 
         well = w.pointers.served n q con v.goes.calm served_is reading
 
         f : FitsRuns s k q t
-        f = fits_reads s k q w.obeys (pl.array ∙ ap (λ (x : Story). array_after s x.history) (sym pl.story)) reading
+        f = fits_reads s k q w.obeys (was.stood.plain.array ∙ ap (λ (x : Story). array_after s x.history) (sym was.stood.plain.story)) reading
 
         policy : policy_of (target_def_of s n.target) ≡ policy_for s q
         policy = ap (λ (x : ℕ). policy_of (target_def_of s x)) (sym well.target_is)
@@ -159,21 +155,20 @@ points_at_end s p row w was next left q reply is reading good = by (here_goes s 
             go (inr z) = wrong' (sym (ap frees_bus to) ∙ ap frees_bus z.next_is)
 
         not_all : nat_lt r.turn.task.runs (runs_in_all (policy_of (target_def_of s n.target)) r.turn.task) ≡ false → length reply.bytes ≤ (carried_here k q.id).moved.active
-        not_all e = go (t.moved == 0) refl
+        not_all e =
+            by_bool (t.moved == 0)
+            (λ z. none_given (length reply.bytes) (carried_here k q.id).moved.active t.moved moved (zero_of t.moved z))
+            (λ z. absurd (clash (progress_in k.progress q.id).runs (run_total s q) (some_total (policy_for s q) t f.fit z) (all z) (left q is.process_is reading (none_is (reply_in (array_of s k).replies q.id) unanswered))))
           where
             all : (t.moved == 0) ≡ false → run_total s q ≤ (progress_in k.progress q.id).runs
             all some = subst (λ (x : ℕ). x ≤ t.runs) (λ i. if some i then 0 else runs_in (policy_for s q) t.blocks) (ltb-false t.runs (runs_in_all (policy_for s q) t) (sym (λ i. nat_lt (task i).runs (runs_in_all (policy i) (task i))) ∙ e))
-
-            go : (x : Bool) → (t.moved == 0) ≡ x → length reply.bytes ≤ (carried_here k q.id).moved.active
-            go true z = none_given (length reply.bytes) (carried_here k q.id).moved.active t.moved moved (zero_of t.moved z)
-            go false z = absurd (clash (progress_in k.progress q.id).runs (run_total s q) (some_total (policy_for s q) t f.fit z) (all z) (left q is.process_is reading (none_is (reply_in (array_of s k).replies q.id) unanswered)))
 
         done : phase_of (bus_of k) ≡ Phase.DataIn → length reply.bytes ≤ (carried_here k q.id).moved.active
         done phase =
             let here : Policy = policy_of (target_def_of s n.target) in
             let task_is = ap (task_if s k) served_is in
             let active = active_is s k q t k.handshakes.requests f served_is task_is phase refl r.begun (λ l x. x.active) well.pointers in
-            let requests = read_done s p row n w lines.con lines.calm lines.off lines.after (sym pl.begun ∙ r.begun) (ap changes_phase (sym (change_plain s row p was.stood.standing.devices (least_is s p row w.prompt.1).inside)) ∙ r.left) t task_is phase in
+            let requests = read_done s p row n w lines.con lines.calm lines.off lines.after (sym was.stood.plain.begun ∙ r.begun) (ap changes_phase (sym (change_plain s row p was.stood.standing.devices (least_is s p row w.prompt.1).inside)) ∙ r.left) t task_is phase in
             let last = last_read (serving_of s k n.target) (bus_of k).atn t task_is (ap (λ (x : Phase). is_status_next (phase_leaving (serving_of s k n.target) (bus_of k).atn x).to) (sym phase) ∙ r.turn.status) in
             let whole = last_all here t (subst (λ (x : Policy). RunsFit x t) (sym policy) f.fit) last in
             all_given (carried_here k q.id).moved.active (run_at here t t.runs).start k.handshakes.requests (run_length here t) t.moved (length reply.bytes)

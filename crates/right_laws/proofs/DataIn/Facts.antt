@@ -2,7 +2,7 @@
 -- that as COMMAND is left they have carried no data (6.1.5.1, 6.6.6, 6.6.20).
 use Rattle.right_laws.proofs
 use proofs.Names.{List, [], ◌∷◌, Row, ScenarioValue, Obeys, process, IsPrompt, RunState, run_state, obeys_fits}
-use proofs.Names.{seats_are, writers, least_is, data_premises, sent_grows, NextStood, unshown_ready, left_next}
+use proofs.Names.{seats_are, writers, least_is, NextStood, data_premises, sent_grows, unshown_ready, left_next}
 use proofs.Names.{left_start, Whole, standing_next, whole, RunsLeftOf, GivesBy, UndoLoadFacts}
 use proofs.DataIn.{Counts.{IsReader, ReadCounts, ReadRow, counts_first, counts_next}, Ends.{points_at_end}}
 use proofs.DataIn.{Pointers.{ReadPointers, points_at, pointers_first, pointers_next}, Unmoved.{IsUnmovedServed}}

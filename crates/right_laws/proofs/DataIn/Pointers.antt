@@ -8,13 +8,13 @@ use proofs.Names.{Connection, Handshakes, handshakes, ScenarioValue, Obeys, arra
 use proofs.Names.{row_reading, process, has_item, sense_item, is_open_sense, Story, policy_of, run_at, run_length}
 use proofs.Names.{is_pulsed_phase, begun, phase_of, follows_in, run_length_if, Phase, Task, run_state_plain}
 use proofs.Names.{target_def_of, IsPlain, RunState, bus_of, carried_here, run_state, offering_of, serving_of, task_if}
-use proofs.Names.{task_of, obeys_fits, IsOver, change_plain, least_is, runs_are_short, run_count, connection_row}
-use proofs.Names.{RowFacts, ends_here, writes_there, command_over, crossing_stands, active_is, crossing_begun}
-use proofs.Names.{kind_next, raised_rst, task_here, turns_by, FitsRuns, runs_first, IsServedAnew, ItemFacts, OfferFacts}
-use proofs.{Names.{pulses_here, IsServedWell, RunsBy, PointsAtCrossing}, DataIn.Counts.{IsReader, IsRunCounted}}
+use proofs.Names.{task_of, obeys_fits, IsOver, change_plain, least_is, runs_are_short, run_count, by_bool}
+use proofs.Names.{connection_row, RowFacts, ends_here, writes_there, IsServedAnew, ItemFacts, OfferFacts, command_over}
+use proofs.Names.{pulses_here, IsServedWell, RunsBy, crossing_stands, active_is, crossing_begun, kind_next, raised_rst}
+use proofs.{Names.{task_here, turns_by, FitsRuns, runs_first, PointsAtCrossing}, DataIn.Counts.{IsReader, IsRunCounted}}
 use proofs.{DataIn.{Counts.{ReadRow, none_asked}, Runs.{fits_reads}}, Given.Crossings.{req_rises}}
 use proofs.{Offers.{Facts.{data_in_carries}, Steps.{is_data_in}}, Ran.Facts.{Known}}
-use Rattle.trace_laws.proofs.Lines.Crossings.{stays}
+use Rattle.trace_laws.specs.row_laws.proofs.Lines.Crossings.{stays}
 
 abbrev pub ReadPointers : ScenarioValue → List Row → Type 0
 ReadPointers s p = RunsBy IsReader s (run_state s p)
@@ -50,7 +50,7 @@ read_done s p row n w con calm off after b ep t task phase = by (connection_row 
     k = run_state s p
 
     pl : IsPlain s p k
-    pl = run_state_plain s p w.known.was.standing.devices
+    pl = w.known.was.plain
 
     counts : IsRunCounted s p n
     counts = w.counts n con calm b (ap is_data_in (sym pl.bus) ∙ in_data (bus_of k) phase)
@@ -79,20 +79,19 @@ read_done s p row n w con calm off after b ep t task phase = by (connection_row 
 
 -- An automatic REQUEST SENSE is open only while it is served, and RST is false.
 sense_over : (s : ScenarioValue) (p : List Row) (id : ProcId) → ItemFacts s p → id.sense ≡ true → (bus_of (run_state s p)).rst ≡ true → has_item (run_state s p).story.sent.sent (process id) ≡ true → has_item (run_state s p).story.sent.over (process id) ≡ true
-sense_over s p id items sense on sent = go (has_item k.story.sent.over (process id)) refl
+sense_over s p id items sense on sent =
+    by_bool (has_item k.story.sent.over (process id))
+    (λ e. e)
+    (λ e.
+    let opens : is_open_sense k.story.sent id.command ≡ true =
+    (λ i. has_item k.story.sent.sent (sym is i) && not (has_item k.story.sent.over (sym is i))) ∙ (λ i. sent i && not (e i)) in
+    wrong (sym on ∙ (items.items.senses id.command opens).1))
   where
     k : RunState
     k = run_state s p
 
     is : process id ≡ sense_item id.command
     is = λ i. process (record { command = id.command; sense = sense i })
-
-    go : (q : Bool) → has_item k.story.sent.over (process id) ≡ q → has_item k.story.sent.over (process id) ≡ true
-    go true e = e
-    go false e =
-        let opens : is_open_sense k.story.sent id.command ≡ true =
-        (λ i. has_item k.story.sent.sent (sym is i) && not (has_item k.story.sent.over (sym is i))) ∙ (λ i. sent i && not (e i)) in
-        wrong (sym on ∙ (items.items.senses id.command opens).1)
 
 -- In DATA IN far fewer bytes are asked for than are counted.
 requests_few : (s : ScenarioValue) (p : List Row) (n : Connection) → Obeys s → IsRunCounted s p n → (handshakes p).requests + 1 < 2 ^ 64
@@ -131,7 +130,7 @@ pointers_next s p row w asked =
     lt = (least_is s p row w.prompt.1).inside
 
     pl : IsPlain s p k
-    pl = run_state_plain s p h.was.standing.devices
+    pl = h.was.plain
 
     pl2 : IsPlain s (row ∷ p) (run_state s (row ∷ p))
     pl2 = run_state_plain s (row ∷ p) h.next.stood.standing.devices
@@ -140,13 +139,12 @@ pointers_next s p row w asked =
     c = change_plain s row p h.was.standing.devices lt
 
     stops : (q : Process) → process_of s q.id ≡ Some q → IsReader q → k.served ≡ Some (process q.id) → (bus p).rst ≡ false → (bus (row ∷ p)).rst ≡ true → has_item (run_state s (row ∷ p)).story.sent.over (process q.id) ≡ true
-    stops q own reads served calm on = go q.id.sense refl
-      where
-        go : (x : Bool) → q.id.sense ≡ x → has_item (run_state s (row ∷ p)).story.sent.over (process q.id) ≡ true
-        go true e = sense_over s (row ∷ p) q.id asked.items e (ap (λ (l : LineSet). l.rst) pl2.bus ∙ on) (asked.sent q.id served)
-        go false e =
-            command_over s k row q.id q own e (h.places.sent q.id served) (ap (λ (x : Change). x.after.rst) c ∙ on)
-            (ap (λ (x : Change). rises x.own.rst x.next.rst) c ∙ raised_rst p row lt calm on)
+    stops q own reads served calm on =
+        by_bool q.id.sense
+        (λ e. sense_over s (row ∷ p) q.id asked.items e (ap (λ (l : LineSet). l.rst) pl2.bus ∙ on) (asked.sent q.id served))
+        (λ e.
+        command_over s k row q.id q own e (h.places.sent q.id served) (ap (λ (x : Change). x.after.rst) c ∙ on)
+        (ap (λ (x : Change). rises x.own.rst x.next.rst) c ∙ raised_rst p row lt calm on))
 
 -- ---- a byte of DATA IN crosses
 
@@ -167,7 +165,7 @@ points_at s p row w n q t con served task reads crosses phase = record {
     lt = (least_is s p row w.prompt.1).inside
 
     pl : IsPlain s p k
-    pl = run_state_plain s p h.was.standing.devices
+    pl = h.was.plain
 
     c : (row_reading k.story.bus_state row).change ≡ change_of p row
     c = change_plain s row p h.was.standing.devices lt

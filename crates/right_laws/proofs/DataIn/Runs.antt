@@ -7,8 +7,8 @@ use proofs.Names.{CommandContext, attention_execution, block_out_of_range, cdb_e
 use proofs.Names.{command_execution, execution, heeds_attention, is_good_range, needs_unit, range_of, reply_execution}
 use proofs.Names.{unit_not_supported, range_in, Process, contents_of, context_at, Array, UnitState, nexus_of}
 use proofs.Names.{unit_state_at, length_bytes, RunState, array_of, or_start, blocks_in, is_writing, moved_count}
-use proofs.Names.{reply_now, size_of, policy_for, task_here, policies_most, FitsRuns, lines_now, size_is, step_in}
-use proofs.Replies.Blocks.{HasWhole, whole_always, whole_start}
+use proofs.Names.{reply_now, size_of, policy_for, by_bool, step_in, task_here, policies_most, FitsRuns, lines_now}
+use proofs.{Names.{size_is}, Replies.Blocks.{HasWhole, whole_always, whole_start}}
 
 -- ---- the bytes of a read
 
@@ -71,7 +71,10 @@ is_read (Ok (Command.Write10 lba count)) blocks w e = wrong w
 -- ---- what it moves
 
 moved_reads : (a : Array) (q : Process) (blocks : ℕ) → HasWhole a → is_writing q ≡ false → blocks_in (range_in (command_of q.cdb)) ≡ Some blocks → (moved_count q (reply_now a q) == 0) ≡ false → moved_count q (reply_now a q) ≡ blocks * size_of (unit_state_at a.units q.target q.unit)
-moved_reads a q blocks whole reads is some = go ((reply_now a q).status == GOOD) refl
+moved_reads a q blocks whole reads is some =
+    by_bool ((reply_now a q).status == GOOD)
+    (λ e. moved true e ∙ at (unit_state_at a.units q.target q.unit) refl (eqb-true (reply_now a q).status GOOD e))
+    (λ e. wrong (sym (ap (λ (x : ℕ). x == 0) (moved false e)) ∙ some))
   where
     moved : (g : Bool) → ((reply_now a q).status == GOOD) ≡ g → moved_count q (reply_now a q) ≡ (if g then length (reply_now a q).bytes else 0)
     moved g e = λ i. if e i then (if reads i then length q.sent else length (reply_now a q).bytes) else 0
@@ -86,10 +89,6 @@ moved_reads a q blocks whole reads is some = go ((reply_now a q).status == GOOD)
     at (Some u) e good =
         ap (λ (b : List ℕ). length b) (read_gives (context_at a (nexus_of q) (Some u)) q.cdb q.sent r.command r.lba blocks r.command_is (r.gives (context_at a (nexus_of q) (Some u)) q.sent) good)
         ∙ length_bytes u.contents (subst (λ (x : Option UnitState). (lba : ℕ) → length (Rattle.bus_due.specs.disk_array.specs.Contents.block_at (contents_of x) lba) ≡ (contents_of x).size) e (whole q.target q.unit)) r.lba blocks
-
-    go : (g : Bool) → ((reply_now a q).status == GOOD) ≡ g → moved_count q (reply_now a q) ≡ blocks * size_of (unit_state_at a.units q.target q.unit)
-    go false e = wrong (sym (ap (λ (x : ℕ). x == 0) (moved false e)) ∙ some)
-    go true e = moved true e ∙ at (unit_state_at a.units q.target q.unit) refl (eqb-true (reply_now a q).status GOOD e)
 
 pub whole_now : (s : ScenarioValue) (history : List Event) (o : Option Array) → Obeys s → array_after s history ≡ o → HasWhole (or_start s o)
 whole_now s history None o e = whole_start s o

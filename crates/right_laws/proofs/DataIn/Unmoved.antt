@@ -6,9 +6,9 @@ use proofs.Names.{Connection, ScenarioValue, Obeys, Process, row_reading, Carrie
 use proofs.Names.{has_item, Link, aim_of, phase_of, Phase, run_state_plain, IsPrompt, AreOfDevices, IsPlain, RunState}
 use proofs.Names.{bus_of, carried_here, process_item, process_served, item_if, run_state, served_after, hearing_of}
 use proofs.Names.{ready_of, Instructions, instructions, instructions_after, IsFirstRow, reading_in, Begins, GoesOn}
-use proofs.Names.{RowOf, apart, begins, goes_on, under_reset, change_plain, least_is, none_some, command_phase}
-use proofs.Names.{told_with, items_fresh, LinesOf, lines_of, served_id, known_before, CommandFacts, StandsIn}
-use proofs.{Names.{Instructed, InstructedFacts, KnownIn, IsFresh, NoneAtArrival}, Given.Bytes.{moved_stays}}
+use proofs.Names.{RowOf, apart, begins, goes_on, under_reset, change_plain, least_is, none_some, command_phase, by_bool}
+use proofs.Names.{told_with, items_fresh, CommandFacts, StandsIn, Instructed, InstructedFacts, KnownIn, IsFresh}
+use proofs.{Names.{LinesOf, lines_of, served_id, known_before, NoneAtArrival}, Given.Bytes.{moved_stays}}
 use proofs.{Given.Crossings.{data_phase}, Ran.{Crossings.{here_goes, known_served}, Facts.{Known, apart_of}}}
 use Rattle.trace_laws.specs.bus_books.specs.Traces.{ends}
 
@@ -22,7 +22,10 @@ unmoved_first s n p e = none_some n e
 
 -- Where data move the target knows the command.
 known_in_data : (s : ScenarioValue) (k : RunState) (i : Instructions) (n : Connection) → Instructed s k i n → k.exchange.begun ≡ true → is_data (bus_of k) ≡ true → i.known ≡ true
-known_in_data s k i n told b on = go n.reselected refl
+known_in_data s k i n told b on =
+    by_bool n.reselected
+    (λ e. (told.again e).0)
+    (λ e. at (bus_of k).io (subst (λ (x : Phase). KnownIn i.known k.exchange.plan x) phase ((told.selected e).stage b)))
   where
     phase : phase_of (bus_of k) ≡ (if (bus_of k).io then Phase.DataIn else Phase.DataOut)
     phase = data_phase (bus_of k) on
@@ -30,10 +33,6 @@ known_in_data s k i n told b on = go n.reselected refl
     at : (q : Bool) → KnownIn i.known k.exchange.plan (if q then Phase.DataIn else Phase.DataOut) → i.known ≡ true
     at true z = z
     at false z = z
-
-    go : (r : Bool) → n.reselected ≡ r → i.known ≡ true
-    go true e = (told.again e).0
-    go false e = at (bus_of k).io (subst (λ (x : Phase). KnownIn i.known k.exchange.plan x) phase ((told.selected e).stage b))
 
 pub unmoved_next : (s : ScenarioValue) (p : List Row) (row : Row) → Obeys s → IsPrompt s (row ∷ p) → Known s p row → InstructedFacts s p → IsUnmovedServed s p → IsUnmovedServed s (row ∷ p)
 unmoved_next s p row o prompt h told was n x con off unknown served = go h.next.row_is
@@ -50,14 +49,19 @@ unmoved_next s p row o prompt h told was n x con off unknown served = go h.next.
     lt : row.dev < 8
     lt = (least_is s p row prompt.1).inside
 
-    pl : IsPlain s p k
-    pl = run_state_plain s p dv
-
     ql : IsPlain s (row ∷ p) j
     ql = run_state_plain s (row ∷ p) h.next.stood.standing.devices
 
     begin : (m : Connection) → m ≡ n → Begins s k row m → (carried_here j x.id).moved.bytes ≡ []
-    begin m same b = at m.reselected refl
+    begin m same b =
+        by_bool m.reselected
+        (λ e. wrong (sym (knows ∙ e) ∙ unknown))
+        (λ e.
+        let fresh : IsFresh k m = items_fresh s p row m o prompt h.was h.items (sym h.was.plain.connection ∙ f.connection_is) (con ∙ ap (λ (y : Connection). Some y) (sym same)) e in
+        let item : fresh.item ≡ process x.id =
+        same_Some fresh.item (process x.id) (sym (serves ∙ ap (λ (q : Bool). if q then item_if (ready_of s k m.target) else aim_of k.story.aims m.initiator) e ∙ fresh.aim_is) ∙ (served_id s j.served x served).0) in
+        moved_stays s p row h x.id (λ l z. none_some l (sym (apart_of s p row h f.connection_is) ∙ z))
+        ∙ ap (λ (c : Option CarriedBytes). (carried_or_nothing c x.id).moved.bytes) (h.items.items.only.carried x.id (ap (has_item k.story.sent.sent) (sym item) ∙ fresh.unsent)))
       where
         f : IsFirstRow k row m
         f = b.first
@@ -67,15 +71,6 @@ unmoved_next s p row o prompt h told was n x con off unknown served = go h.next.
 
         serves : j.served ≡ (if m.reselected then item_if (ready_of s k m.target) else aim_of k.story.aims m.initiator)
         serves = λ i. served_after s k (f.connection_is i) (f.next_is i)
-
-        at : (q : Bool) → m.reselected ≡ q → (carried_here j x.id).moved.bytes ≡ []
-        at true e = wrong (sym (knows ∙ e) ∙ unknown)
-        at false e =
-            let fresh : IsFresh k m = items_fresh s p row m o prompt h.was h.items (sym pl.connection ∙ f.connection_is) (con ∙ ap (λ (y : Connection). Some y) (sym same)) e in
-            let item : fresh.item ≡ process x.id =
-            same_Some fresh.item (process x.id) (sym (serves ∙ ap (λ (q : Bool). if q then item_if (ready_of s k m.target) else aim_of k.story.aims m.initiator) e ∙ fresh.aim_is) ∙ (served_id s j.served x served).0) in
-            moved_stays s p row h x.id (λ l z. none_some l (sym (apart_of s p row h f.connection_is) ∙ z))
-            ∙ ap (λ (c : Option CarriedBytes). (carried_or_nothing c x.id).moved.bytes) (h.items.items.only.carried x.id (ap (has_item k.story.sent.sent) (sym item) ∙ fresh.unsent))
 
     going : (m : Connection) (c : Change) → m ≡ n → GoesOn s k row m c → (carried_here j x.id).moved.bytes ≡ []
     going m c same g = moved_stays s p row h x.id quiet ∙ was m x l.con l.calm before before_served
@@ -87,19 +82,18 @@ unmoved_next s p row o prompt h told was n x con off unknown served = go h.next.
         before = known_before (hearing_of k row (reading_in k.story.bus_state m c (is_some (receiver_in m c)))) k.exchange.plan (instructions s p) (sym (ap (λ (i : Instructions). i.known) (told_with s p row m c (is_some (receiver_in m c)) g.row_is refl)) ∙ unknown)
 
         next : (row_reading k.story.bus_state row).next ≡ Some n
-        next = (λ i. Rattle.bus_due.specs.bus_trace.specs.Terms.connection_after (pl.connection i) (pl.call i) (change_plain s row p dv lt i) row) ∙ con
+        next = (λ i. Rattle.bus_due.specs.bus_trace.specs.Terms.connection_after (h.was.plain.connection i) (h.was.plain.call i) (change_plain s row p dv lt i) row) ∙ con
 
         before_served : process_served s k ≡ Some x
         before_served = ap (process_item s) (sym (λ i. served_after s k (g.row_is.connection_is i) (next i))) ∙ served
 
         quiet : (w : Link) → k.story.link ≡ Some w → w.item ≡ Some (process x.id) → (row_reading k.story.bus_state row).crosses ≡ true → is_data (row_reading k.story.bus_state row).change.before ≡ false
-        quiet w e item crosses = by (is_data (row_reading k.story.bus_state row).change.before) refl
-          where
-            by : (q : Bool) → is_data (row_reading k.story.bus_state row).change.before ≡ q → is_data (row_reading k.story.bus_state row).change.before ≡ false
-            by false z = z
-            by true z =
-                let on : is_data (bus_of k) ≡ true = ap is_data (g.row_is.bus_is ∙ ap (λ (y : Change). y.before) (sym g.row_is.change_is)) ∙ z in
-                wrong (sym (known_in_data s k (instructions s p) m (told m l.con l.calm) (g.begun crosses) on) ∙ before)
+        quiet w e item crosses =
+            by_bool (is_data (row_reading k.story.bus_state row).change.before)
+            (λ z.
+            let on : is_data (bus_of k) ≡ true = ap is_data (g.row_is.bus_is ∙ ap (λ (y : Change). y.before) (sym g.row_is.change_is)) ∙ z in
+            wrong (sym (known_in_data s k (instructions s p) m (told m l.con l.calm) (g.begun crosses) on) ∙ before))
+            (λ z. z)
 
     go : RowOf s k row → (carried_here j x.id).moved.bytes ≡ []
     go (apart e f) = none_some n (sym f ∙ ql.connection ∙ con)
@@ -133,19 +127,18 @@ none_at_arrival s p row prompt h told commands was l id link item calm stands tu
     own = h.places.of_scenario id served
 
     same : own.0.id ≡ id
-    same = Rattle.trace_laws.specs.bus_books.proofs.CarriedRows.process_id s id own.0 own.1
+    same = Rattle.trace_laws.specs.bus_books.proofs.Carried.Facts.process_id s id own.0 own.1
 
     phase : phase_of (bus_of k) ≡ Phase.Command
     phase = command_phase (bus_of k) (ap is_command (g.goes.row_is.bus_is ∙ ap (λ (y : Change). y.before) (sym g.goes.row_is.change_is)) ∙ command)
 
     unknown : (instructions s p).known ≡ false
-    unknown = by k.exchange.begun refl
+    unknown =
+        by_bool k.exchange.begun
+        (λ b.
+        let block = subst (λ (x : Phase). StandsIn s k n x) phase ((commands.books n lines.con lines.calm).begun b) in
+        subst (λ (x : Phase). KnownIn (instructions s p).known k.exchange.plan x) phase ((i.selected block.1.selected).stage b))
+        (λ b. (i.selected ((commands.books n lines.con lines.calm).unbegun b).selected).unbegun b)
       where
         i : Instructed s k (instructions s p) n
         i = told n lines.con lines.calm
-
-        by : (b : Bool) → k.exchange.begun ≡ b → (instructions s p).known ≡ false
-        by true b =
-            let block = subst (λ (x : Phase). StandsIn s k n x) phase ((commands.books n lines.con lines.calm).begun b) in
-            subst (λ (x : Phase). KnownIn (instructions s p).known k.exchange.plan x) phase ((i.selected block.1.selected).stage b)
-        by false b = (i.selected ((commands.books n lines.con lines.calm).unbegun b).selected).unbegun b

@@ -8,12 +8,13 @@ use proofs.Names.{GOOD, ScenarioValue, step_sound, array_step, reply_in, Reply, 
 use proofs.Names.{RowReading, row_reading, Area, CarriedBytes, area_with, carried_after_byte, is_status_phase}
 use proofs.Names.{row_events_by, Item, process, abort, Link, RunState, array_of, carried_here, run_state}
 use proofs.Names.{run_state_after, array_after_events, is_writing, reply_now, run_replies, puts, id_is, self_id}
-use proofs.Names.{IsFilled, none_some, running_id, GivesAtRun, IsFront, GivenIn, HasGiven, GivenFacts, GivesNext}
-use proofs.{Names.{HasReplyStill, GivesAsked, Load, load, OnEvents, IfOpen, OnOpen}, Given.Areas.{moved_crosses}}
-use proofs.{Given.Replies.{bad_empty}, Ran.{Blocks.{lasting_by, front_all}, Crossings.{GoesSo, crossing_goes}}}
-use proofs.Ran.{Facts.{Known, here_is, run_found, steps_of, then_is, undoes_of}, Lasting.{row_lasts}, Open.{IfAccepts}}
-use proofs.Ran.{Open.{each_both, each_map, open_events, open_start, running_has, none_is}, Shown.{IsArrival, IsAnswer}}
-use proofs.Ran.Shown.{ShownAs, row_shown, RunsAs, runs_alone, runs_arrived, row_runs}
+use proofs.Names.{IsFilled, none_some, by_bool, by_option, running_id, GivesAtRun, IsFront, GivenIn, HasGiven}
+use proofs.Names.{GivenFacts, GivesNext, HasReplyStill, GivesAsked, Load, load, OnEvents, IfOpen, OnOpen}
+use proofs.{Given.{Areas.{moved_crosses}, Replies.{bad_empty}}, Ran.Blocks.{lasting_by, front_all}}
+use proofs.Ran.{Crossings.{GoesSo, crossing_goes}, Facts.{Known, here_is, run_found, steps_of, then_is, undoes_of}}
+use proofs.Ran.{Lasting.{row_lasts}, Open.{IfAccepts, each_both, each_map, open_events, open_start, running_has}}
+use proofs.Ran.{Open.{none_is}, Shown.{IsArrival, IsAnswer, ShownAs, row_shown, RunsAs, runs_alone, runs_arrived}}
+use proofs.Ran.Shown.{row_runs}
 use Rattle.bus_due.specs.disk_array.specs.Steps
 
 -- ---- a byte comes to a front
@@ -70,7 +71,10 @@ is_it id (Some (abort n)) = true
 is_it id None = true
 
 given_stays : (s : ScenarioValue) (p : List Row) (row : Row) (h : Known s p row) → GivesAsked s (run_state s p) row → (id : ProcId) → HasGiven s (array_of s (run_state s p)) (run_state s p) id → HasGiven s (array_of s (run_state s p)) (run_state s (row ∷ p)) id
-given_stays s p row h asked id was q own = linked k.story.link refl
+given_stays s p row h asked id was q own =
+    by_option k.story.link
+    (λ e. still (λ m y w v. none_some m (sym e ∙ y)))
+    (λ l e. known l e l.item refl)
   where
     k : RunState
     k = run_state s p
@@ -113,15 +117,10 @@ given_stays s p row h asked id was q own = linked k.story.link refl
       where
         abort_is : (n : ℕ) → (let o : Option Item = Some (abort n) in o) ≡ Some (process id) → ⊥
         abort_is n v = absurd cc
-    known l e (Some (process x)) z = by (same_id x id) refl
-      where
-        by : (q : Bool) → same_id x id ≡ q → As (carried_here j id).moved.bytes
-        by true v = at l e (z ∙ ap (λ (y : ProcId). Some (process y)) (id_is x id v))
-        by false v = still (λ m y w c. wrong (sym (self_id id) ∙ ap (is_it id) (sym w ∙ ap (λ (t : Link). t.item) (same_Some m l (sym y ∙ e)) ∙ z) ∙ v))
-
-    linked : (o : Option Link) → k.story.link ≡ o → As (carried_here j id).moved.bytes
-    linked None e = still (λ m y w v. none_some m (sym e ∙ y))
-    linked (Some l) e = known l e l.item refl
+    known l e (Some (process x)) z =
+        by_bool (same_id x id)
+        (λ v. at l e (z ∙ ap (λ (y : ProcId). Some (process y)) (id_is x id v)))
+        (λ v. still (λ m y w c. wrong (sym (self_id id) ∙ ap (is_it id) (sym w ∙ ap (λ (t : Link). t.item) (same_Some m l (sym y ∙ e)) ∙ z) ∙ v)))
 
 -- ---- a row
 

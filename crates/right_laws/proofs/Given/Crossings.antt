@@ -6,29 +6,27 @@ use proofs.Names.{Some, None, refl, sym, ap, subst, nat_tests, if◌then◌else�
 use proofs.Names.{plus_none, ProcId, byte_back, change_of, rises, LineSet, is_data, call, connection, connection_after}
 use proofs.Names.{receiver_in, receiver_of, bus, Row, Change, Connection, handshakes, GOOD, ScenarioValue, Obeys}
 use proofs.Names.{Policy, reply_in, Reply, Process, row_reading, policy_of, run_at, run_length, begun, phase_of}
-use proofs.Names.{data_byte, phase_byte, run_length_if, Phase, Task, run_state_plain, target_def_of, progress_in}
-use proofs.Names.{IsPrompt, IsPlain, AreOfDevices, RunState, array_of, bus_of, carried_here, process_item}
-use proofs.Names.{process_served, run_state, serving_of, is_writing, given_if, moved_count, reply_now, task_if}
-use proofs.Names.{task_with, obeys_fits, seats_are, process_id, GoesOn, change_plain, least_is, run_count, byte_values}
-use proofs.Names.{risen, is_directed, writes_of, writes_out, out_step, rise_of, byte_within, AreCounted, CountFacts}
-use proofs.Names.{pulses_here, GivesNext, GivesAtCrossing, PointsAtRun, PointsAtCrossing, AllStandIn}
-use proofs.{Offers.{Facts.{DataOfferFacts, data_in_carries}, Steps.{is_data_in, data_at}}, Ran.Crossings.{GoesSo}}
-use proofs.Ran.{Crossings.{crossing_goes, known_served}, Facts.{Known}}
+use proofs.Names.{data_byte, phase_byte, run_length_if, Phase, Task, target_def_of, progress_in, IsPrompt, RunState}
+use proofs.Names.{array_of, bus_of, carried_here, process_item, process_served, run_state, serving_of, is_writing}
+use proofs.Names.{given_if, moved_count, reply_now, task_if, task_with, obeys_fits, seats_are, process_id, GoesOn}
+use proofs.Names.{change_plain, least_is, run_count, byte_values, risen, by_bool, is_directed, writes_of, writes_out}
+use proofs.Names.{AreCounted, CountFacts, pulses_here, out_step, rise_of, byte_within, GivesNext, GivesAtCrossing}
+use proofs.{Names.{PointsAtRun, PointsAtCrossing, AllStandIn}, Offers.Facts.{DataOfferFacts, data_in_carries}}
+use proofs.{Offers.Steps.{is_data_in, data_at}, Ran.{Crossings.{GoesSo, crossing_goes, known_served}, Facts.{Known}}}
 
 -- ---- what moves
 
 good_of : (p : Process) (r : Reply) (x : ℕ) → x < moved_count p r → r.status ≡ GOOD
-good_of p r x h = go (r.status == GOOD) refl
+good_of p r x h =
+    by_bool (r.status == GOOD)
+    (λ e. grind (arith, nat_tests))
+    (λ e. none (moved_count p r) (ap (λ (q : Bool). if q then some else 0) e) h)
   where
     some : ℕ
     some = if is_writing p then length p.sent else length r.bytes
 
     none : (n : ℕ) → n ≡ 0 → x < n → r.status ≡ GOOD
     none n e f = absurd omega (arith, e, f)
-
-    go : (q : Bool) → (r.status == GOOD) ≡ q → r.status ≡ GOOD
-    go true e = grind (arith, nat_tests)
-    go false e = none (moved_count p r) (ap (λ (q : Bool). if q then some else 0) e) h
 
 few_of : (p : Process) (r : Reply) → is_writing p ≡ false → moved_count p r ≤ length r.bytes
 few_of p r w = go (r.status == GOOD) (is_writing p) w
@@ -78,14 +76,8 @@ gives_crossing s p row o prompt h offers counted stands points l id q link item 
     k : RunState
     k = run_state s p
 
-    dv : AreOfDevices p
-    dv = h.was.standing.devices
-
     lt : row.dev < 8
     lt = (least_is s p row prompt.1).inside
-
-    pl : IsPlain s p k
-    pl = run_state_plain s p dv
 
     now : Reply
     now = reply_now (array_of s k) q
@@ -93,14 +85,11 @@ gives_crossing s p row o prompt h offers counted stands points l id q link item 
     t : Task
     t = task_with (array_of s k) (progress_in k.progress q.id) q (carried_here k q.id) now (reply_in (array_of s k).replies q.id)
 
-    same : q.id ≡ id
-    same = process_id s id q own
-
     change : (row_reading k.story.bus_state row).change ≡ change_of p row
-    change = change_plain s row p dv lt
+    change = change_plain s row p h.was.standing.devices lt
 
     by : GoesSo s k row → GivesNext s k q id ((row_reading k.story.bus_state row).change.after.data_bits % 256)
-    by w = dir (is_writing q) refl
+    by w = by_bool (is_writing q) (λ e. writing e) (λ e. reading e)
       where
         n : Connection
         n = w.connection
@@ -121,10 +110,10 @@ gives_crossing s p row o prompt h offers counted stands points l id q link item 
         on = ap is_data lines ∙ moves
 
         con : connection p ≡ Some n
-        con = sym pl.connection ∙ g.row_is.connection_is
+        con = sym h.was.plain.connection ∙ g.row_is.connection_is
 
         off : (bus p).rst ≡ false
-        off = ap (λ (b : LineSet). b.rst) (sym pl.bus) ∙ g.calm
+        off = ap (λ (b : LineSet). b.rst) (sym h.was.plain.bus) ∙ g.calm
 
         whole : change_of p row ≡ w.change
         whole = sym change ∙ g.row_is.change_is
@@ -153,7 +142,7 @@ gives_crossing s p row o prompt h offers counted stands points l id q link item 
             io = reads_in (bus_of k).io q directed reads
 
             io_p : (bus p).io ≡ true
-            io_p = ap (λ (b : LineSet). b.io) (sym pl.bus) ∙ io
+            io_p = ap (λ (b : LineSet). b.io) (sym h.was.plain.bus) ∙ io
 
             phase : phase_of (bus_of k) ≡ Phase.DataIn
             phase = data_phase (bus_of k) on ∙ ap (λ (x : Bool). if x then Phase.DataIn else Phase.DataOut) io
@@ -162,23 +151,23 @@ gives_crossing s p row o prompt h offers counted stands points l id q link item 
             at = points n q t g.row_is.connection_is here (ap (task_if s k) here) reads crosses phase
 
             active : (carried_here k id).moved.active ≡ (run_at policy t t.runs).start + k.handshakes.requests
-            active = ap (λ (x : ProcId). (carried_here k x).moved.active) (sym same) ∙ at.active_is
+            active = ap (λ (x : ProcId). (carried_here k x).moved.active) (sym (process_id s id q own)) ∙ at.active_is
 
             inside : (run_at policy t t.runs).start + k.handshakes.requests < t.moved
             inside = byte_within policy t k.handshakes.requests at.more
 
             small : data_at s p n < 256
-            small = subst (λ (x : ℕ). x < 256) (λ i. phase_byte (serving_of s k n.target) (phase i) k.exchange.plan.messages 0 (pl.handshakes i).requests) (byte_values s p n o (seats_are s (obeys_fits s o)) dv).offered
+            small = subst (λ (x : ℕ). x < 256) (λ i. phase_byte (serving_of s k n.target) (phase i) k.exchange.plan.messages 0 (h.was.plain.handshakes i).requests) (byte_values s p n o (seats_are s (obeys_fits s o)) h.was.standing.devices).offered
 
             due : data_at s p n ≡ slice_index_or now.bytes ((run_at policy t t.runs).start + k.handshakes.requests) 0
             due =
-                (λ i. data_byte policy (task_if s k (here i)) (given_if s k (here i)) 0 (sym pl.handshakes i).requests)
+                (λ i. data_byte policy (task_if s k (here i)) (given_if s k (here i)) 0 (sym h.was.plain.handshakes i).requests)
                 ∙ ap (λ (x : ℕ). slice_index_or now.bytes ((run_at policy t x).start + k.handshakes.requests) 0) (plus_none t.runs)
 
             byte : (row_reading k.story.bus_state row).change.after.data_bits % 256 ≡ slice_index_or now.bytes (carried_here k id).moved.active 0
             byte =
                 ap (λ (c : Change). c.after.data_bits % 256) change
-                ∙ ap (λ (x : ℕ). x % 256) (data_in_carries s p row n o prompt h.was h.next offers con off after calm (data_in_lines (bus p) (ap is_data (sym pl.bus) ∙ on) io_p) (req_rises n (change_of p row) io_p some)).byte_is
+                ∙ ap (λ (x : ℕ). x % 256) (data_in_carries s p row n o prompt h.was h.next offers con off after calm (data_in_lines (bus p) (ap is_data (sym h.was.plain.bus) ∙ on) io_p) (req_rises n (change_of p row) io_p some)).byte_is
                 ∙ byte_back (data_at s p n) small
                 ∙ due
                 ∙ ap (λ (x : ℕ). slice_index_or now.bytes x 0) (sym active)
@@ -195,13 +184,13 @@ gives_crossing s p row o prompt h offers counted stands points l id q link item 
             io = writes_out (bus_of k).io q directed writes
 
             io_p : (bus p).io ≡ false
-            io_p = ap (λ (b : LineSet). b.io) (sym pl.bus) ∙ io
+            io_p = ap (λ (b : LineSet). b.io) (sym h.was.plain.bus) ∙ io
 
             phase : phase_of (bus p) ≡ Phase.DataOut
-            phase = ap phase_of (sym pl.bus) ∙ data_phase (bus_of k) on ∙ ap (λ (x : Bool). if x then Phase.DataIn else Phase.DataOut) io
+            phase = ap phase_of (sym h.was.plain.bus) ∙ data_phase (bus_of k) on ∙ ap (λ (x : Bool). if x then Phase.DataIn else Phase.DataOut) io
 
             b : begun p ≡ true
-            b = sym pl.begun ∙ g.begun crosses
+            b = sym h.was.plain.begun ∙ g.begun crosses
 
             counts : AreCounted (handshakes p) (bus p) (pulses_here p) (run_count s p n)
             counts = counted.counts n con off b phase
@@ -218,7 +207,3 @@ gives_crossing s p row o prompt h offers counted stands points l id q link item 
                 let few = counts.pulses u in
                 omega (arith, more, few)
             answered false u = (counts.waits u (((out_step s p row n prompt h.was con off calm b phase after).step.answers rose).0 u) (risen (bus p).ack (bus (row ∷ p)).ack rose)).0
-
-        dir : (x : Bool) → is_writing q ≡ x → GivesNext s k q id ((row_reading k.story.bus_state row).change.after.data_bits % 256)
-        dir true e = writing e
-        dir false e = reading e

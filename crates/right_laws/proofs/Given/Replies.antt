@@ -16,13 +16,9 @@ GivesNone reply = (reply.status == GOOD) ≡ false → reply.bytes ≡ []
 
 command_bad : (m : CommandContext) (c : Command) (sent : List ℕ) → GivesNone (command_execution m c sent).reply
 command_bad m Command.TestUnitReady sent e = refl
-command_bad m (Command.RequestSense room) sent e = wrong e
-command_bad m (Command.Read6 lba count) sent e = wrong e
 command_bad m (Command.Write6 lba count) sent e = refl
-command_bad m (Command.Inquiry room) sent e = wrong e
-command_bad m Command.ReadCapacity sent e = wrong e
-command_bad m (Command.Read10 lba count) sent e = wrong e
 command_bad m (Command.Write10 lba count) sent e = refl
+command_bad m _ sent e = wrong e
 
 range_bad : (m : CommandContext) (c : Command) (sent : List ℕ) → GivesNone (range_execution m c sent).reply
 range_bad m c sent = go (is_good_range m.contents.count (range_of c))

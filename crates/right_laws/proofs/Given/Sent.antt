@@ -3,12 +3,12 @@ use Rattle.right_laws.proofs
 use proofs.Names.{ℕ, ◌≡◌, ◌≤◌, true, false, ◌==◌, ◌∙◌, List, ◌∷◌, length, Option, Some, None, refl, sym, ap, arith}
 use proofs.Names.{same_Some, wrong, Event, LineSet, connection, bus, Row, Change, Connection, GOOD, ScenarioValue}
 use proofs.Names.{Obeys, step_sound, array_step, reply_in, shows_run, Reply, Process, process_of, step, Array}
-use proofs.Names.{row_reading, row_events_by, process, run_state_plain, IsPrompt, IsPlain, RunState, or_start}
-use proofs.Names.{process_item, process_served, run_state, array_after_events, reply_now, obeys_fits, seats_are}
-use proofs.Names.{is_of_size, writers, run_replies, accept_same, change_plain, least_is, none_some, Whole}
-use proofs.Names.{row_attendance, whole, write_premises, IsWhole, ends_badly, sends_all, sends_none, bytes_come}
-use proofs.{Names.{SendsAtRun}, Ran.{Crossings.{GoesSo, here_goes, known_served}, Sent.{answer_of}, Shown.{IsAnswer}}}
-use proofs.Ran.Shown.{RunsAs, runs_alone, runs_arrived, row_runs}
+use proofs.Names.{row_reading, row_events_by, process, IsPrompt, IsPlain, RunState, or_start, process_item}
+use proofs.Names.{process_served, run_state, array_after_events, reply_now, obeys_fits, seats_are, is_of_size, writers}
+use proofs.Names.{run_replies, accept_same, change_plain, least_is, none_some, IsWhole, ends_badly, sends_all}
+use proofs.Names.{sends_none, bytes_come, Whole, row_attendance, whole, write_premises, SendsAtRun}
+use proofs.Ran.{Crossings.{GoesSo, here_goes, known_served}, Sent.{answer_of}, Shown.{IsAnswer, RunsAs, runs_alone}}
+use proofs.Ran.Shown.{runs_arrived, row_runs}
 
 -- ---- the reply of a process that runs is the one that it would have before the row
 
@@ -52,7 +52,7 @@ sends_at_run s p row o prompt q reply is w good = by (here_goes s k row answer.l
     runs_with = row_runs s k row q.id is.runs
 
     pl : IsPlain s p k
-    pl = run_state_plain s p was.stood.standing.devices
+    pl = was.stood.plain
 
     now : reply_in next.places.array.replies q.id ≡ Some (reply_now was.places.array q)
     now = runs_so s was.places.array next.places.array q shown o was.places.sound is.process_is runs_with (sym (λ i. array_after_events s (was.places.array_is i) shown) ∙ next.places.array_is)
@@ -68,7 +68,7 @@ sends_at_run s p row o prompt q reply is w good = by (here_goes s k row answer.l
         go (runs_arrived e) = ap shows_run e
 
     by : GoesSo s k row → (length q.sent ≤ bytes_come s k q) × (is_of_size s k q ≡ true)
-    by v = (came (att.whole n q con calm off ran served_is), (write_premises s p row o prompt was.stood was.places was.sends was.resets).sizes q served_is)
+    by v = (came ((row_attendance s p row o prompt).whole n q con calm off ran served_is), (write_premises s p row o prompt was.stood was.places was.sends was.resets).sizes q served_is)
       where
         n : Connection
         n = v.connection
@@ -87,9 +87,6 @@ sends_at_run s p row o prompt q reply is w good = by (here_goes s k row answer.l
 
         served_is : process_served s k ≡ Some q
         served_is = ap (process_item s) served ∙ is.process_is
-
-        att : Rattle.trace_laws.specs.RowAttendance.IsAttended s p row
-        att = row_attendance s p row o prompt
 
         came : IsWhole s k (writers s p) q → length q.sent ≤ bytes_come s k q
         came (ends_badly e) =

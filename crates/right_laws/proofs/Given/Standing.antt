@@ -5,7 +5,7 @@ use proofs.Names.{◌++◌, Some, refl, ap, nat_tests, nat_lt, slice_set, if◌t
 use proofs.Names.{is_data, Row, PARITY_ERROR, INITIATOR_DETECTED_ERROR, MsgIn, ScenarioValue, RowReading, row_reading}
 use proofs.Names.{Area, CarriedBytes, area_with, bytes_with, carried_of, carried_after_message, with_restored_pointers}
 use proofs.Names.{carried_after_byte, carried_after_fault, is_status_phase, nothing_carried, RunState, run_state}
-use proofs.Names.{run_state_after, IsKept, no_link, row_carried, AllStandIn}
+use proofs.Names.{run_state_after, IsKept, no_link, row_carried, by_bool, AllStandIn}
 use Rattle.right_laws.specs.Standing.{StandsIn}
 
 -- ---- of an area
@@ -22,7 +22,16 @@ set_long (x ∷ xs) zero byte = refl
 set_long (x ∷ xs) (suc at) byte = ap (λ (n : ℕ). suc n) (set_long xs at byte)
 
 area_own : (a : Area) (byte : ℕ) → StandsIn a → StandsIn (area_with a byte)
-area_own a byte h = go (nat_lt a.active (length a.bytes)) refl
+area_own a byte h =
+    by_bool (nat_lt a.active (length a.bytes))
+    (λ e.
+    let long : length (bytes_with a.bytes a.active byte) ≡ length a.bytes = ap (λ (q : Bool). length (if q then slice_set a.bytes a.active byte else a.bytes ++ byte ∷ [])) e ∙ set_long a.bytes a.active byte in
+    let w = inside (length (bytes_with a.bytes a.active byte)) e long in
+    record { active_in = w.0; saved_in = w.1 })
+    (λ e.
+    let long : length (bytes_with a.bytes a.active byte) ≡ length a.bytes + 1 = ap (λ (q : Bool). length (if q then slice_set a.bytes a.active byte else a.bytes ++ byte ∷ [])) e ∙ more in
+    let w = beyond (length (bytes_with a.bytes a.active byte)) long in
+    record { active_in = w.0; saved_in = w.1 })
   where
     more : length (a.bytes ++ byte ∷ []) ≡ length a.bytes + 1
     more = length-append a.bytes (byte ∷ [])
@@ -33,28 +42,13 @@ area_own a byte h = go (nat_lt a.active (length a.bytes)) refl
     beyond : (long : ℕ) → long ≡ length a.bytes + 1 → (a.active + 1 ≤ long) × (a.saved ≤ long)
     beyond long same = let w = h.saved_in in let v = h.active_in in (omega (arith, v, same), omega (arith, w, same))
 
-    go : (q : Bool) → nat_lt a.active (length a.bytes) ≡ q → StandsIn (area_with a byte)
-    go true e =
-        let long : length (bytes_with a.bytes a.active byte) ≡ length a.bytes = ap (λ (q : Bool). length (if q then slice_set a.bytes a.active byte else a.bytes ++ byte ∷ [])) e ∙ set_long a.bytes a.active byte in
-        let w = inside (length (bytes_with a.bytes a.active byte)) e long in
-        record { active_in = w.0; saved_in = w.1 }
-    go false e =
-        let long : length (bytes_with a.bytes a.active byte) ≡ length a.bytes + 1 = ap (λ (q : Bool). length (if q then slice_set a.bytes a.active byte else a.bytes ++ byte ∷ [])) e ∙ more in
-        let w = beyond (length (bytes_with a.bytes a.active byte)) long in
-        record { active_in = w.0; saved_in = w.1 }
-
 restored_own : (c : CarriedBytes) → IsOwn c → IsOwn (with_restored_pointers c)
 restored_own c h = record { active_in = h.saved_in; saved_in = h.saved_in }
 
 message_own : (c : CarriedBytes) (m : MsgIn) → IsOwn c → IsOwn (carried_after_message c m)
 message_own c MsgIn.SavePointer h = record { active_in = h.active_in; saved_in = h.active_in }
 message_own c MsgIn.RestorePointers h = record { active_in = h.saved_in; saved_in = h.saved_in }
-message_own c MsgIn.CommandComplete h = h
-message_own c MsgIn.Disconnect h = h
-message_own c MsgIn.Reject h = h
-message_own c (MsgIn.Identify lun) h = h
-message_own c (MsgIn.SimpleTag n) h = h
-message_own c (MsgIn.Sdtr a) h = h
+message_own c _ h = h
 
 fault_own : (c : CarriedBytes) (b : LineSet) → IsOwn c → IsOwn (carried_after_fault c b)
 fault_own c b h = go (is_command b) (is_data b)

@@ -1,11 +1,11 @@
 -- In DATA IN the byte that crosses is the one that is due, after any rows of a prompt trace (6.1.5.1, 6.1.5.2).
 use Rattle.right_laws.proofs
 use proofs.Names.{ℕ, ◌≡◌, ◌⊎◌, inl, inr, ◌<◌, Bool, true, false, not, ◌&&◌, ◌==◌, ◌%◌, ◌∙◌, List, [], ◌∷◌, Option, Some}
-use proofs.Names.{None, refl, sym, ap, subst, true≢false, count_ones, if◌then◌else◌, is_some, wrong, wrong', Event}
-use proofs.Names.{same_self, change_of, rises, LineSet, same, changes_phase, is_command, is_message_out, is_message_in}
-use proofs.Names.{is_fault, connection, connection_after, receiver_in, bus, Row, Change, Connection, Handshakes}
-use proofs.Names.{handshakes, no_handshakes, handshakes_after, answered_if, asked_if, ScenarioValue, Obeys, Policy}
-use proofs.Names.{Process, row_reading, is_status_phase, is_completion, end_events, carried_if, row_events_by}
+use proofs.Names.{None, refl, sym, ap, subst, true≢false, count_ones, if◌then◌else◌, is_some, wrong, wrong', and_false}
+use proofs.Names.{Event, same_self, change_of, rises, LineSet, same, changes_phase, is_command, is_message_out}
+use proofs.Names.{is_message_in, is_fault, connection, connection_after, receiver_in, bus, Row, Change, Connection}
+use proofs.Names.{Handshakes, handshakes, no_handshakes, handshakes_after, answered_if, asked_if, ScenarioValue, Obeys}
+use proofs.Names.{Policy, Process, row_reading, is_status_phase, is_completion, end_events, carried_if, row_events_by}
 use proofs.Names.{phase_events, link_events, aim_of, policy_of, Exchange, begun, Serving, phase_of, phase_leaving}
 use proofs.Names.{leaving_by, after_messages, unless_attention, data_byte, one_if, Leaving, Next, Phase, Task}
 use proofs.Names.{run_state_plain, target_def_of, IsPrompt, IsPlain, AreOfDevices, RunState, array_of, or_start, bus_of}
@@ -14,8 +14,8 @@ use proofs.Names.{first_exchange, progress_after, progress_by_leaving, leaving_o
 use proofs.Names.{given_of, InConnection, in_connection, reading_is, Knows, RowKind, still, strikes, crosses, turns}
 use proofs.Names.{IsRowIn, reading_in, Begins, change_plain, least_is, EndLines, connected_bus, Linked, LinkStage}
 use proofs.Names.{when_selected, when_settling, when_turning, when_offering, when_shaking, when_pulsing, none_some}
-use proofs.Names.{beginning, GoingRow, connection_row, going_row, stage_of_connection, RowKindOf, begins_now, goes_now}
-use proofs.{Names.{row_kind, Stood, NextStood, is_in_next, no_events}, Offers.Rows.{bytes_kept, kept_row}}
+use proofs.Names.{by_bool, GoingRow, connection_row, going_row, stage_of_connection, RowKindOf, begins_now, goes_now}
+use proofs.{Names.{row_kind, Stood, NextStood, beginning, no_events, is_in_next}, Offers.Rows.{bytes_kept, kept_row}}
 use proofs.Offers.Steps.{is_data_in, data_at, IsDataOffered, DataRow, IsDataByte, elsewhere, offered_next, data_crosses}
 
 abbrev pub DataOfferFacts : ScenarioValue → List Row → Type 0
@@ -41,13 +41,12 @@ data_stays c e f =
 
 -- The phase does not stay.
 turns_to : (c : Change) → is_data_in c.before ≡ false → is_data_in c.after ≡ true → changes_phase c ≡ true
-turns_to c e f = go (changes_phase c) refl
-  where
-    go : (q : Bool) → changes_phase c ≡ q → changes_phase c ≡ true
-    go true z = z
-    go false z =
-        let s = Rattle.trace_laws.specs.bus_books.proofs.InConnection.same_phase_is c z in
-        wrong (sym f ∙ (λ i. not (s.msg i) && not (s.cd i) && s.io i) ∙ e)
+turns_to c e f =
+    by_bool (changes_phase c)
+    (λ z. z)
+    (λ z.
+    let s = Rattle.trace_laws.specs.bus_books.proofs.Common.InConnection.same_phase_is c z in
+    wrong (sym f ∙ (λ i. not (s.msg i) && not (s.cd i) && s.io i) ∙ e))
 
 -- It is entered from MESSAGE IN, which counts nothing.
 quiet_entry : (v : Serving) (atn : Bool) (phase : Phase) → (phase ≡ Phase.MessageIn) ⊎ (phase ≡ Phase.Status) → is_in_next (phase_leaving v atn phase).to ≡ true → ((phase_leaving v atn phase).done ≡ false) × ((phase_leaving v atn phase).counts ≡ false)
@@ -148,14 +147,13 @@ data_row s p row n dv dv2 was con off g = record { kept = λ a b q. kept_row s p
         change : changes_phase (row_reading k.story.bus_state row).change ≡ true
         change = ap changes_phase r.change_is ∙ ep
 
-        on : (q : Bool) → k.exchange.begun ≡ q → k.exchange.begun ≡ true
-        on true e = e
-        on false e =
-            wrong'
-            (sym (data_no_out c.after (after is_now)) ∙ (ap (λ (x : Change). is_message_out x.after) (sym r.change_is) ∙ g.goes.first change e))
-
         begun_is : k.exchange.begun ≡ true
-        begun_is = on k.exchange.begun refl
+        begun_is =
+            by_bool k.exchange.begun
+            (λ e. e)
+            (λ e.
+            wrong'
+            (sym (data_no_out c.after (after is_now)) ∙ (ap (λ (x : Change). is_message_out x.after) (sym r.change_is) ∙ g.goes.first change e)))
 
         known : (bus_of k).msg ≡ true → (bus_of k).cd ≡ true
         known m = (g.goes.phase m).0
@@ -175,11 +173,7 @@ data_row s p row n dv dv2 was con off g = record { kept = λ a b q. kept_row s p
         quiet = let w = quiet_entry (serving_of s k n.target) (bus_of k).atn (phase_of (bus_of k)) from whereto in (ap (λ (x : Leaving). x.done) leaving_is ∙ w.0, ap (λ (x : Leaving). x.counts) leaving_is ∙ w.1)
 
         no_command : (b : LineSet) → b.io ≡ true → is_command b ≡ false
-        no_command b e = (λ i. not b.msg && b.cd && not (e i)) ∙ go (not b.msg && b.cd)
-          where
-            go : (q : Bool) → (q && false) ≡ false
-            go true = refl
-            go false = refl
+        no_command b e = (λ i. not b.msg && b.cd && not (e i)) ∙ and_false (not b.msg && b.cd)
 
         no_status : (b : LineSet) → is_data_in b ≡ true → is_status_phase b ≡ false
         no_status b e = let x = data_parts b e in λ i. not (x.0 i) && x.1 i && b.io
@@ -227,9 +221,6 @@ offer_next s p row o prompt was next h n after calm = go (row_kind s p row n o p
     dv2 : AreOfDevices (row ∷ p)
     dv2 = (lt, dv)
 
-    pl : IsPlain s p k
-    pl = run_state_plain s p dv
-
     pl2 : IsPlain s (row ∷ p) j
     pl2 = run_state_plain s (row ∷ p) dv2
 
@@ -244,10 +235,10 @@ offer_next s p row o prompt was next h n after calm = go (row_kind s p row n o p
         c = change_plain s row p dv lt
 
         con : k.story.bus_state.connection ≡ None
-        con = pl.connection ∙ alone
+        con = was.plain.connection ∙ alone
 
         begun_next : (row_reading k.story.bus_state row).next ≡ Some n
-        begun_next = (λ i. connection_after (pl.connection i) (pl.call i) (c i) row) ∙ after
+        begun_next = (λ i. connection_after (was.plain.connection i) (was.plain.call i) (c i) row) ∙ after
 
         b : Begins s k row n
         b = beginning s k row n con begun_next (ap (λ (x : Change). x.after.rst) c ∙ calm) next.row_is

@@ -9,8 +9,8 @@ use proofs.Names.{end_events, carried_if, row_events_by, Link, policy_of, data_b
 use proofs.Names.{run_state_plain, target_def_of, ProcessProgress, progress_in, AreOfDevices, RunState, array_of}
 use proofs.Names.{or_start, carried_here, process_item, process_served, run_state, run_state_after, array_after_events}
 use proofs.Names.{progress_after, progress_by_leaving, leaving_of, task_with, task_if, task_of, given_if, given_of}
-use proofs.Names.{reply_now, InConnection, in_connection, dialogue_by, reading_is, IsRowIn, stay_shown, no_completion}
-use proofs.Offers.Steps.{is_data_in, DataKept}
+use proofs.Names.{reply_now, InConnection, in_connection, dialogue_by, reading_is, IsRowIn, by_option, no_completion}
+use proofs.{Names.{stay_shown}, Offers.Steps.{is_data_in, DataKept}}
 use Rattle.bus_due.specs.disk_array.specs.ArrayHistory as Play
 
 -- ---- what a task tells of the bytes
@@ -33,14 +33,13 @@ length_same policy a b m n c d None e f = refl
 length_same policy a b m n c d (Some p) e f = λ i. run_length_if policy (task_by (e i) (f i) c (Some p))
 
 pub bytes_kept : (s : ScenarioValue) (k j : RunState) (policy : Policy) (x : ℕ) → process_served s j ≡ process_served s k → array_of s j ≡ array_of s k → j.progress ≡ k.progress → data_byte policy (task_of s j) (given_of s j) 0 x ≡ data_byte policy (task_of s k) (given_of s k) 0 x
-bytes_kept s k j policy x served array progress = go (process_served s k) refl
-  where
-    go : (o : Option Process) → process_served s k ≡ o → data_byte policy (task_of s j) (given_of s j) 0 x ≡ data_byte policy (task_of s k) (given_of s k) 0 x
-    go None e = (λ z. data_byte policy (task_if s j ((served ∙ e) z)) (given_if s j ((served ∙ e) z)) 0 x) ∙ (λ z. data_byte policy (task_if s k (sym e z)) (given_if s k (sym e z)) 0 x)
-    go (Some q) e =
-        (λ z. data_byte policy (task_if s j ((served ∙ e) z)) (given_if s j ((served ∙ e) z)) 0 x)
-        ∙ bytes_same policy (array_of s k) (array_of s j) k.progress j.progress (carried_here k q.id) (carried_here j q.id) (Some q) x array progress
-        ∙ (λ z. data_byte policy (task_if s k (sym e z)) (given_if s k (sym e z)) 0 x)
+bytes_kept s k j policy x served array progress =
+    by_option (process_served s k)
+    (λ e. (λ z. data_byte policy (task_if s j ((served ∙ e) z)) (given_if s j ((served ∙ e) z)) 0 x) ∙ (λ z. data_byte policy (task_if s k (sym e z)) (given_if s k (sym e z)) 0 x))
+    (λ q e.
+    (λ z. data_byte policy (task_if s j ((served ∙ e) z)) (given_if s j ((served ∙ e) z)) 0 x)
+    ∙ bytes_same policy (array_of s k) (array_of s j) k.progress j.progress (carried_here k q.id) (carried_here j q.id) (Some q) x array progress
+    ∙ (λ z. data_byte policy (task_if s k (sym e z)) (given_if s k (sym e z)) 0 x))
 
 -- ---- a row with which the phase stays
 
@@ -95,14 +94,13 @@ kept_row s p row n c l dv dv2 r ep here link = record {
     bytes x = bytes_kept s k j policy x served array progress
 
     long : run_length_if policy (task_of s j) ≡ run_length_if policy (task_of s k)
-    long = go (process_served s k) refl
-      where
-        go : (o : Option Process) → process_served s k ≡ o → run_length_if policy (task_of s j) ≡ run_length_if policy (task_of s k)
-        go None e = (λ z. run_length_if policy (task_if s j ((served ∙ e) z))) ∙ (λ z. run_length_if policy (task_if s k (sym e z)))
-        go (Some q) e =
-            (λ z. run_length_if policy (task_if s j ((served ∙ e) z)))
-            ∙ length_same policy (array_of s k) (array_of s j) k.progress j.progress (carried_here k q.id) (carried_here j q.id) (Some q) array progress
-            ∙ (λ z. run_length_if policy (task_if s k (sym e z)))
+    long =
+        by_option (process_served s k)
+        (λ e. (λ z. run_length_if policy (task_if s j ((served ∙ e) z))) ∙ (λ z. run_length_if policy (task_if s k (sym e z))))
+        (λ q e.
+        (λ z. run_length_if policy (task_if s j ((served ∙ e) z)))
+        ∙ length_same policy (array_of s k) (array_of s j) k.progress j.progress (carried_here k q.id) (carried_here j q.id) (Some q) array progress
+        ∙ (λ z. run_length_if policy (task_if s k (sym e z))))
 
     heard : (q : Bool) (d : Dialogue) → (dialogue_by false q c d).heard.now.agreement ≡ d.heard.now.agreement
     heard false d = refl

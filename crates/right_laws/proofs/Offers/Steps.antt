@@ -6,12 +6,12 @@ use proofs.Names.{wrong, wrong', not_first, rises, LineSet, bus, last_time, Row,
 use proofs.Names.{handshakes, strikes_if, dialogue, ScenarioValue, byte_bits, bits_if, policy_of, begun, Serving}
 use proofs.Names.{phase_of, phase_leaving, data_byte, run_length_if, one_if, lines_by, Leaving, Phase, target_def_of}
 use proofs.Names.{AreOfDevices, run_state, serving_at, leaving, task_of, given_of, drives_own, EndLines, target_side}
-use proofs.Names.{connected_bus, Linked, row_of_lines, row_of_fault, offering_with, linked_fault, may_leave}
-use proofs.Names.{same_phases, initiator_moves, target_moves, initiator_in_phase, target_in_phase, no_rise}
-use proofs.Names.{leaves_lines, target_row, initiator_row, ends, run_count, none_some, leaving_is, same_ends, LinkRow}
+use proofs.Names.{connected_bus, Linked, row_of_lines, row_of_fault, offering_with, same_phases, initiator_moves}
+use proofs.Names.{target_moves, initiator_in_phase, target_in_phase, no_rise, target_row, initiator_row, leaves_lines}
+use proofs.Names.{linked_fault, may_leave, ends, run_count, none_some, by_bool, leaving_is, same_ends, LinkRow}
 use proofs.Names.{is_pulsed, is_unasked, freed_connection, left_req, falls_is, zero_is, side_is, unrisen, zero_even}
-use Rattle.trace_laws.proofs.Lines.Kept.{requests_stay}
-use Rattle.trace_laws.proofs.Lines.Rows as rows
+use Rattle.trace_laws.specs.row_laws.proofs.Lines.Kept.{requests_stay}
+use Rattle.trace_laws.specs.row_laws.proofs.Lines.Rows as rows
 
 -- ---- what is driven
 
@@ -290,14 +290,13 @@ initiator_crosses : {A : Type 0} (s : ScenarioValue) (p : List Row) (t : ℕ) (n
 initiator_crosses s p t n e bsy ack atn x h w = unrisen p _ n e (ends bsy ack atn x e.msg e.cd e.io e.req e.given) h (initiator_moves p n e bsy ack atn x t h).linked w.rose (no_rise e.req)
 
 some_byte : (y bits : ℕ) → bits ≡ y → (count_ones bits % 2 == 1) ≡ true → (y == 0) ≡ false
-some_byte y bits e odd = some (y == 0) refl
+some_byte y bits e odd =
+    by_bool (y == 0)
+    (λ z. wrong (sym odd ∙ ap (λ (x : ℕ). count_ones x % 2 == 1) (e ∙ zero_of z) ∙ zero_even))
+    (λ z. z)
   where
     zero_of : (y == 0) ≡ true → y ≡ 0
     zero_of z = grind (arith, nat_tests)
-
-    some : (q : Bool) → (y == 0) ≡ q → (y == 0) ≡ false
-    some false z = z
-    some true z = wrong (sym odd ∙ ap (λ (x : ℕ). count_ones x % 2 == 1) (e ∙ zero_of z) ∙ zero_even)
 
 first_crosses : (s : ScenarioValue) (p : List Row) (t : ℕ) (n : Connection) (bsy atn msg cd io : Bool) (y : ℕ) → Linked p n (ends bsy false atn 0 msg cd io false y) → is_unasked p ≡ true → OffersData s p n (ends bsy false atn 0 msg cd io false y)
     → Crossing p (target_row t n (ends bsy false atn 0 msg cd io true y)) → IsDataByte s p (target_row t n (ends bsy false atn 0 msg cd io true y)) n

@@ -3,7 +3,7 @@
 use Rattle.right_laws.proofs
 use proofs.Names.{ℕ, ◌≡◌, ◌≤◌, arith, Bool, true, false, not, ◌&&◌, ◌==◌, ◌%◌, ◌∙◌, List, [], ◌∷◌, ◌++◌, length}
 use proofs.Names.{length-append, Option, Some, None, refl, sym, ap, subst, true≢false, if◌then◌else◌, is_some, wrong}
-use proofs.Names.{wrong', Event, ProcId, LineSet, changes_phase, is_command, is_data, Row, Change, Connection}
+use proofs.Names.{wrong', middle, Event, ProcId, LineSet, changes_phase, is_command, is_data, Row, Change, Connection}
 use proofs.Names.{has_group_len, ScenarioValue, process_of, same_id, RowReading, row_reading, CarriedBytes, area_with}
 use proofs.Names.{carried_after_byte, is_status_phase, is_whole_block, row_events_by, Item, process, abort, Link}
 use proofs.Names.{phase_of, Phase, RunState, or_start, bus_of, carried_here, process_item, process_served, run_state}
@@ -61,12 +61,7 @@ front_all bytes rest all e h =
     append_none (x ∷ xs) ys z = ap (λ (l : List ℕ). x ∷ l) (append_none xs ys z)
 
 group_len : (c : CarriedBytes) → is_whole_block c ≡ true → has_group_len c.block ≡ true
-group_len c e = go (not (length c.block == 0)) (has_group_len c.block) (not c.struck) e
-  where
-    go : (x y z : Bool) → (x && y && z) ≡ true → y ≡ true
-    go true true z w = refl
-    go true false z w = wrong' w
-    go false y z w = wrong' w
+group_len c e = middle (not (length c.block == 0)) (has_group_len c.block) (not c.struck) e
 
 whole_bytes : (c : CarriedBytes) (cdb : List ℕ) → TakesBlock c cdb → has_group_len cdb ≡ true → has_group_len c.block ≡ true → c.command.bytes ≡ cdb
 whole_bytes c cdb t group block =
@@ -92,9 +87,6 @@ turn_silent s k row n c g e = go g.row_is.kind
 arrival_block : (s : ScenarioValue) (k : RunState) (row : Row) (id : ProcId) → Books s k → HasPlaces s k → (k.story.bus_state.connection ≡ None → k.story.link ≡ None) → RowOf s k row → UndoesLoads k row → IsArrival k (row_reading k.story.bus_state row) id → HasBlock s (run_state_after s k row) id
 arrival_block s k row id books places apart row_is undoes h p own = by (here_goes s k row h.link id apart row_is h.here)
   where
-    d : RowReading
-    d = row_reading k.story.bus_state row
-
     by : GoesSo s k row → (carried_here (run_state_after s k row) id).command.bytes ≡ p.cdb
     by w =
         let g = w.goes in

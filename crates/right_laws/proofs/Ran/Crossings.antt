@@ -34,17 +34,14 @@ here_goes s k row l id apart (under_reset on none) h = wrong (sym on ∙ h.calm)
 -- ---- the process that is known is served
 
 pub known_served : (s : ScenarioValue) (k : RunState) (row : Row) (n : Connection) (c : Change) (l : Link) (id : ProcId) → Books s k → GoesOn s k row n c → k.story.link ≡ Some l → l.item ≡ Some (process id) → k.served ≡ Some (process id)
-known_served s k row n c l id books g link item = go (knows.item_is)
+known_served s k row n c l id books g link item =
+    elim (knows.item_is) [ inl z ↦ sym z ∙ same | inr z ↦ none_some (process id) (sym z.1 ∙ same) ]
   where
     knows : Knows s k n
     knows = books.knows n g.row_is.connection_is g.calm
 
     same : knows.link.item ≡ Some (process id)
     same = ap (λ (x : Link). x.item) (same_Some knows.link l (sym knows.link_is ∙ link)) ∙ item
-
-    go : (knows.link.item ≡ k.served) ⊎ ((n.reselected ≡ true) × (knows.link.item ≡ None)) → k.served ≡ Some (process id)
-    go (inl z) = sym z ∙ same
-    go (inr z) = none_some (process id) (sym z.1 ∙ same)
 
 -- Where it stands in the plain disk array, once a phase has begun.
 pub record IsPlaced (s : ScenarioValue) (k : RunState) (a : Array) (id : ProcId) : Type 0 where

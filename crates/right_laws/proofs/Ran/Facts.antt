@@ -6,17 +6,17 @@ use proofs.Names.{Some, None, refl, sym, ap, subst, true≢false, if◌then◌el
 use proofs.Names.{Event, ProcId, rises, LineSet, is_command, is_data, Row, Change, ScenarioValue, array_step, reply_in}
 use proofs.Names.{Reply, same_id, RunningProcess, Array, guest_at, RowReading, row_reading, CarriedBytes, area_with}
 use proofs.Names.{carried_after_byte, is_status_phase, is_complete, is_completion, row_events_by, process, has_item}
-use proofs.Names.{Link, is_run_of, has_run, story_after_events, story_by_change, phase_of, Phase, run_state_plain}
-use proofs.Names.{IsPlain, RunState, array_of, or_start, bus_of, carried_here, run_state, run_state_after}
-use proofs.Names.{array_after_events, id_is, self_id, is_in_phase, GoesOn, none_some, command_phase, replies_to}
-use proofs.Names.{listed_on, running_id, items_open, ends_over, Stood, NextStood, over_row, is_marked, ItemFacts}
-use proofs.Names.{IsUntouched, RunsOpen, PlaceFacts, PlacedIn, AreRepliesShown, Load, load, UndoesLoads, UndoLoadFacts}
-use proofs.Names.{OnEvents, IfOpen, OnOpen, HasBlock, BlockFacts, HasRun, IsEnded, RightFacts, MovesAtRun, StatusAtEnd}
-use proofs.Ran.{Blocks.{lasting_by, turn_silent, blocks_stay, blocks_arrive}, Crossings.{GoesSo, crossing_goes}}
-use proofs.Ran.Crossings.{here_goes, known_served, IsPlaced, placed_here, new_here, InBytes, in_command, in_data}
-use proofs.Ran.{Crossings.{in_status, byte_phase}, Lasting.{row_lasts}, Open.{IfAccepts, reply_kept, replies_kept}}
-use proofs.Ran.{Open.{running_has, open_step, none_is}, Shown.{IsArrival, IsAnswer, ShownAs, row_shown, RunsAs}}
-use proofs.Ran.{Shown.{runs_alone, runs_arrived, row_runs}, Undone.{lasting_load, load_asks, loads_stay}}
+use proofs.Names.{Link, is_run_of, has_run, story_after_events, story_by_change, phase_of, Phase, RunState, array_of}
+use proofs.Names.{or_start, bus_of, carried_here, run_state, run_state_after, array_after_events, id_is, self_id}
+use proofs.Names.{is_in_phase, GoesOn, none_some, command_phase, by_bool, by_option, replies_to, listed_on, running_id}
+use proofs.Names.{Stood, NextStood, is_marked, ItemFacts, IsUntouched, RunsOpen, PlaceFacts, PlacedIn, AreRepliesShown}
+use proofs.Names.{items_open, ends_over, over_row, Load, load, UndoesLoads, UndoLoadFacts, OnEvents, IfOpen, OnOpen}
+use proofs.{Names.{HasBlock, BlockFacts, HasRun, IsEnded, RightFacts, MovesAtRun, StatusAtEnd}, Ran.Blocks.{lasting_by}}
+use proofs.Ran.{Blocks.{turn_silent, blocks_stay, blocks_arrive}, Crossings.{GoesSo, crossing_goes, here_goes}}
+use proofs.Ran.Crossings.{known_served, IsPlaced, placed_here, new_here, InBytes, in_command, in_data, in_status}
+use proofs.Ran.{Crossings.{byte_phase}, Lasting.{row_lasts}, Open.{IfAccepts, reply_kept, replies_kept, running_has}}
+use proofs.Ran.{Open.{open_step, none_is}, Shown.{IsArrival, IsAnswer, ShownAs, row_shown, RunsAs, runs_alone}}
+use proofs.Ran.{Shown.{runs_arrived, row_runs}, Undone.{lasting_load, load_asks, loads_stay}}
 use Rattle.bus_due.specs.disk_array.specs.Steps
 
 no_reply : {A : Type 0} (o : Option Reply) → is_some o ≡ true → o ≡ None → A
@@ -159,21 +159,13 @@ reply_stays s p row h id given =
     answer x same w = wrong' (sym w.unanswered ∙ ap (λ (y : ProcId). is_marked (carried_here k y)) same ∙ sym (h.shown id) ∙ given)
 
     other : (x : ProcId) → (x ≡ id → ⊥) → same_id x id ≡ false
-    other x f = go (same_id x id) refl
-      where
-        go : (q : Bool) → same_id x id ≡ q → same_id x id ≡ false
-        go false e = e
-        go true e = absurd (f (id_is x id e))
+    other x f = by_bool (same_id x id) (λ e. absurd (f (id_is x id e))) (λ e. e)
 
     left : (e : Event) → ShownAs s k d row e → replies_to e id ≡ false
-    left (Event.Accept x) w = refl
     left (Event.Refuse x) w = other x (λ z. arrival x z w)
     left (Event.Run x) w = other x (λ z. answer x z w)
     left (Event.Fail x code) w = other x (λ z. answer x z w)
-    left (Event.End x status) w = refl
-    left (Event.Lost x) w = refl
-    left (Event.Aborted i t u what) w = refl
-    left (Event.Reset dev) w = refl
+    left _ w = refl
 
     each : (xs : List Event) → OnEvents (ShownAs s k d row) xs → OnEvents (λ e. replies_to e id ≡ false) xs
     each [] w = tt
@@ -200,11 +192,10 @@ pub record IsFound (a : Array) (id : ProcId) : Type 0 where
   pub running_is : Steps.running_process a id ≡ Some running
 
 pub run_found : (s : ScenarioValue) (a b : Array) (id : ProcId) → Steps.step s (Event.Run id) a ≡ Some b → IsFound a id
-run_found s a b id e = go (Steps.running_process a id) refl
-  where
-    go : (o : Option RunningProcess) → Steps.running_process a id ≡ o → IsFound a id
-    go (Some r) z = record { running = r; running_is = z }
-    go None z = none_some b (sym (ap (λ (o : Option RunningProcess). Steps.settled_array_if (Steps.run_step a (is_some (guest_at a.guests id)) o)) z) ∙ e)
+run_found s a b id e =
+    by_option (Steps.running_process a id)
+    (λ z. none_some b (sym (ap (λ (o : Option RunningProcess). Steps.settled_array_if (Steps.run_step a (is_some (guest_at a.guests id)) o)) z) ∙ e))
+    (λ r z. record { running = r; running_is = z })
 
 -- It has its block, and a reply after it.
 record Ran (s : ScenarioValue) (h : ProcId → Type 0) (b : Array) (id : ProcId) : Type 0 where
@@ -301,9 +292,6 @@ over_still s p row h id over =
     k : RunState
     k = run_state s p
 
-    pl : IsPlain s p k
-    pl = run_state_plain s p h.was.standing.devices
-
     carries : (l : Link) → k.story.link ≡ Some l → l.item ≡ Some (process id) → (row_reading k.story.bus_state row).crosses ≡ true → (row_reading k.story.bus_state row).change.before.msg ≡ false → ⊥
     carries l e item crosses msg = by (crossing_goes s k row h.next.row_is crosses)
       where
@@ -312,7 +300,7 @@ over_still s p row h id over =
             let g = w.goes in
             let served = known_served s k row w.connection w.change l id h.was.books g e item in
             let lines : (bus_of k).msg ≡ false = ap (λ (b : LineSet). b.msg) (g.row_is.bus_is ∙ ap (λ (x : Change). x.before) (sym g.row_is.change_is)) ∙ msg in
-            let opens = items_open s p w.connection h.was h.items (sym pl.connection ∙ g.row_is.connection_is) (sym (ap (λ (b : LineSet). b.rst) pl.bus) ∙ g.calm) in
+            let opens = items_open s p w.connection h.was h.items (sym h.was.plain.connection ∙ g.row_is.connection_is) (sym (ap (λ (b : LineSet). b.rst) h.was.plain.bus) ∙ g.calm) in
             true≢false (sym over ∙ opens.open_is (process id) served (not_in (bus_of k) lines))
 
 ended_stays : (s : ScenarioValue) (p : List Row) (row : Row) → Known s p row → (e : Event) → IsEnded s (run_state s p) e → IsEnded s (run_state s (row ∷ p)) e
@@ -349,13 +337,7 @@ ended_new s p row h one (Event.End id status) w =
   where
     k : RunState
     k = run_state s p
-ended_new s p row h one (Event.Accept id) w = tt
-ended_new s p row h one (Event.Refuse id) w = tt
-ended_new s p row h one (Event.Run id) w = tt
-ended_new s p row h one (Event.Fail id code) w = tt
-ended_new s p row h one (Event.Lost id) w = tt
-ended_new s p row h one (Event.Aborted i t n what) w = tt
-ended_new s p row h one (Event.Reset dev) w = tt
+ended_new s p row h one _ w = tt
 
 -- ---- any row
 

@@ -71,14 +71,12 @@ record MeetsLine (m : CommandContext) (u : UnitDef) : Type 0 where
   whole : AreWhole m.contents
 
 command_few : (m : CommandContext) (u : UnitDef) (c : Command) (sent : List ℕ) → MeetsLine m u → is_good_range m.contents.count (range_of c) ≡ true → length (command_execution m c sent).reply.bytes ≤ most_given (Ok c) (Some u)
-command_few m u Command.TestUnitReady sent h e = none_few 0
 command_few m u (Command.RequestSense room) sent h e = data_few room SENSE_LEN (sense_data (returned_sense m.present m.stored))
 command_few m u (Command.Read6 lba count) sent h e = read_few m.contents u lba (blocks_moved (Command.Read6 lba count)) h.count h.size h.whole e
-command_few m u (Command.Write6 lba count) sent h e = none_few 0
 command_few m u (Command.Inquiry room) sent h e = data_few room INQUIRY_LEN (inquiry_data m.present)
 command_few m u Command.ReadCapacity sent h e = omega arith
 command_few m u (Command.Read10 lba count) sent h e = read_few m.contents u lba count h.count h.size h.whole e
-command_few m u (Command.Write10 lba count) sent h e = none_few 0
+command_few m u _ sent h e = none_few 0
 
 range_few : (m : CommandContext) (u : UnitDef) (c : Command) (sent : List ℕ) → MeetsLine m u → length (range_execution m c sent).reply.bytes ≤ most_given (Ok c) (Some u)
 range_few m u c sent h = go (is_good_range m.contents.count (range_of c)) refl

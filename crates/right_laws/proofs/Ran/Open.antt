@@ -6,7 +6,7 @@ use proofs.Names.{same_Some, if◌then◌else◌, is_some, wrong, Event, ProcId,
 use proofs.Names.{array_step, reply_in, Reply, Process, process_of, same_id, RunningProcess, UnitState, Array, guest_at}
 use proofs.Names.{starting_array, settled_array, without_reply, array_after_events, process_id, self_id, none_some}
 use proofs.Names.{no_array, same_after, untouched_at_start, Admits, AdmitsEvent, each_after, replies_to, listed_on}
-use proofs.Names.{accepted, on_running, Each, OnUnits, OnGuests, Waits, Runs, IsAway, OnEvents, IfOpen, OnOpen}
+use proofs.Names.{accepted, Each, OnUnits, OnGuests, Waits, Runs, IsAway, on_running, OnEvents, IfOpen, OnOpen}
 use Rattle.bus_due.specs.disk_array.specs.Steps
 
 -- ---- of each process

@@ -3,10 +3,10 @@
 use Rattle.right_laws.proofs
 use proofs.Names.{◌≡◌, true, ◌∙◌, List, [], ◌∷◌, Option, sym, ap, subst, reverse-reverse, reverse, is_some, Event, Row}
 use proofs.Names.{ScenarioValue, Obeys, array_after, disks_of, Array, outcomes, all_carried, Right, Story, story}
-use proofs.Names.{trace_history, run_state_plain, IsPrompt, IsPlain, or_start, run_state, Stood, NextStood, Whole}
-use proofs.Names.{standing_next, whole, DataFacts, PlaceFacts, TellFacts, AreRepliesShown, AllMove, UndoLoadFacts}
-use proofs.{Names.{BlockFacts, RightFacts, StatusFacts}, Offers.Facts.{DataOfferFacts, offer_start, offer_next}}
-use proofs.Ran.{Blocks.{block_start, block_next}, Carried.{events_carried}, Facts.{Known, right_start, right_next}}
+use proofs.Names.{trace_history, IsPrompt, IsPlain, or_start, run_state, Stood, NextStood, PlaceFacts, AreRepliesShown}
+use proofs.Names.{DataFacts, TellFacts, Whole, standing_next, whole, AllMove, UndoLoadFacts, BlockFacts, RightFacts}
+use proofs.{Names.{StatusFacts}, Offers.Facts.{DataOfferFacts, offer_start, offer_next}, Ran.Blocks.{block_start}}
+use proofs.Ran.{Blocks.{block_next}, Carried.{events_carried}, Facts.{Known, right_start, right_next}}
 use proofs.{Ran.{Sent.{moves_at_run}, Undone.{load_start, load_next}}, Statuses.Facts.{status_start, status_next}}
 use proofs.Statuses.Facts.{status_at_end}
 
@@ -59,7 +59,7 @@ carried_rows s p o prompt h moves =
     let k = run_state s p in
     let now = joined_last s p h in
     let books = right_books s p o prompt h moves in
-    let pl : IsPlain s p k = run_state_plain s p now.stood.standing.devices in
+    let pl : IsPlain s p k = now.stood.plain in
     subst (λ (x : Story). all_carried s x x.history ≡ true) pl.story
     (events_carried s k now.places.array k.story.history
     ((λ i. array_after s (pl.story i).history) ∙ sym pl.array ∙ now.places.array_is)
@@ -70,7 +70,7 @@ right_rows s p o prompt h moves =
     let rows = reverse-reverse p in
     let history = reverse-reverse (trace_history s p) in
     let now = joined_last s p h in
-    let pl : IsPlain s p (run_state s p) = run_state_plain s p now.stood.standing.devices in
+    let pl : IsPlain s p (run_state s p) = now.stood.plain in
     record {
       told = ap (λ (x : List Row). (story s x).history) rows ∙ sym history;
       permitted = ap (λ (x : List Event). is_some (array_after s x)) history ∙ ap is_some (sym pl.array ∙ now.places.array_is);
@@ -92,5 +92,5 @@ all_joined s (row ∷ p) o prompt =
 pub history_permitted : (s : ScenarioValue) (p : List Row) → Obeys s → IsPrompt s p → is_some (array_after s (trace_history s p)) ≡ true
 history_permitted s p o prompt =
     let w = whole s p o prompt in
-    let pl : IsPlain s p (run_state s p) = run_state_plain s p w.stood.standing.devices in
+    let pl : IsPlain s p (run_state s p) = w.stood.plain in
     ap (λ (a : Option Array). is_some a) (sym pl.array ∙ w.places.array_is)

@@ -4,16 +4,16 @@ use proofs.Names.{ℕ, ◌+◌, ◌*◌, ◌≡◌, ◌≤◌, arith, Bool, true
 use proofs.Names.{subst, true≢false, eqb-true, same_Some, if◌then◌else◌, wrong, ProcId, Row, Change, Connection}
 use proofs.Names.{Handshakes, command_of, GOOD, unit_of, ScenarioValue, Obeys, Policy, array_after, reply_in, Reply}
 use proofs.Names.{range_in, Process, process_of, unit_state_at, row_reading, CarriedBytes, row_events_by, process, Link}
-use proofs.Names.{has_run, moved_bytes, phase_of, Cause, Phase, Plan, run_state_plain, progress_in, IsPlain, RunState}
-use proofs.Names.{array_of, bus_of, carried_here, process_item, run_state, run_state_after, is_writing, size_of}
-use proofs.Names.{blocks_in, block_size, is_data_out, is_of_size, start_of_run, own_of, process_id, policy_for}
-use proofs.Names.{IsFilled, GoesOn, none_some, out_no_status, fits_runs, start_is, DataFacts, run_policy, step_in}
-use proofs.Names.{run_start, is_marked, PointersIn, calm, restores, saved, PointersRefused, still_calm, restores_again}
-use proofs.Names.{saves_again, disconnects_again, closes_again, PointersAsked, PointersOf, PointersIf, ServedPointers}
-use proofs.Names.{unnamed, named, IsServedWell, bytes_come, IsRunning, SendsAtRun, GivesAtRun, OnEvents, MovesAtRun}
+use proofs.Names.{has_run, moved_bytes, phase_of, Cause, Phase, Plan, progress_in, RunState, array_of, bus_of}
+use proofs.Names.{carried_here, process_item, run_state, run_state_after, is_writing, size_of, blocks_in, block_size}
+use proofs.Names.{is_data_out, is_of_size, start_of_run, own_of, process_id, policy_for, IsFilled, GoesOn, none_some}
+use proofs.Names.{out_no_status, run_policy, step_in, run_start, is_marked, PointersIn, calm, restores, saved}
+use proofs.Names.{PointersRefused, still_calm, restores_again, saves_again, disconnects_again, closes_again}
+use proofs.Names.{PointersAsked, PointersOf, PointersIf, ServedPointers, unnamed, named, DataFacts, IsServedWell}
+use proofs.Names.{bytes_come, fits_runs, start_is, IsRunning, SendsAtRun, GivesAtRun, OnEvents, MovesAtRun}
 use proofs.Ran.{Blocks.{front_all}, Crossings.{GoesSo, here_goes, known_served}, Facts.{Known, apart_of}}
 use proofs.Ran.Shown.{IsAnswer, ShownAs, row_shown, RunsAs, runs_alone, runs_arrived, row_runs}
-use Rattle.trace_laws.specs.DataPointers.{saves, disconnects, closes}
+use Rattle.trace_laws.specs.row_laws.specs.DataPointers.{saves, disconnects, closes}
 
 -- ---- where a run begins
 
@@ -101,11 +101,8 @@ sent_bytes s p row q reply o h facts is w came = by (here_goes s k row answer.li
     filled : IsFilled c.moved q.sent
     filled = (own_of s k q h.was.books.carry is.process_is).sent w
 
-    pl : IsPlain s p k
-    pl = run_state_plain s p h.was.standing.devices
-
     starts : start_of_run s q (progress_in k.progress q.id).runs ≡ run_start s k q
-    starts = run_starts s k q o (pl.array ∙ (λ i. array_after s (sym pl.story i).history)) is.process_is w came.1
+    starts = run_starts s k q o (h.was.plain.array ∙ (λ i. array_after s (sym h.was.plain.story i).history)) is.process_is w came.1
 
     by : GoesSo s k row → c.moved.bytes ≡ q.sent
     by v = front_all c.moved.bytes filled.rest q.sent filled.bytes_are (all (reached well.pointers))

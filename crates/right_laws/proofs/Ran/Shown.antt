@@ -86,7 +86,7 @@ turn_shown s k d row l x here turns = status (is_status_phase d.change.after && 
         by false = arrives e
 
     answers : (is_status_phase d.change.after && not c.shown && not c.refused && not (list_any (λ e. is_refuse e) arrived)) ≡ true → (failure : Option ℕ) → ShownAs s k d row (status_event c.id failure)
-    answers e failure = by failure
+    answers e failure = elim failure as (λ f. ShownAs s k d row (status_event c.id f)) [ None ↦ of | Some code ↦ of ]
       where
         of : IsAnswer k d c.id
         of =
@@ -94,10 +94,6 @@ turn_shown s k d row l x here turns = status (is_status_phase d.change.after && 
             let two = and_parts (is_status_phase d.change.after && not c.shown) (not c.refused) three.0 in
             let one = and_parts (is_status_phase d.change.after) (not c.shown) two.0 in
             subst (IsAnswer k d) (sym own) (record { link = l; here = here; turns = turns; status = one.0; unanswered = λ i. not-true c.shown one.1 i || not-true c.refused two.1 i })
-
-        by : (f : Option ℕ) → ShownAs s k d row (status_event c.id f)
-        by None = of
-        by (Some code) = of
 
     status : (q : Bool) → (is_status_phase d.change.after && not c.shown && not c.refused && not (list_any (λ e. is_refuse e) arrived)) ≡ q → OnEvents (ShownAs s k d row) (if q then status_event c.id c.failure ∷ arrived else arrived)
     status true e = (answers e c.failure, queued (is_command d.change.before && is_whole_block c) refl)

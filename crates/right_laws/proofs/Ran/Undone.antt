@@ -14,13 +14,7 @@ lasting_load = record { restored = λ c. refl; told = told; faulted = faulted; r
   where
     told : (c : CarriedBytes) (m : MsgIn) → load (carried_after_message c m) ≡ load c
     told c MsgIn.SavePointer = refl
-    told c MsgIn.RestorePointers = refl
-    told c MsgIn.CommandComplete = refl
-    told c MsgIn.Disconnect = refl
-    told c MsgIn.Reject = refl
-    told c (MsgIn.Identify lun) = refl
-    told c (MsgIn.SimpleTag n) = refl
-    told c (MsgIn.Sdtr a) = refl
+    told c _ = refl
 
     faulted : (c : CarriedBytes) (b : LineSet) → load (carried_after_fault c b) ≡ load c
     faulted c b = go (is_command b) (is_data b)

@@ -16,9 +16,9 @@ use proofs.Names.{RunningProcess, UnitState, guest_at, has_no_current, is_held, 
 use proofs.Names.{starting_unit, starting_units, unit_state_at, units_after_choice, with_current, blocks_written}
 use proofs.Names.{blocks_written_by, written_of, obeys_fits, seats_are, FitsBus, lines_always, sends, line_filled}
 use proofs.Names.{start_settled, AreFilled, AreOfLines, IsOfLine, process_id, id_is, IsOf, none_some, zero_times}
-use proofs.{Names.{running_id, writer_plain, none_sent}, Given.Replies.{own_guests, own_units}, Ran.Open.{running_has}}
-use proofs.Replies.{Facts.{guest_there}, Same.{SameContext, accept_at, fail_at, place_of, refuse_at}}
-use proofs.Replies.Targeted.{unit_targeted}
+use proofs.{Names.{by_bool, by_option, running_id, writer_plain, none_sent}, Given.Replies.{own_guests, own_units}}
+use proofs.{Ran.Open.{running_has}, Replies.{Facts.{guest_there}, Same.{SameContext, accept_at, fail_at, place_of}}}
+use proofs.Replies.{Same.{refuse_at}, Targeted.{unit_targeted}}
 use Rattle.bus_due.specs.disk_array.specs.Seats
 use Rattle.bus_due.specs.disk_array.specs.Steps
 
@@ -74,14 +74,9 @@ execution_whole m cdb sent h f = all (not m.present && needs_unit cdb) f
         (g refl (ap is_write e ∙ w) ∙ ap (λ (x : ℕ). x * m.contents.size) (ap (blocks_written_by m.contents) e ∙ (λ i. if good i then written_of c else 0) ∙ is)) h
 
     command : (c : Command) → command_of cdb ≡ Ok c → is_good_range m.contents.count (range_of c) ≡ true → Is (command_execution m c sent)
-    command Command.TestUnitReady e good g = h
-    command (Command.RequestSense room) e good g = h
-    command (Command.Read6 lba count) e good g = h
     command (Command.Write6 lba count) e good g = written lba (blocks_moved (Command.Write6 lba count)) (Command.Write6 lba count) e good refl refl g
-    command (Command.Inquiry room) e good g = h
-    command Command.ReadCapacity e good g = h
-    command (Command.Read10 lba count) e good g = h
     command (Command.Write10 lba count) e good g = written lba count (Command.Write10 lba count) e good refl refl g
+    command _ e good g = h
 
     in_range : (c : Command) → command_of cdb ≡ Ok c → (y : Bool) → is_good_range m.contents.count (range_of c) ≡ y → Is (if y then command_execution m c sent else reply_execution m (check_condition block_out_of_range))
     in_range c e true good = command c e good
@@ -217,19 +212,17 @@ no_unit u (Some d) e h = absurd (none_is d e)
 -- What it sends, where it is carried out, are the bytes of the blocks that it writes.
 sent_whole : (s : ScenarioValue) (a : Array) (p : Process) → Obeys s → AreOfLines s a → process_of s p.id ≡ Some p → (execution (context_of (seat_of a p.target p.unit) p.initiator) p.cdb p.sent).reply.status ≡ GOOD → is_write (command_of p.cdb) ≡ true
     → length p.sent ≡ blocks_written (contents_of (unit_state_at a.units p.target p.unit)) p.cdb * (contents_of (unit_state_at a.units p.target p.unit)).size
-sent_whole s a p o lines is good w = go (has_target s p.target) refl
+sent_whole s a p o lines is good w =
+    by_bool (has_target s p.target)
+    (λ e. (sends s a p (obeys_fits s o) lines e is (writer_plain s p is w)).bytes good)
+    (λ e. none (unit_state_at a.units p.target p.unit) (lines p.target p.unit) e)
   where
     none : (x : Option UnitState) → IsOfLine (unit_of s p.target p.unit) x → has_target s p.target ≡ false → length p.sent ≡ blocks_written (contents_of x) p.cdb * (contents_of x).size
     none None h e = none_sent s p o is w e ∙ sym (zero_times (blocks_written no_contents p.cdb))
-    none (Some u) h e = by (unit_of s p.target p.unit) refl
-      where
-        by : (d : Option UnitDef) → unit_of s p.target p.unit ≡ d → length p.sent ≡ blocks_written u.contents p.cdb * u.contents.size
-        by None z = no_unit u (unit_of s p.target p.unit) z h
-        by (Some d) z = wrong (sym (unit_targeted s p.target p.unit d o z) ∙ e)
-
-    go : (x : Bool) → has_target s p.target ≡ x → length p.sent ≡ blocks_written (contents_of (unit_state_at a.units p.target p.unit)) p.cdb * (contents_of (unit_state_at a.units p.target p.unit)).size
-    go true e = (sends s a p (obeys_fits s o) lines e is (writer_plain s p is w)).bytes good
-    go false e = none (unit_state_at a.units p.target p.unit) (lines p.target p.unit) e
+    none (Some u) h e =
+        by_option (unit_of s p.target p.unit)
+        (λ z. no_unit u (unit_of s p.target p.unit) z h)
+        (λ d z. wrong (sym (unit_targeted s p.target p.unit d o z) ∙ e))
 
 -- ---- an event
 
@@ -302,16 +295,14 @@ lost_contents a b id t n e = go (Steps.has_ended a id) e
 -- At the seat of the process, or at another.
 of_seat : (s : ScenarioValue) (a b : Array) (e : Event) (id : ProcId) (t n : ℕ) → HasSeats s → IsSound s a → step s e a ≡ Some b → Seats.is_elsewhere s e t n ≡ Seats.is_of_other_unit (process_of s id) t n → is_some (process_of s id) ≡ true → HasWhole a
     → ((p : Process) → process_of s id ≡ Some p → AreWhole (contents_of (unit_state_at b.units p.target p.unit))) → AreWhole (contents_of (unit_state_at b.units t n))
-of_seat s a b e id t n seats sound st place some whole here = go (process_of s id) refl
-  where
-    go : (o : Option Process) → process_of s id ≡ o → AreWhole (contents_of (unit_state_at b.units t n))
-    go None z = wrong' (sym (ap (λ (x : Option Process). is_some x) z) ∙ some)
-    go (Some p) z = by (is_of_unit p t n) refl
-      where
-        by : (x : Bool) → is_of_unit p t n ≡ x → AreWhole (contents_of (unit_state_at b.units t n))
-        by false x =
-            subst AreWhole (sym (ap (λ (y : Seat). contents_of y.unit) (other_law s a b e t n seats sound (place ∙ ap (λ (o : Option Process). Seats.is_of_other_unit o t n) z ∙ ap not x) st))) (whole t n)
-        by true x = let w = place_of p t n x in subst (λ (y : ℕ). AreWhole (contents_of (unit_state_at b.units y n))) w.0 (subst (λ (y : ℕ). AreWhole (contents_of (unit_state_at b.units p.target y))) w.1 (here p z))
+of_seat s a b e id t n seats sound st place some whole here =
+    by_option (process_of s id)
+    (λ z. wrong' (sym (ap (λ (x : Option Process). is_some x) z) ∙ some))
+    (λ p z.
+    by_bool (is_of_unit p t n)
+    (λ x. let w = place_of p t n x in subst (λ (y : ℕ). AreWhole (contents_of (unit_state_at b.units y n))) w.0 (subst (λ (y : ℕ). AreWhole (contents_of (unit_state_at b.units p.target y))) w.1 (here p z)))
+    (λ x.
+    subst AreWhole (sym (ap (λ (y : Seat). contents_of y.unit) (other_law s a b e t n seats sound (place ∙ ap (λ (o : Option Process). Seats.is_of_other_unit o t n) z ∙ ap not x) st))) (whole t n)))
 
 left_so : (s : ScenarioValue) (a b : Array) (e : Event) (t n : ℕ) (o : Option Seat) → step s e a ≡ Some b → Seats.seat_if (step s e a) t n ≡ settled_seat_if o → LeavesSo b t n o → AreWhole (contents_of (unit_state_at b.units t n))
 left_so s a b e t n o st law h = h (seat_of b t n) (sym law ∙ ap (λ (x : Option Array). Seats.seat_if x t n) st)
@@ -334,24 +325,19 @@ abort_whole s a b i to un what t n seats sound st whole = go what st
         (leaves_some b to un (Seats.seat_after_aborted s.hosts i w (seat_of a to un)) (aborted_whole s.hosts i w (seat_of a to un) (whole to un)))))
 
     placed : (w : AbortKind) → step s (Event.Aborted i to un w) a ≡ Some b → Seats.is_elsewhere s (Event.Aborted i to un w) t n ≡ not (to == t && un == n) → AreWhole (contents_of (unit_state_at b.units t n))
-    placed w z is = by (to == t && un == n) refl
-      where
-        by : (x : Bool) → (to == t && un == n) ≡ x → AreWhole (contents_of (unit_state_at b.units t n))
-        by true e = here w z e
-        by false e = other w z (is ∙ ap not e)
+    placed w z is = by_bool (to == t && un == n) (λ e. here w z e) (λ e. other w z (is ∙ ap not e))
 
     go : (w : AbortKind) → step s (Event.Aborted i to un w) a ≡ Some b → AreWhole (contents_of (unit_state_at b.units t n))
     go AbortKind.All z = placed AbortKind.All z refl
     go (AbortKind.Tag x) z = placed (AbortKind.Tag x) z refl
     go AbortKind.WholeQueue z = placed AbortKind.WholeQueue z refl
-    go AbortKind.Device z = by (to == t) refl
-      where
-        by : (x : Bool) → (to == t) ≡ x → AreWhole (contents_of (unit_state_at b.units t n))
-        by false e = other AbortKind.Device z (ap not e)
-        by true e =
-            subst (λ (y : ℕ). AreWhole (contents_of (unit_state_at b.units y n))) (eqb-true to t e)
-            (left_so s a b (Event.Aborted i to un AbortKind.Device) to n (Some (Seats.seat_after_reset s.hosts (seat_of a to n))) z (device_law s a i to un n seats sound)
-            (leaves_some b to n (Seats.seat_after_reset s.hosts (seat_of a to n)) (kept_whole (seat_of a to n) (λ p. true) (whole to n))))
+    go AbortKind.Device z =
+        by_bool (to == t)
+        (λ e.
+        subst (λ (y : ℕ). AreWhole (contents_of (unit_state_at b.units y n))) (eqb-true to t e)
+        (left_so s a b (Event.Aborted i to un AbortKind.Device) to n (Some (Seats.seat_after_reset s.hosts (seat_of a to n))) z (device_law s a i to un n seats sound)
+        (leaves_some b to n (Seats.seat_after_reset s.hosts (seat_of a to n)) (kept_whole (seat_of a to n) (λ p. true) (whole to n)))))
+        (λ e. other AbortKind.Device z (ap not e))
 
 whole_step : (s : ScenarioValue) (a b : Array) (e : Event) → Obeys s → IsSound s a → AreOfLines s a → step s e a ≡ Some b → HasWhole a → HasWhole b
 whole_step s a b e o sound lines st whole t n = go e st

@@ -8,7 +8,7 @@ use proofs.Names.{process_of, same_id, Seat, context_of, current_of, guests_at, 
 use proofs.Names.{settled_seat_if, AllOwnGuests, HasSeats, IsSound, is_of_unit, step, Array, RunningProcess, UnitState}
 use proofs.Names.{guest_at, unit_state_at, RowReading, row_reading, is_status_phase, row_events_by, process, has_run}
 use proofs.Names.{phase_of, Cause, Messages, Next, Phase, Plan, RunState, bus_of, run_state, array_after_events}
-use proofs.Names.{reply_now, run_replies as run_gives, id_is, none_some, Arrives, arrives, as_guest, in_queue}
+use proofs.Names.{reply_now, run_replies as run_gives, id_is, none_some, by_bool, Arrives, arrives, as_guest, in_queue}
 use proofs.Names.{not_running, queued_rests, AnsweredOpen, Closes, IsAtRest, IsAway, IsOutside, IsTaken, IsUntouched}
 use proofs.Names.{OnGuests, PlacedAsked, PlacedBefore, PlacedIn, RunsOpen, completes, disconnects, OnEvents}
 use proofs.Ran.Crossings.{GoesSo, InBytes, IsPlaced, byte_phase, here_goes, in_command, in_data, in_status}
@@ -208,11 +208,10 @@ run_same s p row h x q seats own place ran w = by shape
         of true t i z = wrong' z
 
     begun : k.exchange.begun ≡ true
-    begun = of k.exchange.begun refl
-      where
-        of : (y : Bool) → k.exchange.begun ≡ y → k.exchange.begun ≡ true
-        of true e = e
-        of false e = wrong' (sym (no_out d.change.after answer.status) ∙ g.goes.first answer.turns e)
+    begun =
+        by_bool k.exchange.begun
+        (λ e. e)
+        (λ e. wrong' (sym (no_out d.change.after answer.status) ∙ g.goes.first answer.turns e))
 
     alone : step s (Event.Run x.id) a ≡ Some b → reply_now b q ≡ reply_now a q
     alone st = run_step_same s a b x q seats h.places.sound own place kind w st

@@ -8,15 +8,15 @@ use proofs.Names.{UnitState, Nexus, Array, unit_state_at, guest_at, is_held, has
 use proofs.Names.{unit_after_choice, starting_array, settled_array, carried_id, RowReading, row_reading, CarriedBytes}
 use proofs.Names.{carried_if, row_events_by, Item, process, abort, Link, phase_of, Phase, ProcessProgress, RunState}
 use proofs.Names.{array_of, bus_of, carried_here, run_state, array_after_events, Writer, process_id, id_is, self_id}
-use proofs.Names.{away_guest, none_some, step_units, MayWait, StaysSo, each_settled, events_all, HoldsIt, IsElsewhere}
+use proofs.Names.{none_some, by_bool, step_units, MayWait, StaysSo, each_settled, events_all, HoldsIt, IsElsewhere}
 use proofs.Names.{Stands, append_all, empty_stays, kept_all, map_all, map_units, none_at, stands_each, start_empty}
-use proofs.Names.{without_all, ArrivesNow, arrives_first, AllP, RunsP, UnitsP, Runs, MayRun, RunsOpen, PlacedIn}
-use proofs.{Names.{AllUnits, IsEmptyUnit, IsOther, IsWrittenUnit, NoneAtArrival}, Given.Bytes.{moved_stays}}
+use proofs.Names.{without_all, AllP, RunsP, UnitsP, Runs, MayRun, RunsOpen, PlacedIn, AllUnits, IsEmptyUnit, IsOther}
+use proofs.{Names.{IsWrittenUnit, away_guest, ArrivesNow, arrives_first, NoneAtArrival}, Given.Bytes.{moved_stays}}
 use proofs.{Given.Bytes.{no_data_in_command}, Ran.Crossings.{GoesSo, InBytes, IsPlaced, byte_phase, crossing_goes}}
 use proofs.Ran.{Crossings.{in_command, in_data, in_status, known_served, placed_here}, Facts.{Known, here_is, steps_of}}
 use proofs.Ran.Facts.{then_is}
 use Rattle.bus_due.specs.disk_array.specs.Steps
-use Rattle.trace_laws.proofs.Events.Queued
+use Rattle.trace_laws.specs.row_laws.proofs.Events.Queued
 
 -- ---- what is kept
 
@@ -122,11 +122,10 @@ both_units q r t (u ∷ units) f h g = (f u h.0 g.0, both_units q r t units f h.
 
 -- A process of the scenario that is not of this place, or not of this kind, is another.
 other_by : (s : ScenarioValue) (t n : ℕ) (p x : Process) → IsOwn s t n p → process_of s x.id ≡ Some x → (p ≡ x → ⊥) → same_id p.id x.id ≡ false
-other_by s t n p x own is apart = go (same_id p.id x.id) refl
-  where
-    go : (q : Bool) → same_id p.id x.id ≡ q → same_id p.id x.id ≡ false
-    go false e = e
-    go true e = absurd (apart (same_Some p x (sym own.is ∙ ap (process_of s) (id_is p.id x.id e) ∙ is)))
+other_by s t n p x own is apart =
+    by_bool (same_id p.id x.id)
+    (λ e. absurd (apart (same_Some p x (sym own.is ∙ ap (process_of s) (id_is p.id x.id e) ∙ is))))
+    (λ e. e)
 
 placed_there : (t n : ℕ) (p : Process) → p.target ≡ t → p.unit ≡ n → (t == p.target && n == p.unit) ≡ true
 placed_there t n p e f = (λ i. sym e i == p.target && sym f i == p.unit) ∙ (λ i. eq_self p.target i && p.unit == p.unit) ∙ eq_self p.unit
@@ -169,7 +168,7 @@ not_waits s made all a x sound is plain written runs = go (guest_at a.guests x.i
     guest : (g : RunningProcess) → guest_at a.guests x.id ≡ Some g → AllUnits (IsNotIn x.id) a.units
     guest g e = by runs.kind
       where
-        by : ((unit_state_at a.units x.target x.unit ≡ None) ⊎ (is_request_sense (command_of x.cdb) ≡ true)) ⊎ Rattle.trace_laws.specs.Places.IsAtRest a x.id → AllUnits (IsNotIn x.id) a.units
+        by : ((unit_state_at a.units x.target x.unit ≡ None) ⊎ (is_request_sense (command_of x.cdb) ≡ true)) ⊎ Rattle.trace_laws.specs.row_laws.specs.Places.IsAtRest a x.id → AllUnits (IsNotIn x.id) a.units
         by (inl (inl none)) = absent none
         by (inl (inr senses)) = sensing senses
         by (inr rests) = absurd (away_guest a.guests x.id g rests.guests e)

@@ -1,26 +1,26 @@
 -- Of a row of a prompt trace: the reply of a process that has carried data stays (7.3, 7.5, 7.8).
 use Rattle.right_laws.proofs
 use proofs.Names.{ℕ, ◌≡◌, ◌⊎◌, inl, inr, Bool, true, false, not, ◌&&◌, ◌||◌, ◌==◌, ◌<◌, ◌∙◌, List, [], ◌∷◌, Option}
-use proofs.Names.{Some, None, refl, sym, ap, subst, eqb-true, same_Some, list_any, if◌then◌else◌, is_none, is_some}
-use proofs.Names.{eq_self, eq_turned, wrong, wrong', AbortKind, Event, ProcId, rises, LineSet, bus, Row, Change}
-use proofs.Names.{Connection, command_of, ScenarioValue, AbortDef, reply_in, Reply, is_request_sense, Process}
+use proofs.Names.{Some, None, refl, sym, ap, subst, eqb-true, or_right, same_Some, list_any, if◌then◌else◌, is_none}
+use proofs.Names.{is_some, eq_self, eq_turned, wrong, wrong', AbortKind, Event, ProcId, rises, LineSet, bus, Row}
+use proofs.Names.{Change, Connection, command_of, ScenarioValue, AbortDef, reply_in, Reply, is_request_sense, Process}
 use proofs.Names.{process_of, same_id, is_of_other_unit, HasSeats, AllOwnGuests, AllOwnUnits, AreApart, IsOwn}
 use proofs.Names.{IsOwnRunning, is_of_unit, step, Array, RunningProcess, UnitState, settled_array, unit_state_at}
 use proofs.Names.{RowReading, row_reading, abort_line_at, abort_line_events, bus_free_events, item_abort_events}
 use proofs.Names.{item_loss_events, link_events, row_events_by, Item, abort, process, Link, LastMessage, abortive}
 use proofs.Names.{complete, disconnect, plain, has_run, is_run_of, run_state_plain, RunState, array_of, run_state}
 use proofs.Names.{array_after_events, served_after, reply_now, process_id, id_is, self_id, is_served_by, Knows, RowOf}
-use proofs.Names.{begins, goes_on, under_reset, row_apart, change_plain, none_some, leaves, stays_queued, step_units}
-use proofs.Names.{running_id, map_units, AllP, RunsP, UnitsP, OnGuests, OnUnits, Runs, Waits, IsAway, AllUnits}
-use proofs.Names.{IsEmptyUnit, HasReplyThen, abort_may_change, any_may_change, may_change, IfOpen, OnEvents, OnOpen}
-use proofs.Ran.{Crossings.{GoesSo, here_goes, known_served}, Facts.{Known, apart_of, here_is, steps_of, then_is}}
-use proofs.Ran.{Open.{none_guests}, Shown.{IsAnswer, IsEnding, IsHere, ShownAs, row_runs, row_shown}}
-use proofs.Replies.{Facts.{IsCurrent, answer_here, run_replies, run_same}, Queues.{CleanFacts, IsCleanUnit, IsNoSense}}
-use proofs.Replies.{Queues.{SenselessFacts, moved_of}, Stays.{end_same}}
+use proofs.Names.{begins, goes_on, under_reset, row_apart, change_plain, none_some, by_bool, leaves, stays_queued}
+use proofs.Names.{step_units, running_id, map_units, AllP, RunsP, UnitsP, OnGuests, OnUnits, Runs, Waits, IsAway}
+use proofs.Names.{AllUnits, IsEmptyUnit, HasReplyThen, abort_may_change, any_may_change, may_change, IfOpen, OnEvents}
+use proofs.{Names.{OnOpen}, Ran.{Crossings.{GoesSo, here_goes, known_served}, Facts.{Known, apart_of, here_is}}}
+use proofs.Ran.{Facts.{steps_of, then_is}, Open.{none_guests}, Shown.{IsAnswer, IsEnding, IsHere, ShownAs, row_runs}}
+use proofs.{Ran.Shown.{row_shown}, Replies.{Facts.{IsCurrent, answer_here, run_replies, run_same}, Queues.{CleanFacts}}}
+use proofs.Replies.{Queues.{IsCleanUnit, IsNoSense, SenselessFacts, moved_of}, Stays.{end_same}}
 use Rattle.trace_laws.specs.bus_books.specs.Traces.{ends}
 use Rattle.right_laws.specs.GivenPointers.{StaysSo}
 use Rattle.bus_due.specs.disk_array.specs.Steps
-use Rattle.trace_laws.proofs.Events.Queued
+use Rattle.trace_laws.specs.row_laws.proofs.Events.Queued
 
 -- ---- the process that the initiator knows is one of the scenario
 
@@ -34,14 +34,10 @@ known_process s p row h l id calm link item = go h.next.row_is
     served e = ap (λ (o : Option Process). is_some o) (h.places.of_scenario id e).1
 
     by : (n : Connection) → Knows s k n → is_some (process_of s id) ≡ true
-    by n w = at w.item_is
+    by n w = elim w.item_is [ inl z ↦ served (sym z ∙ same) | inr z ↦ none_some (process id) (sym z.1 ∙ same) ]
       where
         same : w.link.item ≡ Some (process id)
         same = ap (λ (x : Link). x.item) (same_Some w.link l (sym w.link_is ∙ link)) ∙ item
-
-        at : (w.link.item ≡ k.served) ⊎ ((n.reselected ≡ true) × (w.link.item ≡ None)) → is_some (process_of s id) ≡ true
-        at (inl z) = served (sym z ∙ same)
-        at (inr z) = none_some (process id) (sym z.1 ∙ same)
 
     go : RowOf s k row → is_some (process_of s id) ≡ true
     go (row_apart con next) = none_some l (sym (apart_of s p row h con) ∙ link)
@@ -86,17 +82,16 @@ found s k row q (event ∷ shown) h e = go (may_change s q event) refl e (λ z. 
     go true z w rest = record { event = event; shown_as = h.0; changes = z; stands = λ f y. λ i. y i || list_any f shown }
     go false z w rest =
         let g = rest w in
-        record { event = g.event; shown_as = g.shown_as; changes = g.changes; stands = λ f y. both (f event) (list_any f shown) (g.stands f y) }
-      where
-        both : (a b : Bool) → b ≡ true → (a || b) ≡ true
-        both true b y = refl
-        both false b y = y
+        record { event = g.event; shown_as = g.shown_as; changes = g.changes; stands = λ f y. or_right (f event) (list_any f shown) (g.stands f y) }
 
 run_is : (id : ProcId) → is_run_of id (Event.Run id) ≡ true
 run_is id = self_id id
 
 pub changing : (s : ScenarioValue) (p : List Row) (row : Row) (h : Known s p row) (q : Process) → (row_reading (run_state s p).story.bus_state row).change.after.rst ≡ false → any_may_change s q (row_events_by s (run_state s p).story (row_reading (run_state s p).story.bus_state row) row) ≡ true → Changing s (run_state s p) row q
-changing s p row h q calm may = go (is_some d.next) refl
+changing s p row h q calm may =
+    by_bool (is_some d.next)
+    (λ e. stands e (found s k row q shown (row_shown s k row) may))
+    (λ e. free e k.story.link refl)
   where
     k : RunState
     k = run_state s p
@@ -179,10 +174,6 @@ changing s p row h q calm may = go (is_some d.next) refl
         by (Event.Aborted i t n what) w m f = wrong (sym next ∙ w)
         by (Event.Reset dev) w m f = wrong (sym w ∙ calm)
 
-    go : (x : Bool) → is_some d.next ≡ x → Changing s k row q
-    go true e = stands e (found s k row q shown (row_shown s k row) may)
-    go false e = free e k.story.link refl
-
 -- ---- an abort drops those whose reply it may change
 
 pub dropped_by : (q : Process) (i t n : ℕ) (what : AbortKind) → abort_may_change q i t n what ≡ true → stays_queued (Event.Aborted i t n what) q ≡ false
@@ -250,7 +241,10 @@ pub record StaysAsked (s : ScenarioValue) (p : List Row) (row : Row) : Type 0 wh
   pub clean : CleanFacts s (row ∷ p)
 
 pub stays_so : (s : ScenarioValue) (p : List Row) (row : Row) → StaysAsked s p row → StaysSo s (run_state s p) row
-stays_so s p row w = go d.change.after.rst refl
+stays_so s p row w =
+    by_bool d.change.after.rst
+    (λ e. subst (OnOpen (HasReplyThen s k row)) (sym (then_is s p row h)) (cleared (ap (λ (x : Change). x.after.rst) (sym (change_plain s row p h.was.standing.devices w.inside)) ∙ e)))
+    (λ e. subst (OnOpen (HasReplyThen s k row)) (sym (then_is s p row h)) (calm_all e))
   where
     h : Known s p row
     h = w.known
@@ -353,7 +347,10 @@ stays_so s p row w = go d.change.after.rst refl
             Same = reply_now (array_of s j) q ≡ reply_now (array_of s k) q
 
             it_is : (x : Process) (l : Link) → IsHere k d l x.id → same_id r.process.id x.id ≡ true
-            it_is x l here = of (is_served_by j.served r.process.id) refl
+            it_is x l here =
+                by_bool (is_served_by j.served r.process.id)
+                (λ z. ap (λ (o : Option Item). is_served_by o r.process.id) (sym served) ∙ z)
+                (λ z. wrong (sym (self_id r.process.id) ∙ rests r.process.id z))
               where
                 g : GoesSo s k row
                 g = here_goes s k row l x.id (apart_of s p row h) h.next.row_is here
@@ -364,10 +361,6 @@ stays_so s p row w = go d.change.after.rst refl
 
                 served : j.served ≡ Some (process x.id)
                 served = (λ i. served_after s k (g.goes.row_is.connection_is i) d.next) ∙ kept d.next here.stands ∙ known_served s k row g.connection g.change l x.id h.was.books g.goes here.link_is here.item_is
-
-                of : (y : Bool) → is_served_by j.served r.process.id ≡ y → same_id r.process.id x.id ≡ true
-                of false z = wrong (sym (self_id r.process.id) ∙ rests r.process.id z)
-                of true z = ap (λ (o : Option Item). is_served_by o r.process.id) (sym served) ∙ z
 
             by : Changing s k row q → Same
             by (by_run x own_x place ran) =
@@ -384,7 +377,3 @@ stays_so s p row w = go d.change.after.rst refl
         guests_by : (guests : List RunningProcess) → AllOwnGuests s guests → ((id : ProcId) → is_served_by j.served id ≡ false → OnGuests (IsAway id) guests) → ((id : ProcId) (status : ℕ) → shown ≡ Event.End id status ∷ [] → OnGuests (IsAway id) guests) → OnGuests St guests
         guests_by [] own rests ended = tt
         guests_by (r ∷ guests) own rests ended = (guest_by r own.0 (λ id f. (rests id f).0) (λ id status e. (ended id status e).0), guests_by guests own.1 (λ id f. (rests id f).1) (λ id status e. (ended id status e).1))
-
-    go : (x : Bool) → d.change.after.rst ≡ x → StaysSo s k row
-    go true e = subst (OnOpen (HasReplyThen s k row)) (sym (then_is s p row h)) (cleared (ap (λ (x : Change). x.after.rst) (sym (change_plain s row p h.was.standing.devices w.inside)) ∙ e))
-    go false e = subst (OnOpen (HasReplyThen s k row)) (sym (then_is s p row h)) (calm_all e)

@@ -8,9 +8,9 @@ use proofs.Names.{step_sound, is_own, array_step, Reply, check_condition, execut
 use proofs.Names.{sense_of, Process, process_of, Seat, seat_of, seat_if, context_of, settled_seat, settled_seat_if}
 use proofs.Names.{HasSeats, IsSound, has_ended, has_tag, is_of_unit, process_count, step, Array, RunningProcess}
 use proofs.Names.{UnitState, row_reading, row_events_by, RunState, array_of, run_state, run_state_after}
-use proofs.Names.{array_after_events, reply_now, context_same, process_id, none_some, HasReplyStill, abort_may_change}
-use proofs.{Names.{may_change, any_may_change, HasReplyThen, IfOpen, OnOpen}, Ran.Facts.{Known, here_is, steps_of}}
-use proofs.Ran.{Facts.{then_is}, Open.{each_map}}
+use proofs.Names.{array_after_events, reply_now, context_same, process_id, none_some, by_bool, by_option, HasReplyStill}
+use proofs.{Names.{abort_may_change, may_change, any_may_change, HasReplyThen, IfOpen, OnOpen}, Ran.Facts.{Known}}
+use proofs.Ran.{Facts.{here_is, steps_of, then_is}, Open.{each_map}}
 use Rattle.bus_due.specs.disk_array.specs.Seats
 
 no_process : {A : Type 0} (o : Option Process) → o ≡ None → is_some o ≡ true → A
@@ -113,15 +113,13 @@ elsewhere_context s a b e t n from seats sound other st = ap (λ (x : Seat). con
 -- Of this unit, or of another.
 pub of_process : (s : ScenarioValue) (a b : Array) (e : Event) (id : ProcId) (t n from : ℕ) → HasSeats s → IsSound s a → step s e a ≡ Some b → Seats.is_elsewhere s e t n ≡ Seats.is_of_other_unit (process_of s id) t n → is_some (process_of s id) ≡ true
     → ((p : Process) → process_of s id ≡ Some p → SameContext a b p.target p.unit from) → SameContext a b t n from
-of_process s a b e id t n from seats sound st place some here = go (process_of s id) refl
-  where
-    go : (o : Option Process) → process_of s id ≡ o → SameContext a b t n from
-    go None z = no_process (process_of s id) z some
-    go (Some p) z = by (is_of_unit p t n) refl
-      where
-        by : (x : Bool) → is_of_unit p t n ≡ x → SameContext a b t n from
-        by false x = elsewhere_context s a b e t n from seats sound (place ∙ ap (λ (o : Option Process). Seats.is_of_other_unit o t n) z ∙ ap not x) st
-        by true x = let w = place_of p t n x in subst (λ (y : ℕ). SameContext a b y n from) w.0 (subst (λ (y : ℕ). SameContext a b p.target y from) w.1 (here p z))
+of_process s a b e id t n from seats sound st place some here =
+    by_option (process_of s id)
+    (λ z. no_process (process_of s id) z some)
+    (λ p z.
+    by_bool (is_of_unit p t n)
+    (λ x. let w = place_of p t n x in subst (λ (y : ℕ). SameContext a b y n from) w.0 (subst (λ (y : ℕ). SameContext a b p.target y from) w.1 (here p z)))
+    (λ x. elsewhere_context s a b e t n from seats sound (place ∙ ap (λ (o : Option Process). Seats.is_of_other_unit o t n) z ∙ ap not x) st))
 
 pub seat_is : (s : ScenarioValue) (a b : Array) (e : Event) (t n from : ℕ) (o : Option Seat) → step s e a ≡ Some b → seat_if (step s e a) t n ≡ settled_seat_if o → SameAfter (seat_of a t n) from o → context_of (seat_of b t n) from ≡ context_of (seat_of a t n) from
 seat_is s a b e t n from o st law same = same (seat_of b t n) (sym law ∙ ap (λ (x : Option Array). seat_if x t n) st)
@@ -181,11 +179,10 @@ abort_here s a b i t n what q seats sound place st same =
 abort_same : (s : ScenarioValue) (a b : Array) (i t n : ℕ) (what : AbortKind) (q : Process) → HasSeats s → IsSound s a → abort_may_change q i t n what ≡ false → step s (Event.Aborted i t n what) a ≡ Some b → reply_now b q ≡ reply_now a q
 abort_same s a b i t n AbortKind.WholeQueue q seats sound f st = elsewhere_same s a b (Event.Aborted i t n AbortKind.WholeQueue) q seats sound (ap not f) st
 abort_same s a b i t n AbortKind.Device q seats sound f st = elsewhere_same s a b (Event.Aborted i t n AbortKind.Device) q seats sound (ap not f) st
-abort_same s a b i t n (AbortKind.Tag x) q seats sound f st = go (t == q.target && n == q.unit) refl
-  where
-    go : (y : Bool) → (t == q.target && n == q.unit) ≡ y → reply_now b q ≡ reply_now a q
-    go false e = elsewhere_same s a b (Event.Aborted i t n (AbortKind.Tag x)) q seats sound (ap not e) st
-    go true e = abort_here s a b i t n (AbortKind.Tag x) q seats sound e st (λ seat. kept_context seat (λ p. p.initiator == i && has_tag p.tag x) q.initiator)
+abort_same s a b i t n (AbortKind.Tag x) q seats sound f st =
+    by_bool (t == q.target && n == q.unit)
+    (λ e. abort_here s a b i t n (AbortKind.Tag x) q seats sound e st (λ seat. kept_context seat (λ p. p.initiator == i && has_tag p.tag x) q.initiator))
+    (λ e. elsewhere_same s a b (Event.Aborted i t n (AbortKind.Tag x)) q seats sound (ap not e) st)
 abort_same s a b i t n AbortKind.All q seats sound f st = go (i == q.initiator) refl (t == q.target && n == q.unit) refl f
   where
     go : (x : Bool) → (i == q.initiator) ≡ x → (y : Bool) → (t == q.target && n == q.unit) ≡ y → (x && y) ≡ false → reply_now b q ≡ reply_now a q
@@ -232,11 +229,10 @@ reply_stays_by s p row seats h stays = each_map (IfOpen (HasReplyThen s k row) b
     shown = row_events_by s k.story (row_reading k.story.bus_state row) row
 
     still : (id : ProcId) → HasReplyThen s k row id → HasReplyStill s k (run_state_after s k row) id
-    still id has q own some = go (any_may_change s q shown) refl
-      where
-        go : (x : Bool) → any_may_change s q shown ≡ x → reply_now b q ≡ reply_now (array_of s k) q
-        go true e = has q own some e
-        go false e =
-            ap (λ (x : Array). reply_now x q) (then_is s p row h)
-            ∙ (events_same s h.places.array h.later.array shown q seats h.places.sound e (steps_of s p row h)).same
-            ∙ ap (λ (x : Array). reply_now x q) (sym (here_is s p row h))
+    still id has q own some =
+        by_bool (any_may_change s q shown)
+        (λ e. has q own some e)
+        (λ e.
+        ap (λ (x : Array). reply_now x q) (then_is s p row h)
+        ∙ (events_same s h.places.array h.later.array shown q seats h.places.sound e (steps_of s p row h)).same
+        ∙ ap (λ (x : Array). reply_now x q) (sym (here_is s p row h)))

@@ -16,14 +16,8 @@ abbrev pub sensing : CommandContext → Option Sense → CommandContext
 sensing m x = record m { stored = x }
 
 stored_command : (m : CommandContext) (x : Option Sense) (c : Command) (sent : List ℕ) → is_request_sense (Ok c) ≡ false → (command_execution (sensing m x) c sent).reply ≡ (command_execution m c sent).reply
-stored_command m x Command.TestUnitReady sent e = refl
 stored_command m x (Command.RequestSense room) sent e = wrong e
-stored_command m x (Command.Read6 lba count) sent e = refl
-stored_command m x (Command.Write6 lba count) sent e = refl
-stored_command m x (Command.Inquiry room) sent e = refl
-stored_command m x Command.ReadCapacity sent e = refl
-stored_command m x (Command.Read10 lba count) sent e = refl
-stored_command m x (Command.Write10 lba count) sent e = refl
+stored_command m x _ sent e = refl
 
 stored_cdb : (m : CommandContext) (x : Option Sense) (c : Result Command CdbFault) (sent : List ℕ) → is_request_sense c ≡ false → (cdb_execution (sensing m x) c sent).reply ≡ (cdb_execution m c sent).reply
 stored_cdb m x (Ok c) sent e = go (is_good_range m.contents.count (range_of c))

@@ -1,9 +1,9 @@
 -- The target of each unit of a scenario that obeys the rules of its text is a target of it.
 use Rattle.right_laws.proofs
 use proofs.Names.{ℕ, ◌≡◌, Bool, true, false, cond, ◌||◌, ◌∙◌, List, [], ◌∷◌, ◌++◌, Some, Ok, refl, sym, ap, subst, ◌==◌}
-use proofs.Names.{◌&&◌, true≢false, eqb-true, AllByRecursion, find, list_any, bind_ok, ok_is, Said, scsi_line}
-use proofs.Names.{initiator_line, target_line, unit_line, fill_line, cmd_line, abort_line, reset_line, fault_line}
-use proofs.Names.{end_line, has_target, unit_of, Progress, guard, host_def, target_def, unit_def, fill_def}
+use proofs.Names.{◌&&◌, true≢false, eqb-true, AllByRecursion, find, list_any, and_first, bind_ok, ok_is, Said}
+use proofs.Names.{scsi_line, initiator_line, target_line, unit_line, fill_line, cmd_line, abort_line, reset_line}
+use proofs.Names.{fault_line, end_line, has_target, unit_of, Progress, guard, host_def, target_def, unit_def, fill_def}
 use proofs.Names.{full_cmd_def, abort_def, reset_def, fault_def, added, said_after, fits_version, in_order, rank}
 use proofs.Names.{kind_of, nothing, ScenarioValue, saids, built, Obeys, TargetDef, UnitDef, all_are, all_more}
 use proofs.Names.{unit_read, none_some}
@@ -81,12 +81,8 @@ found_targeted : (s : ScenarioValue) (units : List UnitDef) (t n : ℕ) (u : Uni
 found_targeted s [] t n u a e = none_some u e
 found_targeted s (v ∷ units) t n u a e = go (v.target == t && v.unit == n) refl e (λ z. found_targeted s units t n u a.1 z)
   where
-    first : (x y : Bool) → (x && y) ≡ true → x ≡ true
-    first true y z = refl
-    first false y z = z
-
     go : (q : Bool) → (v.target == t && v.unit == n) ≡ q → cond q (Some v) (find (λ (w : UnitDef). w.target == t && w.unit == n) units) ≡ Some u → (find (λ (w : UnitDef). w.target == t && w.unit == n) units ≡ Some u → has_target s t ≡ true) → has_target s t ≡ true
-    go true f z rest = ap (has_target s) (sym (eqb-true v.target t (first (v.target == t) (v.unit == n) f))) ∙ a.0
+    go true f z rest = ap (has_target s) (sym (eqb-true v.target t (and_first (v.target == t) (v.unit == n) f))) ∙ a.0
     go false f z rest = rest z
 
 pub unit_targeted : (s : ScenarioValue) (t n : ℕ) (u : UnitDef) → Obeys s → unit_of s t n ≡ Some u → has_target s t ≡ true

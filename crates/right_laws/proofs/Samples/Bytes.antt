@@ -1,16 +1,16 @@
 -- The byte that crossed in the last row: its receiver samples it next.
 use Rattle.right_laws.proofs
 use proofs.Names.{ℕ, ◌≡◌, ◌⊎◌, inl, inr, ◌≤◌, ◌<◌, Bool, true, false, ◌==◌, ◌∙◌, List, [], ◌∷◌, Option, Some, None}
-use proofs.Names.{refl, sym, ap, subst, arith, nat_tests, same_Some, if◌then◌else◌, is_some, wrong', eq_self, change_of}
-use proofs.Names.{call, connection, connection_after, receiver, receiver_in, receiver_of, is_fault, last_time}
-use proofs.Names.{line_times, Fault, Row, Change, Connection, Call, handshakes, dialogue, is_of_device, ScenarioValue}
-use proofs.Names.{latency_of, sample_due, fault_due, Due, begun, run_state_plain, is_receiver, IsLeast, AreOfDevices}
-use proofs.Names.{crossed, crossed_if, run_state, flip_of, EndLines, initiator_side, target_side, Linked, device_with}
-use proofs.Names.{own_time, unreset_due, CalmStanding, sight_with, pace_with, offering_with, answering_with}
-use proofs.Names.{target_plain, initiator_plain, is_sampling, target_is, initiator_is, Mover, by_fault, by_initiator}
-use proofs.{Names.{by_target, mover_is, due_of, is_pulsed}, Samples.Ends.{target_lines, initiator_lines}}
-use proofs.Samples.{Ends.{assertion_some, late_target, late_initiator}, NoFaults.{IsOfLines, of_lines}}
-use proofs.Samples.Takes.{IsNoLater, Takes, Awaits}
+use proofs.Names.{refl, sym, ap, subst, arith, nat_tests, same_Some, if◌then◌else◌, is_some, wrong', eq_self}
+use proofs.Names.{none_number, change_of, call, connection, connection_after, receiver, receiver_in, receiver_of}
+use proofs.Names.{is_fault, last_time, line_times, Fault, Row, Change, Connection, Call, handshakes, dialogue}
+use proofs.Names.{is_of_device, ScenarioValue, latency_of, sample_due, fault_due, Due, begun, run_state_plain}
+use proofs.Names.{is_receiver, IsLeast, AreOfDevices, crossed, crossed_if, run_state, flip_of, EndLines, initiator_side}
+use proofs.Names.{target_side, Linked, device_with, own_time, unreset_due, CalmStanding, sight_with, pace_with}
+use proofs.Names.{offering_with, answering_with, target_plain, initiator_plain, is_sampling, target_is, initiator_is}
+use proofs.Names.{Mover, by_fault, by_initiator, by_target, mover_is, due_of, by_bool, is_pulsed}
+use proofs.Samples.Ends.{target_lines, initiator_lines, assertion_some, late_target, late_initiator}
+use proofs.Samples.{NoFaults.{IsOfLines, of_lines}, Takes.{IsNoLater, Takes, Awaits}}
 
 -- What the two ends drive as a byte has crossed in the last row, and who received it.
 pub data Crossed (p : List Row) (n : Connection) (d : ℕ) : Type 0 where
@@ -20,10 +20,7 @@ pub data Crossed (p : List Row) (n : Connection) (d : ℕ) : Type 0 where
 -- ---- who samples
 
 by_receiver : (n : Connection) (before : Option Connection) (c : Change) (d : ℕ) (call : Option Call) (row : Row) → connection_after before call c row ≡ Some n → receiver_of before c ≡ Some d → is_receiver n (crossed_if (is_some (receiver_of before c)) c) d ≡ true
-by_receiver n None c d call row e z = absurd (no_device d z)
-  where
-    no_device : (d : ℕ) → (let a : Option ℕ = None in a) ≡ Some d → ⊥
-    no_device d y = absurd cc
+by_receiver n None c d call row e z = absurd (none_number d z)
 by_receiver n (Some m) c d call row e z = go c.after.bsy e
   where
     no_connection : {A : Type 0} → (let a : Option Connection = None in a) ≡ Some n → A
@@ -38,10 +35,7 @@ by_receiver n (Some m) c d call row e z = go c.after.bsy e
     go false y = no_connection y
 
 receives : (p : List Row) (n : Connection) (d : ℕ) → connection p ≡ Some n → receiver p ≡ Some d → is_receiver n (crossed p) d ≡ true
-receives [] n d e z = absurd (no_device d z)
-  where
-    no_device : (d : ℕ) → (let a : Option ℕ = None in a) ≡ Some d → ⊥
-    no_device d y = absurd cc
+receives [] n d e z = absurd (none_number d z)
 receives (row ∷ rows) n d e z = by_receiver n (connection rows) (change_of rows row) d (call rows) row e z
 
 samples_it : (s : ScenarioValue) (p : List Row) (n : Connection) (d : ℕ) → AreOfDevices p → connection p ≡ Some n → receiver p ≡ Some d → is_sampling s p n d ≡ true
@@ -126,17 +120,16 @@ byte_awaits s p n d lat always z there x =
     fault_is bit e = w.due ∙ struck_due true (last_time p) bit flip w.plain refl e
 
     ordered : (row : Row) → last_time p ≤ row.time → row.dev ≡ d → IsNoLater (record { time = last_time p; dev = d }) row
-    ordered row order same = go (last_time p == row.time) refl
+    ordered row order same =
+        by_bool (last_time p == row.time)
+        (λ h. inr (eq_is (last_time p) row.time h, omega (arith, same)))
+        (λ h. inl (less (last_time p) row.time h order))
       where
         eq_is : (a b : ℕ) → (a == b) ≡ true → a ≡ b
         eq_is a b h = grind (arith, nat_tests)
 
         less : (a b : ℕ) → (a == b) ≡ false → a ≤ b → a < b
         less a b h k = grind (arith, nat_tests)
-
-        go : (q : Bool) → (last_time p == row.time) ≡ q → IsNoLater (record { time = last_time p; dev = d }) row
-        go true h = inr (eq_is (last_time p) row.time h, omega (arith, same))
-        go false h = inl (less (last_time p) row.time h order)
 
     takes : (row : Row) → IsLeast (unreset_due s p) 8 row → (row.dev ≡ d) ⊎ ((last_time p < row.time) × (is_fault row.kind ≡ false)) → Takes s p row (record { time = last_time p; dev = d })
     takes row least (inl same) =

@@ -5,14 +5,14 @@ use proofs.Names.{Some, None, refl, sym, ap, subst, arith, cases_eq, ne_eqb, sam
 use proofs.Names.{wrong', eq_self, bus_one, change_of, rises, falls, LineSet, none, call, calling_after, caller_goes_on}
 use proofs.Names.{called_goes_on, connection, drives_two_ids, new_calling, when, is_fault, bus, drives, driven_after}
 use proofs.Names.{since_line, Row, Change, Connection, Call, Calling, stage, InCalling, ScenarioValue, Sample}
-use proofs.Names.{latency_of, samples_with_ids, due_at, fault_or, IsLeast, asks_due, before_due, waits_due, answers_due}
-use proofs.Names.{aside_due, flip_at, is_there, is_at, only_caller, ids_not_zero, answer_exists, drives_own}
-use proofs.Names.{drives_other, since_is, stage_is, stands_after, answer_lines, awaiting_call, begun_call, both_ids}
+use proofs.Names.{latency_of, samples_with_ids, due_at, fault_or, IsLeast, drives_own, drives_other, since_is, stage_is}
+use proofs.Names.{stands_after, asks_due, before_due, waits_due, answers_due, aside_due, flip_at, only_caller}
+use proofs.Names.{ids_not_zero, answer_exists, is_there, is_at, answer_lines, awaiting_call, begun_call, both_ids}
 use proofs.Names.{calling_lines, new_calling_at, own_time, unreset_due, row_of_lines, HasShortLatencies, CalmStanding}
 use proofs.Names.{BusStage, on_free_bus, in_arbitration, after_arbitration, with_both_ids, awaiting_answer}
 use proofs.Names.{after_withdrawal, after_answer, after_takeover, in_reset, AwaitsAnswer, Calls, due_of, none_some}
-use proofs.{Names.{is_asked, ids_at, ids_of, awaited_ids}, Samples.Calls.{Follows, calling_follows, GoesOn, call_goes}}
-use proofs.Samples.Calls.{answered_unasked, withdrawn_unasked, struck_unasked, unreleased_unasked, ids_none}
+use proofs.{Names.{by_option, is_asked, ids_at, ids_of, awaited_ids}, Samples.Calls.{Follows, calling_follows, GoesOn}}
+use proofs.Samples.Calls.{call_goes, answered_unasked, withdrawn_unasked, struck_unasked, unreleased_unasked, ids_none}
 use proofs.Samples.{Calls.{ids_unsampled, ids_sampled, with_awaited}, Takes.{Takes, Awaits, fault_at, lines_at}}
 use proofs.Samples.Takes.{time_at}
 use Rattle.trace_laws.specs.bus_laws.specs.Stages.{in_connection}
@@ -78,14 +78,13 @@ apart_awaits s p a fits always (in_arbitration b h) alone calm e = no_asked s p 
 apart_awaits s p a fits always (after_arbitration c t h) alone calm e = no_asked s p a _ h.stands.call_is refl e
 apart_awaits s p a fits always (with_both_ids m c k t0 t z h) alone calm e = no_asked s p a _ h.stands.call_is refl e
 apart_awaits s p a fits always (awaiting_answer true m c k t0 t1 t2 x h) alone calm e = no_asked s p a _ h.here.stands.call_is refl e
-apart_awaits s p a fits always (awaiting_answer false m c k t0 t1 t2 x h) alone calm e = go (latency_of s k) refl
-  where
-    go : (o : Option ℕ) → latency_of s k ≡ o → Awaits s p a
-    go None there = no_asked s p a _ h.here.stands.call_is (ap (λ (o : Option ℕ). ids_at o k (since_line (λ z. z.bsy) p)) there) e
-    go (Some lat) there =
-        subst (Awaits s p)
-        (same_Some _ a (sym (ap (awaited_ids s (since_line (λ z. z.bsy) p)) h.here.stands.call_is ∙ ap (λ (o : Option ℕ). ids_at o k (since_line (λ z. z.bsy) p)) there) ∙ e))
-        (ids_await s p m c k t0 t1 t2 x lat fits always h there)
+apart_awaits s p a fits always (awaiting_answer false m c k t0 t1 t2 x h) alone calm e =
+    by_option (latency_of s k)
+    (λ there. no_asked s p a _ h.here.stands.call_is (ap (λ (o : Option ℕ). ids_at o k (since_line (λ z. z.bsy) p)) there) e)
+    (λ lat there.
+    subst (Awaits s p)
+    (same_Some _ a (sym (ap (awaited_ids s (since_line (λ z. z.bsy) p)) h.here.stands.call_is ∙ ap (λ (o : Option ℕ). ids_at o k (since_line (λ z. z.bsy) p)) there) ∙ e))
+    (ids_await s p m c k t0 t1 t2 x lat fits always h there))
 apart_awaits s p a fits always (after_withdrawal v m c k t0 t1 t2 t3 z h) alone calm e = no_asked s p a _ h.stands.call_is refl e
 apart_awaits s p a fits always (after_answer m c k t0 t1 t2 t3 x h) alone calm e = no_asked s p a _ h.here.stands.call_is refl e
 apart_awaits s p a fits always (after_takeover c k t0 t1 t2 t3 t4 x z f h) alone calm e = no_asked s p a _ h.here.stands.call_is refl e
@@ -321,11 +320,10 @@ ids_on s p row fits always (in_arbitration b h) alone calm next off after least 
 ids_on s p row fits always (after_arbitration c t h) alone calm next off after least = ids_won s p row _ h.stands.call_is refl next off after
 ids_on s p row fits always (with_both_ids m c k t0 t z h) alone calm next off after least = ids_called s p m c k t0 t row always h least
 ids_on s p row fits always (awaiting_answer true m c k t0 t1 t2 x h) alone calm next off after least = ids_low s p row _ _ h.here.stands.call_is refl (ap (λ (l : LineSet). l.bsy) h.here.stands.bus_is) (λ g f. struck_unasked g (f.struck refl))
-ids_on s p row fits always (awaiting_answer false m c k t0 t1 t2 x h) alone calm next off after least = go (latency_of s k) refl
-  where
-    go : (o : Option ℕ) → latency_of s k ≡ o → IdsOn s p row
-    go None there = ids_absent s p row _ _ h.here.stands.call_is refl (ap (λ (l : LineSet). l.bsy) h.here.stands.bus_is) there
-    go (Some lat) there = ids_taken s p m c k t0 t1 t2 x lat row fits always h there least
+ids_on s p row fits always (awaiting_answer false m c k t0 t1 t2 x h) alone calm next off after least =
+    by_option (latency_of s k)
+    (λ there. ids_absent s p row _ _ h.here.stands.call_is refl (ap (λ (l : LineSet). l.bsy) h.here.stands.bus_is) there)
+    (λ lat there. ids_taken s p m c k t0 t1 t2 x lat row fits always h there least)
 ids_on s p row fits always (after_withdrawal v m c k t0 t1 t2 t3 z h) alone calm next off after least = ids_low s p row _ _ h.stands.call_is refl (ap (λ (l : LineSet). l.bsy) h.stands.bus_is) (λ g f. withdrawn_unasked g (f.withdrawn refl))
 ids_on s p row fits always (after_answer m c k t0 t1 t2 t3 x h) alone calm next off after least = ids_answered s p row _ _ h.here.stands.call_is refl refl
 ids_on s p row fits always (after_takeover c k t0 t1 t2 t3 t4 x z f h) alone calm next off after least = ids_answered s p row _ _ h.here.stands.call_is refl refl

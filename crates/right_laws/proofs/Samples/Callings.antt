@@ -5,15 +5,15 @@ use proofs.Names.{refl, sym, ap, arith, ◌==◌, eqb-true, same_Some, if◌then
 use proofs.Names.{bus_on, same_set-eq, change_of, LineSet, none, union, call, calling_after, caller_goes_on}
 use proofs.Names.{called_goes_on, connection, drives_two_ids, new_calling, when, bus, drives, driven_after, line_times}
 use proofs.Names.{Kind, Drives, Row, Change, Connection, Call, Calling, stage, InCalling, row_none, only_rst}
-use proofs.Names.{broken_rule, ScenarioValue, Obeys, latency_of, Due, IsLeast, due, IsPrompt, asks_due, answers_due}
-use proofs.Names.{waits_due, flip_at, is_there, is_at, answer_exists, ids_not_zero, obeys_latencies, least_is}
-use proofs.Names.{drives_own, stage_is, reset_or_calm, by_calm, answer_lines, begun_call, calling_lines, awaiting_call}
+use proofs.Names.{broken_rule, ScenarioValue, Obeys, latency_of, Due, IsLeast, due, IsPrompt, drives_own, stage_is}
+use proofs.Names.{asks_due, answers_due, waits_due, flip_at, answer_exists, ids_not_zero, is_there, is_at, least_is}
+use proofs.Names.{reset_or_calm, by_calm, obeys_latencies, answer_lines, begun_call, calling_lines, awaiting_call}
 use proofs.Names.{both_ids, won_call, own_time, unreset_due, row_of_lines, HasShortLatencies, CalmStanding, BusStage}
 use proofs.Names.{on_free_bus, in_arbitration, after_arbitration, with_both_ids, awaiting_answer, after_withdrawal}
-use proofs.Names.{after_answer, after_takeover, in_reset, AwaitsAnswer, Calls, sides_are, none_some, quiet_sel}
-use proofs.{Names.{under_rst, Stood, quiet_at_end, whole}, Samples.Calls.{Follows, calling_follows, GoesOn, call_goes}}
-use proofs.Samples.Moments.{apart_of, linked_of, reset_of}
-use Rattle.trace_laws.specs.bus_laws.proofs.Together.{by_reset}
+use proofs.Names.{after_answer, after_takeover, in_reset, AwaitsAnswer, Calls, sides_are, none_some, by_bool, by_option}
+use proofs.{Names.{quiet_sel, under_rst, Stood, quiet_at_end, whole}, Samples.Calls.{Follows, calling_follows, GoesOn}}
+use proofs.Samples.{Calls.{call_goes}, Moments.{apart_of, linked_of, reset_of}}
+use Rattle.trace_laws.specs.bus_laws.proofs.Stages.Next.{by_reset}
 use Rattle.trace_laws.specs.bus_laws.specs.Stages.{in_connection}
 
 -- ---- a row of the caller
@@ -105,7 +105,10 @@ not_true q e f = sym e ∙ f
 
 -- The calling after a row, while SEL is true before it.
 struck_on : (s : ScenarioValue) (p : List Row) (row : Row) → HasShortLatencies s → connection p ≡ None → (bus p).rst ≡ false → CalmStanding s p → IsLeast (unreset_due s p) 8 row → BusStage s p → IsStruckOut s p → IsStruckOut s (row ∷ p)
-struck_on s p row fits alone calm always least h was k g e f un w lat there = by_calling c.was.calling refl
+struck_on s p row fits alone calm always least h was k g e f un w lat there =
+    by_option c.was.calling
+    (λ ex. new (row.dev == c.was.caller && drives_two_ids c.was.caller (change_of p row).next) (sym (ap (λ (o : Option Calling). calling_after c.was.caller o (change_of p row) row) ex) ∙ c.goes))
+    (λ x ex. by_parts x ex (sym (ap (λ (o : Option Calling). calling_after c.was.caller o (change_of p row) row) ex) ∙ c.goes) (is_some x.withdrawn) refl x.struck refl)
   where
     c : GoesOn p row k g
     c = call_goes p row k g e f
@@ -131,10 +134,6 @@ struck_on s p row fits alone calm always least h was k g e f un w lat there = by
         go false own true z = wrong' (sym ew ∙ ap (λ (y : Calling). is_some y.withdrawn) (same_Some _ g z) ∙ w)
         go false own false z = wrong' (sym ew ∙ ap (λ (y : Calling). is_some y.withdrawn) (same_Some _ g z) ∙ w)
 
-    by_calling : (o : Option Calling) → c.was.calling ≡ o → g.struck ≡ true
-    by_calling None ex = new (row.dev == c.was.caller && drives_two_ids c.was.caller (change_of p row).next) (sym (ap (λ (o : Option Calling). calling_after c.was.caller o (change_of p row) row) ex) ∙ c.goes)
-    by_calling (Some x) ex = by_parts x ex (sym (ap (λ (o : Option Calling). calling_after c.was.caller o (change_of p row) row) ex) ∙ c.goes) (is_some x.withdrawn) refl x.struck refl
-
 -- SEL is false while a connection stands, and as RST falls.
 linked_sel : (s : ScenarioValue) (p : List Row) (n : Connection) → Stood s p → connection p ≡ Some n → (bus p).rst ≡ false → (bus p).sel ≡ false
 linked_sel s p n was con calm = let w = sides_are s p n (linked_of s p n was.here calm con) in ap (λ (l : LineSet). l.sel) w.1.stands.bus_is
@@ -144,7 +143,10 @@ reset_sel s p row was lt obeys on off =
     quiet_sel (bus p) (same_set-eq (union only_rst (bus p)) only_rst (quiet_at_end s p row lt obeys (under_rst s p (reset_of s p was.here on) on) off))
 
 struck_next : (s : ScenarioValue) (p : List Row) (row : Row) → Obeys s → IsPrompt s (row ∷ p) → (connection p ≡ None → (bus p).rst ≡ false → IsStruckOut s p) → (bus (row ∷ p)).rst ≡ false → IsStruckOut s (row ∷ p)
-struck_next s p row o prompt before off = by_rst (bus p).rst refl
+struck_next s p row o prompt before off =
+    by_bool (bus p).rst
+    (λ on. low (reset_sel s p row was m.inside obeys on off))
+    (λ calm. by_connection calm (connection p) refl)
   where
     was : Stood s p
     was = (whole s p o prompt.0).stood
@@ -167,10 +169,6 @@ struck_next s p row o prompt before off = by_rst (bus p).rst refl
       | by_reset z ↦ wrong (sym (rst_on z) ∙ off)
       | by_calm always least ↦ struck_on s p row (obeys_latencies s o) con calm always least (apart_of s p was.here con) (before con calm)
     ]
-
-    by_rst : (q : Bool) → (bus p).rst ≡ q → IsStruckOut s (row ∷ p)
-    by_rst true on = low (reset_sel s p row was m.inside obeys on off)
-    by_rst false calm = by_connection calm (connection p) refl
 
 pub struck_out : (s : ScenarioValue) (p : List Row) → Obeys s → IsPrompt s p → connection p ≡ None → (bus p).rst ≡ false → IsStruckOut s p
 struck_out s [] o prompt alone off = λ k g e. none_some k e

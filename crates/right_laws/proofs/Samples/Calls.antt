@@ -4,7 +4,7 @@ use proofs.Names.{ℕ, ◌≡◌, Bool, true, false, not, ◌&&◌, ◌==◌, �
 use proofs.Names.{and_right, and_left, same_Some, if◌then◌else◌, is_some, is_none, change_of, rises, call, call_goes_on}
 use proofs.Names.{calling_after, caller_goes_on, called_goes_on, when, is_fault, bus, Row, Change, Call, Calling}
 use proofs.Names.{ScenarioValue, Sample, latency_of, samples_with_ids, samples_with_ids_of, samples_with_ids_after}
-use proofs.Names.{with_sample, none_some, sel_of_call, is_asked, ids_at, ids_of, awaited_ids}
+use proofs.Names.{with_sample, none_some, by_bool, by_option, sel_of_call, is_asked, ids_at, ids_of, awaited_ids}
 use Rattle.std.proofs.lemmas.Bool.{or_left}
 
 -- ---- a calling goes on
@@ -55,7 +55,12 @@ pub record GoesOn (p : List Row) (row : Row) (k : Call) (h : Calling) : Type 0 w
   pub goes : calling_after was.caller was.calling (change_of p row) row ≡ Some h
 
 pub call_goes : (p : List Row) (row : Row) (k : Call) (h : Calling) → call (row ∷ p) ≡ Some k → k.calling ≡ Some h → GoesOn p row k h
-call_goes p row k h e f = go (bus p).sel refl
+call_goes p row k h e f =
+    by_bool (bus p).sel
+    (λ before. by_call before (call p) refl (sym (λ i. if not (on i) then None else if rises (before i) (on i) then Some (record { caller = row.dev; at = row.time; calling = None }) else call_goes_on (call p) (change_of p row) row) ∙ e))
+    (λ before.
+    let new : (record { caller = row.dev; at = row.time; calling = None }) ≡ k = same_Some _ k (sym (λ i. if not (on i) then None else if rises (before i) (on i) then Some (record { caller = row.dev; at = row.time; calling = None }) else call_goes_on (call p) (change_of p row) row) ∙ e) in
+    none_some h (ap (λ (x : Call). x.calling) new ∙ f))
   where
     q : List Row
     q = row ∷ p
@@ -74,12 +79,6 @@ call_goes p row k h e f = go (bus p).sel refl
           sel = before;
           goes = ap (λ (x : Call). x.calling) same ∙ f;
         }
-
-    go : (r : Bool) → (bus p).sel ≡ r → GoesOn p row k h
-    go true before = by_call before (call p) refl (sym (λ i. if not (on i) then None else if rises (before i) (on i) then Some (record { caller = row.dev; at = row.time; calling = None }) else call_goes_on (call p) (change_of p row) row) ∙ e)
-    go false before =
-        let new : (record { caller = row.dev; at = row.time; calling = None }) ≡ k = same_Some _ k (sym (λ i. if not (on i) then None else if rises (before i) (on i) then Some (record { caller = row.dev; at = row.time; calling = None }) else call_goes_on (call p) (change_of p row) row) ∙ e) in
-        none_some h (ap (λ (x : Call). x.calling) new ∙ f)
 
 -- What is asked of a calling that has been answered, withdrawn or struck.
 not_some : (o : Option ℕ) → is_some o ≡ true → is_none o ≡ false
@@ -102,19 +101,17 @@ unreleased_unasked h e = and_left (is_some h.released && is_none h.withdrawn && 
 -- None are sampled of such a call, now or later.
 pub ids_none : (s : ScenarioValue) (o : Option Call) (bsy : ℕ) → ((k : Call) (h : Calling) → o ≡ Some k → k.calling ≡ Some h → is_asked h ≡ false) → awaited_ids s bsy o ≡ None
 ids_none s None bsy f = refl
-ids_none s (Some k) bsy f = go k.calling refl
-  where
-    go : (c : Option Calling) → k.calling ≡ c → ids_of s bsy k.calling ≡ None
-    go None e = ap (ids_of s bsy) e
-    go (Some h) e = ap (ids_of s bsy) e ∙ ap (λ (q : Bool). if q then ids_at (latency_of s h.called) h.called bsy else None) (f k h refl e)
+ids_none s (Some k) bsy f =
+    by_option k.calling
+    (λ e. ap (ids_of s bsy) e)
+    (λ h e. ap (ids_of s bsy) e ∙ ap (λ (q : Bool). if q then ids_at (latency_of s h.called) h.called bsy else None) (f k h refl e))
 
 pub ids_unsampled : (s : ScenarioValue) (o : Option Call) (time : ℕ) (xs : List Sample) → ((k : Call) (h : Calling) → o ≡ Some k → k.calling ≡ Some h → is_some h.answered ≡ true) → samples_with_ids s o time xs ≡ xs
 ids_unsampled s None time xs f = refl
-ids_unsampled s (Some k) time xs f = go k.calling refl
-  where
-    go : (c : Option Calling) → k.calling ≡ c → samples_with_ids_of s k.calling time xs ≡ xs
-    go None e = ap (λ (o : Option Calling). samples_with_ids_of s o time xs) e
-    go (Some h) e = ap (λ (o : Option Calling). samples_with_ids_of s o time xs) e ∙ ap (λ (q : Bool). if q then samples_with_ids_after (latency_of s h.called) h.called time xs else xs) (not_some h.answered (f k h refl e))
+ids_unsampled s (Some k) time xs f =
+    by_option k.calling
+    (λ e. ap (λ (o : Option Calling). samples_with_ids_of s o time xs) e)
+    (λ h e. ap (λ (o : Option Calling). samples_with_ids_of s o time xs) e ∙ ap (λ (q : Bool). if q then samples_with_ids_after (latency_of s h.called) h.called time xs else xs) (not_some h.answered (f k h refl e)))
 
 abbrev pub with_awaited : Option Sample → List Sample → List Sample
 with_awaited None xs = xs

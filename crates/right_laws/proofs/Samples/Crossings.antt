@@ -9,7 +9,7 @@ use proofs.Names.{EndLines, initiator_side, connected_bus, Linked, ends_selected
 use proofs.Names.{offering_with, initiator_in_phase, target_in_phase, target_moves, terms_of, no_rise, initiator_moves}
 use proofs.{Names.{target_row, initiator_row, ends, none_both, no_pulse, no_answer, LinkRow}, Samples.Bytes.{Crossed}}
 use proofs.Samples.Bytes.{into_initiator, into_target}
-use Rattle.trace_laws.proofs.Lines.Rows as rows
+use Rattle.trace_laws.specs.row_laws.proofs.Lines.Rows as rows
 
 pub data Crossing (p : List Row) (row : Row) (n : Connection) : Type 0 where
   carries_none : (bus (row ∷ p)).rst ≡ false → receiver (row ∷ p) ≡ None → Crossing p row n
@@ -57,27 +57,15 @@ lines_low on zero lines given v io l (Some phase) = go (io && (phase_lines phase
 
 req_low : (phase : Phase) → (phase_lines phase).req ≡ false
 req_low Phase.DataOut = refl
-req_low Phase.DataIn = refl
-req_low Phase.Command = refl
-req_low Phase.Status = refl
-req_low Phase.MessageOut = refl
-req_low Phase.MessageIn = refl
+req_low _ = refl
 
 rst_low : (phase : Phase) → (phase_lines phase).rst ≡ false
 rst_low Phase.DataOut = refl
-rst_low Phase.DataIn = refl
-rst_low Phase.Command = refl
-rst_low Phase.Status = refl
-rst_low Phase.MessageOut = refl
-rst_low Phase.MessageIn = refl
+rst_low _ = refl
 
 ack_low : (phase : Phase) → (phase_lines phase).ack ≡ false
 ack_low Phase.DataOut = refl
-ack_low Phase.DataIn = refl
-ack_low Phase.Command = refl
-ack_low Phase.Status = refl
-ack_low Phase.MessageOut = refl
-ack_low Phase.MessageIn = refl
+ack_low _ = refl
 
 left_low : (p : List Row) (n : Connection) (e : EndLines) (t : ℕ) (l : LineSet) (on : LineSet → Bool) → ((a b : LineSet) → on (union a b) ≡ (on a || on b)) → on none ≡ false → Linked p n e → on l ≡ false → on (initiator_side e) ≡ false → on (bus (row_of_lines t n.target l ∷ p)) ≡ false
 left_low p n e t l on both zero h low other =

@@ -1,9 +1,9 @@
 -- The samples of a phase are of one device: those that were taken before it came before the phase lines.
 use Rattle.right_laws.proofs
-use proofs.Names.{ℕ, ◌≡◌, ◌⊎◌, inl, inr, ◌≤◌, Bool, true, false, not, ◌&&◌, ◌||◌, max, ◌∙◌, List, ◌∷◌, Option, Some}
-use proofs.Names.{None, refl, sym, ap, arith, if◌then◌else◌, wrong, wrong', connection_stays, same_eq, change_of, same}
+use proofs.Names.{ℕ, ◌≡◌, ◌⊎◌, inl, inr, ◌≤◌, Bool, true, false, not, ◌&&◌, ◌||◌, max, ◌∙◌, List, ◌∷◌, Some, None, refl}
+use proofs.Names.{sym, ap, arith, if◌then◌else◌, wrong, wrong', connection_stays, same_eq, change_of, same}
 use proofs.Names.{changes_phase, connection, bus, line_times, phase_time, since_line, Row, Connection, Sample, begun}
-use proofs.Names.{begun_after, BeginsConnection, by_selection, by_reselection}
+use proofs.Names.{begun_after, BeginsConnection, by_selection, by_reselection, by_bool, by_option}
 
 -- Who samples the bytes of a connection.
 abbrev pub sampler : Connection → Bool → ℕ
@@ -45,7 +45,10 @@ phase_stood p row e =
 
 -- The connection goes on.
 directed_goes : (p : List Row) (row : Row) (b : Sample) (m n : Connection) → connection p ≡ Some m → connection (row ∷ p) ≡ Some n → (bus p).rst ≡ false → begun (row ∷ p) ≡ true → b.time ≤ row.time → IsDirected p b → (b.time ≤ phase_time (line_times (row ∷ p))) ⊎ (b.dev ≡ sampler n (bus (row ∷ p)).io)
-directed_goes p row b m n em en calm g le was = go (changes_phase (change_of p row)) refl
+directed_goes p row b m n em en calm g le was =
+    by_bool (changes_phase (change_of p row))
+    (λ e. let z = phase_changed p row e in inl (omega (arith, z, le)))
+    (λ e. by e (was m em calm (sym (ap (λ (q : Bool). q || begun p) e) ∙ sym after ∙ g)))
   where
     after : begun (row ∷ p) ≡ (changes_phase (change_of p row) || begun p)
     after = λ i. begun_after (begun p) (em i) (en i) (change_of p row)
@@ -54,17 +57,16 @@ directed_goes p row b m n em en calm g le was = go (changes_phase (change_of p r
     by e (inl t) = let z = (phase_stood p row e).0 in inl (omega (arith, t, z))
     by e (inr d) = inr (d ∙ (λ i. sampler (connection_stays p row m n em en i) (sym (phase_stood p row e).1 i)))
 
-    go : (q : Bool) → changes_phase (change_of p row) ≡ q → (b.time ≤ phase_time (line_times (row ∷ p))) ⊎ (b.dev ≡ sampler n (bus (row ∷ p)).io)
-    go true e = let z = phase_changed p row e in inl (omega (arith, z, le))
-    go false e = by e (was m em calm (sym (ap (λ (q : Bool). q || begun p) e) ∙ sym after ∙ g))
-
 -- It begins.
 directed_first : (p : List Row) (row : Row) (b : Sample) (n : Connection) → BeginsConnection (row ∷ p) n → begun (row ∷ p) ≡ true → b.time ≤ row.time → (b.time ≤ phase_time (line_times (row ∷ p))) ⊎ (b.dev ≡ sampler n (bus (row ∷ p)).io)
 directed_first p row b n (by_selection h) g le = wrong (sym g ∙ h.begun_is)
 directed_first p row b n (by_reselection y h) g le = let z = h.msg_age in inl (omega (arith, z, le))
 
 pub directed_on : (p : List Row) (row : Row) (b : Sample) → ((bus p).rst ≡ true → (bus (row ∷ p)).rst ≡ false → connection p ≡ None) → ((n : Connection) → connection p ≡ None → (bus (row ∷ p)).rst ≡ false → connection (row ∷ p) ≡ Some n → BeginsConnection (row ∷ p) n) → b.time ≤ row.time → IsDirected p b → IsDirected (row ∷ p) b
-directed_on p row b cut first le was n en calm g = go (connection p) refl
+directed_on p row b cut first le was n en calm g =
+    by_option (connection p)
+    (λ em. directed_first p row b n (first n em calm en) g le)
+    (λ m em. directed_goes p row b m n em en (before m em (bus p).rst refl) g le was)
   where
     some_none : {A : Type 0} (m : Connection) → Some m ≡ None → A
     some_none m z = absurd cc
@@ -72,7 +74,3 @@ directed_on p row b cut first le was n en calm g = go (connection p) refl
     before : (m : Connection) → connection p ≡ Some m → (q : Bool) → (bus p).rst ≡ q → (bus p).rst ≡ false
     before m em true e = some_none m (sym em ∙ cut e calm)
     before m em false e = e
-
-    go : (o : Option Connection) → connection p ≡ o → (b.time ≤ phase_time (line_times (row ∷ p))) ⊎ (b.dev ≡ sampler n (bus (row ∷ p)).io)
-    go None em = directed_first p row b n (first n em calm en) g le
-    go (Some m) em = directed_goes p row b m n em en (before m em (bus p).rst refl) g le was

@@ -3,8 +3,8 @@ use Rattle.right_laws.proofs
 use proofs.Names.{ℕ, ◌≡◌, Bool, true, false, ◌∙◌, List, [], ◌∷◌, ◌++◌, append-nil, Option, Some, None, refl, sym, ap}
 use proofs.Names.{reverse, connection, bus, Fault, Row, Connection, row_none, ScenarioValue, Obeys, Sample}
 use proofs.Names.{expected_strikes, faults_in_order, row_strikes, strikes_by, least_none, due, IsPrompt, run_state}
-use proofs.Names.{flip_of, off_at, obeys_latencies, least_is, comes_by, due_calm, always_is, reset_due, unreset_due}
-use proofs.Names.{none_some, Whole, whole, awaited, awaited_by, listed, strike_if, StrikesSoFar}
+use proofs.Names.{flip_of, comes_by, due_calm, off_at, least_is, always_is, obeys_latencies, reset_due, unreset_due}
+use proofs.Names.{none_some, by_bool, by_option, Whole, whole, awaited, awaited_by, listed, strike_if, StrikesSoFar}
 use proofs.Samples.{InTurn.{in_order_last, in_turn, ordered_faults, strikes_on}, Moments.{Moment, awaits_here}}
 use proofs.Samples.{Next.{SoFar, next_taken}, Taken.{Taken}}
 use Rattle.bus_due.specs.Next.{IsEnded}
@@ -83,7 +83,10 @@ strikes_so_far s p k =
 -- What is still awaited no fault is to strike.
 unstruck : (s : ScenarioValue) (p : List Row) (done : List Sample) (a : Sample) → IsKnown s p → IsEnded s p → Taken s p done → awaited s p ≡ Some a → (flip : Option ℕ) → flip_of (run_state s p).faults a.time ≡ flip → flip ≡ None
 unstruck s p done a k ended w e None f = refl
-unstruck s p done a k ended w e (Some bit) f = by_rst (bus p).rst refl
+unstruck s p done a k ended w e (Some bit) f =
+    by_bool (bus p).rst
+    (λ on. none_some a (sym (λ i. awaited_by s p (on i) (connection p)) ∙ e))
+    (λ calm. absurd (struck calm))
   where
     struck : (bus p).rst ≡ false → ⊥
     struck calm =
@@ -93,25 +96,20 @@ unstruck s p done a k ended w e (Some bit) f = by_rst (bus p).rst refl
         let z = comes_by (reset_due s p a.dev) (unreset_due s p a.dev) (record { time = a.time; kind = Fault bit }) (x.struck bit f) in
         none_some z.x (sym (least_none (due s p) 8 ended a.dev x.below) ∙ due_calm s p a.dev st.devices x.below (off_at p calm a.dev x.below) ∙ z.is)
 
-    by_rst : (q : Bool) → (bus p).rst ≡ q → Some bit ≡ None
-    by_rst true on = none_some a (sym (λ i. awaited_by s p (on i) (connection p)) ∙ e)
-    by_rst false calm = absurd (struck calm)
-
 pub strikes_at_end : (s : ScenarioValue) (p : List Row) → IsKnown s p → IsEnded s p → expected_strikes s p ≡ row_strikes (reverse p)
 strikes_at_end s p k ended = by (so_far s p k)
   where
     by : SoFar s p → expected_strikes s p ≡ row_strikes (reverse p)
-    by (done, w) = go (awaited s p) refl
-      where
-        go : (o : Option Sample) → awaited s p ≡ o → expected_strikes s p ≡ row_strikes (reverse p)
-        go None e =
-            ap (strikes_by (faults_in_order s.faults)) (w.all ∙ ap (λ (x : Option Sample). done ++ listed x) e ∙ append-nil done)
-            ∙ in_turn (faults_in_order s.faults) done (ordered_faults s.faults) w.order
-            ∙ w.strikes
-        go (Some a) e =
-            ap (strikes_by (faults_in_order s.faults)) (w.all ∙ ap (λ (x : Option Sample). done ++ listed x) e)
-            ∙ in_turn (faults_in_order s.faults) (done ++ a ∷ []) (ordered_faults s.faults) (in_order_last a done w.order (w.next a e))
-            ∙ strikes_on (faults_in_order s.faults) done a
-            ∙ (λ i. w.strikes i ++ strike_if a (flip_of (w.left i) a.time))
-            ∙ ap (λ (x : Option ℕ). row_strikes (reverse p) ++ strike_if a x) (unstruck s p done a k ended w e (flip_of (run_state s p).faults a.time) refl)
-            ∙ append-nil (row_strikes (reverse p))
+    by (done, w) =
+        by_option (awaited s p)
+        (λ e.
+        ap (strikes_by (faults_in_order s.faults)) (w.all ∙ ap (λ (x : Option Sample). done ++ listed x) e ∙ append-nil done)
+        ∙ in_turn (faults_in_order s.faults) done (ordered_faults s.faults) w.order
+        ∙ w.strikes)
+        (λ a e.
+        ap (strikes_by (faults_in_order s.faults)) (w.all ∙ ap (λ (x : Option Sample). done ++ listed x) e)
+        ∙ in_turn (faults_in_order s.faults) (done ++ a ∷ []) (ordered_faults s.faults) (in_order_last a done w.order (w.next a e))
+        ∙ strikes_on (faults_in_order s.faults) done a
+        ∙ (λ i. w.strikes i ++ strike_if a (flip_of (w.left i) a.time))
+        ∙ ap (λ (x : Option ℕ). row_strikes (reverse p) ++ strike_if a x) (unstruck s p done a k ended w e (flip_of (run_state s p).faults a.time) refl)
+        ∙ append-nil (row_strikes (reverse p)))

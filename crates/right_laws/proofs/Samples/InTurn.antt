@@ -5,7 +5,7 @@ use proofs.Names.{append_assoc, Option, Some, None, refl, sym, ap, subst, arith,
 use proofs.Names.{⊤, nat_le, nat_lt, reverse, if◌then◌else◌, Kind, Drives, Fault, Row, FaultDef, Sample, Strike}
 use proofs.Names.{is_sampled_before, with_sample, is_kept_by_reset, kept_samples, first_from, without_first}
 use proofs.Names.{with_strike, with_first_strike, strikes_by, with_fault, faults_in_order, strike_of, row_strikes}
-use proofs.Names.{flip_of, strike_if, left_if, strikes_in_turn, faults_left}
+use proofs.Names.{flip_of, by_bool, strike_if, left_if, strikes_in_turn, faults_left}
 
 -- ---- in order
 
@@ -60,17 +60,16 @@ sooner_precedes a b h = inl (go a.time b.time a.dev b.dev h)
     go t u d g h = grind (arith, nat_tests)
 
 pub same_precedes : (a b : Sample) → b.time ≤ a.time → b.dev ≡ a.dev → Precedes b a
-same_precedes a b h e = go (b.time == a.time) refl
+same_precedes a b h e =
+    by_bool (b.time == a.time)
+    (λ z. inr (λ i. record { time = eq_is b.time a.time z i; dev = e i }))
+    (λ z. sooner_precedes a b (less b.time a.time z h))
   where
     eq_is : (t u : ℕ) → (t == u) ≡ true → t ≡ u
     eq_is t u z = grind (arith, nat_tests)
 
     less : (t u : ℕ) → (t == u) ≡ false → t ≤ u → t < u
     less t u z h = grind (arith, nat_tests)
-
-    go : (q : Bool) → (b.time == a.time) ≡ q → Precedes b a
-    go true z = inr (λ i. record { time = eq_is b.time a.time z i; dev = e i })
-    go false z = sooner_precedes a b (less b.time a.time z h)
 
 late : (t u v : ℕ) → nat_le t v ≡ false → t ≤ u → nat_le u v ≡ false
 late t u v e h = grind (arith, nat_tests)

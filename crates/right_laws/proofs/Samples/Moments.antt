@@ -1,18 +1,18 @@
 -- What is known before a row of a prompt trace and after it, and what follows of the samples.
 use Rattle.right_laws.proofs
 use proofs.Names.{ℕ, ◌≡◌, ◌⊎◌, inl, inr, ◌≤◌, ◌+◌, true, false, not, ◌&&◌, ◌∙◌, List, ◌∷◌, Option, Some, None, refl}
-use proofs.Names.{sym, ap, subst, arith, same_Some, is_some, wrong, wrong', LineSet, call, connection, receiver}
-use proofs.Names.{is_fault, bus, last_time, line_times, phase_time, since_line, Row, Connection, broken_rule}
+use proofs.Names.{sym, ap, subst, arith, same_Some, is_some, wrong, wrong', none_number, LineSet, call, connection}
+use proofs.Names.{receiver, is_fault, bus, last_time, line_times, phase_time, since_line, Row, Connection, broken_rule}
 use proofs.Names.{ScenarioValue, HostDef, TargetDef, Sample, host_latency, latency_of, target_latency, begun, host_of}
 use proofs.Names.{target_def_of, IsLeast, due, from_stage, unreset_due, HasShortLatencies, BusStage, CalmStanding}
 use proofs.Names.{Standing, NextRow, sides_are, link_calm, LinkStage, when_selected, when_settling, when_turning}
-use proofs.Names.{when_offering, when_shaking, when_pulsing, AnyStage, linked, none_some, some_none, under_rst}
-use proofs.Names.{link_connection, ends_apart, HasEnds, AreEnds, awaited, awaited_by, awaited_ids, byte_at}
+use proofs.Names.{when_offering, when_shaking, when_pulsing, AnyStage, linked, none_some, some_none, by_option}
+use proofs.Names.{under_rst, link_connection, ends_apart, HasEnds, AreEnds, awaited, awaited_by, awaited_ids, byte_at}
 use proofs.Samples.{Bytes.{Crossed, into_initiator, into_target, byte_awaits, byte_none}, Called.{apart_awaits}}
 use proofs.Samples.{Directions.{IsDirected, directed_on, sampler}, InTurn.{Precedes, same_precedes, sooner_precedes}}
 use proofs.Samples.{NoFaults.{no_fault}, Resets.{kept_new, kept_on}, Taken.{IsPast}, Takes.{Awaits, IsNoLater}}
 use Rattle.trace_laws.specs.link_laws.specs.LinkStages.{apart}
-use Rattle.trace_laws.proofs.Lines.First.{begins_now}
+use Rattle.trace_laws.specs.row_laws.proofs.Lines.First.{begins_now}
 
 pub record Moment (s : ScenarioValue) (p : List Row) (row : Row) : Type 0 where
   pub fits : HasShortLatencies s
@@ -73,15 +73,14 @@ pub data Awaited (s : ScenarioValue) (p : List Row) (a : Sample) : Type 0 where
   of_ids : connection p ≡ None → awaited_ids s (since_line (λ z. z.bsy) p) (call p) ≡ Some a → Awaited s p a
 
 pub awaited_of : (s : ScenarioValue) (p : List Row) (a : Sample) → (bus p).rst ≡ false → awaited s p ≡ Some a → Awaited s p a
-awaited_of s p a calm e = go (connection p) refl
+awaited_of s p a calm e =
+    by_option (connection p)
+    (λ en. of_ids en ((λ i. awaited_by s p (sym calm i) (sym en i)) ∙ e))
+    (λ n en. by_receiver n en (receiver p) refl ((λ i. awaited_by s p (sym calm i) (sym en i)) ∙ e))
   where
     by_receiver : (n : Connection) → connection p ≡ Some n → (o : Option ℕ) → receiver p ≡ o → byte_at (last_time p) o ≡ Some a → Awaited s p a
     by_receiver n en None er z = none_some a z
     by_receiver n en (Some d) er z = of_byte n d en er (sym (same_Some _ a z))
-
-    go : (o : Option Connection) → connection p ≡ o → Awaited s p a
-    go None en = of_ids en ((λ i. awaited_by s p (sym calm i) (sym en i)) ∙ e)
-    go (Some n) en = by_receiver n en (receiver p) refl ((λ i. awaited_by s p (sym calm i) (sym en i)) ∙ e)
 
 abbrev pub HasCrossed : List Row → Type 0
 HasCrossed p = (n : Connection) (d : ℕ) → connection p ≡ Some n → (bus p).rst ≡ false → receiver p ≡ Some d → Crossed p n d
@@ -106,7 +105,12 @@ directed_here s p a crossed calm e n en c g = go (awaited_of s p a calm e)
 
 -- Where none is awaited the next row is no fault row.
 pub none_here : (s : ScenarioValue) (p : List Row) (row : Row) → AnyStage s p → (bus p).rst ≡ false → CalmStanding s p → awaited s p ≡ None → IsLeast (unreset_due s p) 8 row → is_fault row.kind ≡ false
-none_here s p row here calm always e least = go (connection p) refl
+none_here s p row here calm always e least =
+    by_option (connection p)
+    (λ en. no_fault s p row.dev (record { time = row.time; kind = row.kind }) always.devices least.inside calm en ((λ i. awaited_by s p (sym calm i) (sym en i)) ∙ e) least.is_due)
+    (λ n en.
+    let w = sides_are s p n (linked_of s p n here calm en) in
+    byte_none s p n w.0 row always.devices w.1 (no_byte (receiver p) ((λ i. awaited_by s p (sym calm i) (sym en i)) ∙ e)) least)
   where
     no_byte : (o : Option ℕ) → byte_at (last_time p) o ≡ None → o ≡ None
     no_byte None z = refl
@@ -115,32 +119,14 @@ none_here s p row here calm always e least = go (connection p) refl
         some_sample : (a : Sample) → Some a ≡ None → ⊥
         some_sample a y = absurd cc
 
-    go : (o : Option Connection) → connection p ≡ o → is_fault row.kind ≡ false
-    go None en = no_fault s p row.dev (record { time = row.time; kind = row.kind }) always.devices least.inside calm en ((λ i. awaited_by s p (sym calm i) (sym en i)) ∙ e) least.is_due
-    go (Some n) en =
-        let w = sides_are s p n (linked_of s p n here calm en) in
-        byte_none s p n w.0 row always.devices w.1 (no_byte (receiver p) ((λ i. awaited_by s p (sym calm i) (sym en i)) ∙ e)) least
-
 -- ---- the samples before it
 
 -- As a byte crosses a bus settle delay has gone since the phase lines (6.1.10).
 settled : (s : ScenarioValue) (q : List Row) (n : Connection) (d : ℕ) → LinkStage s q n → receiver q ≡ Some d → phase_time (line_times q) + 400 ≤ last_time q
-settled s q n d (when_selected h) e = absurd (no_device d (sym h.receiver_is ∙ e))
-  where
-    no_device : (d : ℕ) → (let a : Option ℕ = None in a) ≡ Some d → ⊥
-    no_device d y = absurd cc
-settled s q n d (when_settling bsy atn msg cd io y h) e = absurd (no_device d (sym h.receiver_is ∙ e))
-  where
-    no_device : (d : ℕ) → (let a : Option ℕ = None in a) ≡ Some d → ⊥
-    no_device d y = absurd cc
-settled s q n d (when_turning atn x msg cd h) e = absurd (no_device d (sym h.receiver_is ∙ e))
-  where
-    no_device : (d : ℕ) → (let a : Option ℕ = None in a) ≡ Some d → ⊥
-    no_device d y = absurd cc
-settled s q n d (when_offering atn msg cd y h) e = absurd (no_device d (sym h.receiver_is ∙ e))
-  where
-    no_device : (d : ℕ) → (let a : Option ℕ = None in a) ≡ Some d → ⊥
-    no_device d y = absurd cc
+settled s q n d (when_selected h) e = absurd (none_number d (sym h.receiver_is ∙ e))
+settled s q n d (when_settling bsy atn msg cd io y h) e = absurd (none_number d (sym h.receiver_is ∙ e))
+settled s q n d (when_turning atn x msg cd h) e = absurd (none_number d (sym h.receiver_is ∙ e))
+settled s q n d (when_offering atn msg cd y h) e = absurd (none_number d (sym h.receiver_is ∙ e))
 settled s q n d (when_shaking msg cd io req ack atn x y h) e = h.settled
 settled s q n d (when_pulsing io req ack atn x y h a) e = h.settled
 

@@ -1,19 +1,19 @@
 -- Row by row of a prompt trace: the samples that the rows have taken, and what the faults of the scenario have struck of them.
 use Rattle.right_laws.proofs
 use proofs.Names.{ℕ, ◌≡◌, inl, inr, ◌≤◌, ◌<◌, Bool, true, false, ◌∙◌, List, [], ◌∷◌, ◌++◌, append-nil, Option, Some}
-use proofs.Names.{None, refl, sym, ap, arith, if◌then◌else◌, wrong, wrong', bus_on, same_set-eq, change_of, rises}
-use proofs.Names.{falls, LineSet, none, union, call, connection, receiver, receiver_of, is_fault, bus, drives}
+use proofs.Names.{None, refl, sym, ap, arith, if◌then◌else◌, wrong, wrong', none_number, bus_on, same_set-eq, change_of}
+use proofs.Names.{rises, falls, LineSet, none, union, call, connection, receiver, receiver_of, is_fault, bus, drives}
 use proofs.Names.{driven_after, Fault, Row, Connection, only_rst, ScenarioValue, Sample, is_kept_by_reset, kept_samples}
-use proofs.Names.{samples, samples_with_byte, samples_with_ids, Due, IsLeast, run_state, flip_of, off_at, comes_by}
-use proofs.Names.{due_calm, drives_own, always_is, reset_due, unreset_due, row_of_lines, CalmStanding, sides_are}
-use proofs.Names.{none_some, made_is, quiet_sel, under_rst, carries_none, ends_apart, quiet_at_end, awaited, awaited_by}
-use proofs.Samples.{Called.{fresh_none}, Calls.{with_awaited}, InTurn.{AreKept, kept_all, kept_last}, Moments.{Moment}}
-use proofs.Samples.Moments.{apart_of, awaits_here, directed_here, linked_of, none_here, past_new, past_next, reset_of}
-use proofs.Samples.{Puts.{Puts, apart_puts, linked_puts, puts_ids, unraised}, Resets.{CalmRow, resets, reacts}}
-use proofs.Samples.Resets.{ResetRow, raises, lets_go, bare_row, calls_cut, calls_go, calls_none, calm_row, IsBare}
-use proofs.Samples.{Resets.{is_kept, IsKept, kept_is, LetsCallsGo, no_ids, under_reset}, Taken.{IsPast, Stepped, Taken}}
-use proofs.Samples.{Taken.{all_kept, all_precede, before_none, before_some, puts_down, stays, takes}, Takes.{IsNoLater}}
-use proofs.Samples.Takes.{Takes}
+use proofs.Names.{samples, samples_with_byte, samples_with_ids, Due, IsLeast, run_state, flip_of, drives_own, comes_by}
+use proofs.Names.{due_calm, off_at, always_is, reset_due, unreset_due, row_of_lines, CalmStanding, sides_are, none_some}
+use proofs.Names.{by_bool, by_option, made_is, quiet_sel, under_rst, carries_none, ends_apart, quiet_at_end, awaited}
+use proofs.{Names.{awaited_by}, Samples.{Called.{fresh_none}, Calls.{with_awaited}, InTurn.{AreKept, kept_all}}}
+use proofs.Samples.{InTurn.{kept_last}, Moments.{Moment, apart_of, awaits_here, directed_here, linked_of, none_here}}
+use proofs.Samples.{Moments.{past_new, past_next, reset_of}, Puts.{Puts, apart_puts, linked_puts, puts_ids, unraised}}
+use proofs.Samples.Resets.{CalmRow, resets, reacts, ResetRow, raises, lets_go, bare_row, calls_cut, calls_go}
+use proofs.Samples.Resets.{calls_none, calm_row, IsBare, is_kept, IsKept, kept_is, LetsCallsGo, no_ids, under_reset}
+use proofs.Samples.Taken.{IsPast, Stepped, Taken, all_kept, all_precede, before_none, before_some, puts_down, stays}
+use proofs.Samples.{Taken.{takes}, Takes.{IsNoLater, Takes}}
 
 -- The samples that have been taken, whichever they are.
 abbrev pub SoFar : ScenarioValue → List Row → Type 0
@@ -26,14 +26,13 @@ goes_on s p row done w st e =
     puts_down s p row done st (w.puts ∙ ap (with_awaited (awaited s (row ∷ p))) e) (λ a z. all_precede s (row ∷ p) done a (λ b past. w.next a b z past) st.past) w.crossed (λ on. wrong (sym on ∙ w.calm))
 
 calm_next : (s : ScenarioValue) (p : List Row) (row : Row) (done : List Sample) → Moment s p row → (bus p).rst ≡ false → CalmStanding s p → IsLeast (unreset_due s p) 8 row → Puts s p row → Taken s p done → SoFar s (row ∷ p)
-calm_next s p row done m calm always least puts w = go (awaited s p) refl
-  where
-    go : (o : Option Sample) → awaited s p ≡ o → SoFar s (row ∷ p)
-    go None e = (done, goes_on s p row done puts (stays s p row done w (λ b past. past_next s p row b m past) (none_here s p row m.here calm always e least)) (before_none s p done w e))
-    go (Some a) e =
-        let x : Takes s p row a = (awaits_here s p a m.fits m.here m.ends w.crossed calm always e).takes row least in
-        let new : IsPast s (row ∷ p) a = past_new s p row a m x.order (directed_here s p a w.crossed calm e) in
-        (done ++ a ∷ [], goes_on s p row (done ++ a ∷ []) puts (takes s p row done a w e (λ b past. past_next s p row b m past) new x.struck x.plain) (before_some s p done a w e))
+calm_next s p row done m calm always least puts w =
+    by_option (awaited s p)
+    (λ e. (done, goes_on s p row done puts (stays s p row done w (λ b past. past_next s p row b m past) (none_here s p row m.here calm always e least)) (before_none s p done w e)))
+    (λ a e.
+    let x : Takes s p row a = (awaits_here s p a m.fits m.here m.ends w.crossed calm always e).takes row least in
+    let new : IsPast s (row ∷ p) a = past_new s p row a m x.order (directed_here s p a w.crossed calm e) in
+    (done ++ a ∷ [], goes_on s p row (done ++ a ∷ []) puts (takes s p row done a w e (λ b past. past_next s p row b m past) new x.struck x.plain) (before_some s p done a w e)))
 
 -- ---- a row that raises RST
 
@@ -58,7 +57,10 @@ of_row : (row : Row) (l : LineSet) → row ≡ row_of_lines row.time row.dev l �
 of_row row l e = ap (λ (r : Row). is_fault r.kind) e
 
 raise_next : (s : ScenarioValue) (p : List Row) (row : Row) (done : List Sample) → Moment s p row → (drives p row.dev).rst ≡ false → reset_due s p row.dev ≡ (let x : Due = record { time = row.time; kind = row.kind } in Some x) → row ≡ row_of_lines row.time row.dev only_rst → LetsCallsGo (row ∷ p) → Taken s p done → SoFar s (row ∷ p)
-raise_next s p row done m off r e calls w = go (awaited s p) refl
+raise_next s p row done m off r e calls w =
+    by_option (awaited s p)
+    (λ ea. (done, under s p row done on calls more (raising_keeps s p row off e ∙ ap (kept_samples row) (before_none s p done w ea) ∙ kept_all row done kept)))
+    (λ a ea. by_rst a ea (bus p).rst refl)
   where
     on : (bus (row ∷ p)).rst ≡ true
     on = raised_on p row m.least.inside e
@@ -112,10 +114,6 @@ raise_next s p row done m off r e calls w = go (awaited s p) refl
     by_rst a ea true up = none_some a (sym (none_awaited s p up) ∙ ea)
     by_rst a ea false calm = by_kept a ea calm (is_kept_by_reset row a) refl
 
-    go : (o : Option Sample) → awaited s p ≡ o → SoFar s (row ∷ p)
-    go None ea = (done, under s p row done on calls more (raising_keeps s p row off e ∙ ap (kept_samples row) (before_none s p done w ea) ∙ kept_all row done kept))
-    go (Some a) ea = by_rst a ea (bus p).rst refl
-
 -- ---- a row that releases all lines, under RST
 
 release_next : (s : ScenarioValue) (p : List Row) (row : Row) (done : List Sample) → Moment s p row → (bus p).rst ≡ true → row ≡ row_of_lines row.time row.dev none → IsBare row → Taken s p done → SoFar s (row ∷ p)
@@ -144,7 +142,10 @@ release_next s p row done m on e b w = (done, go (bus (row ∷ p)).rst refl)
 
     -- as RST falls neither SEL nor BSY is true, and no device is called
     idle : (bus (row ∷ p)).rst ≡ false → awaited s (row ∷ p) ≡ None
-    idle off = by (connection (row ∷ p)) refl
+    idle off =
+        by_option (connection (row ∷ p))
+        (λ en. (λ i. awaited_by s (row ∷ p) (off i) (en i)) ∙ fresh_none s p row low)
+        (λ n en. absurd (unfallen (bus p).sel (bus (row ∷ p)).sel low (made_is p row n (lost off) en).sel))
       where
         low : (bus p).sel ≡ false
         low = quiet_sel (bus p) (same_set-eq (union only_rst (bus p)) only_rst (quiet_at_end s p row m.least.inside m.obeys (under_rst s p (reset_of s p m.here on) on) off))
@@ -152,23 +153,19 @@ release_next s p row done m on e b w = (done, go (bus (row ∷ p)).rst refl)
         unfallen : (a b : Bool) → a ≡ false → falls a b ≡ true → ⊥
         unfallen a c f z = wrong' (sym (ap (λ (q : Bool). falls q c) f) ∙ z)
 
-        by : (o : Option Connection) → connection (row ∷ p) ≡ o → awaited s (row ∷ p) ≡ None
-        by None en = (λ i. awaited_by s (row ∷ p) (off i) (en i)) ∙ fresh_none s p row low
-        by (Some n) en = absurd (unfallen (bus p).sel (bus (row ∷ p)).sel low (made_is p row n (lost off) en).sel)
-
     go : (q : Bool) → (bus (row ∷ p)).rst ≡ q → Taken s (row ∷ p) done
     go true up = under s p row done up (calls_go p row b (w.calls on)) more same
     go false off =
         puts_down s p row done more (same ∙ ap (λ (o : Option Sample). with_awaited o done) (sym (idle off)))
-        (λ a z. none_some a (sym (idle off) ∙ z)) (λ n d en c er. absurd (no_device d (sym silent ∙ er))) (λ up. wrong (sym up ∙ off))
-      where
-        no_device : (d : ℕ) → (let a : Option ℕ = None in a) ≡ Some d → ⊥
-        no_device d z = absurd cc
+        (λ a z. none_some a (sym (idle off) ∙ z)) (λ n d en c er. absurd (none_number d (sym silent ∙ er))) (λ up. wrong (sym up ∙ off))
 
 -- ---- any row
 
 pub next_taken : (s : ScenarioValue) (p : List Row) (row : Row) → Moment s p row → SoFar s p → SoFar s (row ∷ p)
-next_taken s p row m was = by_rst (bus p).rst refl
+next_taken s p row m was =
+    by_bool (bus p).rst
+    (λ on. by_reset on (under_reset s p row m.standing.devices on m.least))
+    (λ calm. by_calm calm (connection p) refl (calm_row s p row m.standing calm m.least))
   where
     by_calm : (bus p).rst ≡ false → (o : Option Connection) → connection p ≡ o → CalmRow s p row → SoFar s (row ∷ p)
     by_calm calm None en (resets off r e) =
@@ -181,7 +178,3 @@ next_taken s p row m was = by_rst (bus p).rst refl
     by_reset : (bus p).rst ≡ true → ResetRow s p row → SoFar s (row ∷ p)
     by_reset on (raises off r e) = raise_next s p row was.0 m off r e (calls_go p row (bare_row s p row (raises off r e)) (was.1.calls on)) was.1
     by_reset on (lets_go e) = release_next s p row was.0 m on e (bare_row s p row (lets_go e)) was.1
-
-    by_rst : (q : Bool) → (bus p).rst ≡ q → SoFar s (row ∷ p)
-    by_rst true on = by_reset on (under_reset s p row m.standing.devices on m.least)
-    by_rst false calm = by_calm calm (connection p) refl (calm_row s p row m.standing calm m.least)

@@ -10,7 +10,7 @@ use proofs.Names.{bsy_takeover, called_due, caller_due, calling_abort, calling_s
 use proofs.Names.{reselection_end, selection_end, unanswered_due, with_calling_mark, withdrawal, free_due}
 use proofs.Names.{arbitration_due, entry, later_entry_if, win, bus_clear, link_due_by, due_at, due_where, Due, Myself}
 use proofs.Names.{Want, AreOfDevices, run_state, want_of, flip_of, due_in, is_there, own_time, device_with, unreset_due}
-use proofs.Names.{none_some, is_asked, ids_at, ids_of, awaited_ids}
+use proofs.Names.{none_some, by_bool, by_option, is_asked, ids_at, ids_of, awaited_ids}
 use Rattle.bus_due.specs.bus_lines.specs.declared.stage.Stage.TheVariants.{InConnection}
 
 -- ---- rows of lines
@@ -71,16 +71,15 @@ pub record SamplesIds (dev : ℕ) (g : Stage) : Type 0 where
   pub asked : is_called k ≡ true
 
 fault_called : (bsy sel : ℕ) (me : Myself) (flip : Option ℕ) (c : Call) (x : Due) → called_due bsy sel me flip c.calling ≡ Some x → is_fault x.kind ≡ true → SamplesIds me.dev (InCalling c)
-fault_called bsy sel me flip c x e f = go c.calling refl
+fault_called bsy sel me flip c x e f =
+    by_option c.calling
+    (λ ek. wrong' (sym (of_lines (loser_release sel me) x (lines_loser sel me) (sym (ap (called_due bsy sel me flip) ek) ∙ e)) ∙ f))
+    (λ k ek. by_called k ek (k.called == me.dev) (is_called k) refl refl (sym (ap (called_due bsy sel me flip) ek) ∙ e))
   where
     by_called : (k : Calling) → c.calling ≡ Some k → (q r : Bool) → (k.called == me.dev) ≡ q → is_called k ≡ r → (if not q then loser_release sel me else if r then answer bsy me flip else None) ≡ Some x → SamplesIds me.dev (InCalling c)
     by_called k ek true true eq er z = record { c = c; k = k; stage_is = refl; calling_is = ek; called = eq; asked = er }
     by_called k ek true false eq er z = absurd (none_some x z)
     by_called k ek false r eq er z = wrong' (sym (of_lines (loser_release sel me) x (lines_loser sel me) z) ∙ f)
-
-    go : (o : Option Calling) → c.calling ≡ o → SamplesIds me.dev (InCalling c)
-    go None ek = wrong' (sym (of_lines (loser_release sel me) x (lines_loser sel me) (sym (ap (called_due bsy sel me flip) ek) ∙ e)) ∙ f)
-    go (Some k) ek = by_called k ek (k.called == me.dev) (is_called k) refl refl (sym (ap (called_due bsy sel me flip) ek) ∙ e)
 
 fault_linking : (b : LineSet) (bsy sel : ℕ) (me : Myself) (w : Want) (flip : Option ℕ) (g : Stage) (x : Due) → link_due_by b bsy sel me w flip g ≡ Some x → is_fault x.kind ≡ true → SamplesIds me.dev g
 fault_linking b bsy sel me w flip (OnFreeBus free) x e f = wrong' (sym (of_lines (free_due me free w.since) x (lines_free me free w.since) e) ∙ f)
@@ -140,7 +139,7 @@ call_of_stage p c calm alone e = by_call (call p) refl ((λ i. stage_by (sym cal
 -- ---- so it is awaited
 
 pub no_fault : (s : ScenarioValue) (p : List Row) (d : ℕ) (x : Due) → AreOfDevices p → d < 8 → (bus p).rst ≡ false → connection p ≡ None → awaited_ids s (since_line (λ y. y.bsy) p) (call p) ≡ None → unreset_due s p d ≡ Some x → is_fault x.kind ≡ false
-no_fault s p d x dv lt calm alone none e = go (is_fault x.kind) refl
+no_fault s p d x dv lt calm alone none e = by_bool (is_fault x.kind) (λ f. absurd (asked f)) (λ f. f)
   where
     asked : is_fault x.kind ≡ true → ⊥
     asked f =
@@ -155,7 +154,3 @@ no_fault s p d x dv lt calm alone none e = go (is_fault x.kind) refl
         ∙ ap (awaited_ids s (since_line (λ v. v.bsy) p)) y.call_is
         ∙ ap (ids_of s (since_line (λ v. v.bsy) p)) z.calling_is
         ∙ (λ i. if is i then ids_at (at i) z.k.called (since_line (λ v. v.bsy) p) else None))
-
-    go : (q : Bool) → is_fault x.kind ≡ q → is_fault x.kind ≡ false
-    go true f = absurd (asked f)
-    go false f = f

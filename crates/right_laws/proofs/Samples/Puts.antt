@@ -3,12 +3,12 @@ use Rattle.right_laws.proofs
 use proofs.Names.{ℕ, ◌≡◌, ◌<◌, Bool, true, false, not, ◌&&◌, ◌∙◌, List, ◌∷◌, Option, Some, None, refl, sym, ap, subst}
 use proofs.Names.{arith, same_Some, if◌then◌else◌, wrong, wrong', and_false, change_of, rises, falls, LineSet, call}
 use proofs.Names.{connection, connection_after, receiver, receiver_of, bus, drives, driven_after, Row, Connection}
-use proofs.Names.{ScenarioValue, Sample, kept_samples, samples, samples_with_byte, samples_with_ids, IsLeast}
+use proofs.Names.{ScenarioValue, Sample, kept_samples, samples, samples_with_byte, samples_with_ids, IsLeast, off_at}
 use proofs.Names.{from_withdrawn, from_answered, from_resumed, from_arbitration, from_calls, from_asking, from_free}
-use proofs.Names.{off_at, from_won, unreset_due, HasShortLatencies, CalmStanding, BusStage, on_free_bus, in_arbitration}
+use proofs.Names.{from_won, unreset_due, HasShortLatencies, CalmStanding, BusStage, on_free_bus, in_arbitration}
 use proofs.Names.{after_arbitration, with_both_ids, awaiting_answer, after_withdrawal, after_answer, after_takeover}
-use proofs.Names.{in_reset, sides_are, LinkStage, AnyStage, none_some, some_none, made_is, link_row, drives_next}
-use proofs.{Names.{awaited, awaited_by, byte_at}, Samples.Bytes.{Crossed, into_initiator, into_target}}
+use proofs.Names.{in_reset, sides_are, LinkStage, AnyStage, none_some, some_none, by_option, made_is, link_row}
+use proofs.{Names.{drives_next, awaited, awaited_by, byte_at}, Samples.Bytes.{Crossed, into_initiator, into_target}}
 use proofs.Samples.{Called.{IdsOn, ids_fresh, ids_on}, Calls.{with_awaited}, Crossings.{Crossing, carries_none}}
 use proofs.Samples.{Crossings.{carries, crossing}, InTurn.{Precedes, sooner_precedes}, Moments.{Moment, HasCrossed}}
 use proofs.Samples.{Moments.{Awaited, of_byte, of_ids, apart_of, awaited_of, linked_of, precedes_byte}, Taken.{IsPast}}
@@ -99,7 +99,13 @@ fell_false true false e = refl
 fell_false false b e = wrong' e
 
 pub apart_puts : (s : ScenarioValue) (p : List Row) (row : Row) → Moment s p row → (bus p).rst ≡ false → connection p ≡ None → CalmStanding s p → IsLeast (unreset_due s p) 8 row → Puts s p row
-apart_puts s p row m calm alone always least = go (connection (row ∷ p)) refl
+apart_puts s p row m calm alone always least =
+    by_option (connection (row ∷ p))
+    (λ e. puts_apart s p row least.inside off e none (ids_on s p row m.fits always stage alone calm (apart_of s (row ∷ p) m.next e) off e least))
+    (λ n e.
+    let made = made_is p row n alone e in
+    puts_linked s p row n least.inside m.next off e ((λ i. falls (bus p).bsy (bus (row ∷ p)).bsy && fell_false (bus p).sel (bus (row ∷ p)).sel made.sel i) ∙ and_false (falls (bus p).bsy (bus (row ∷ p)).bsy))
+    (λ k d ek c er. none_some d (sym none ∙ er)))
   where
     stage : BusStage s p
     stage = apart_of s p m.here alone
@@ -109,13 +115,6 @@ apart_puts s p row m calm alone always least = go (connection (row ∷ p)) refl
 
     none : receiver (row ∷ p) ≡ None
     none = ap (λ (o : Option Connection). receiver_of o (change_of p row)) alone
-
-    go : (o : Option Connection) → connection (row ∷ p) ≡ o → Puts s p row
-    go None e = puts_apart s p row least.inside off e none (ids_on s p row m.fits always stage alone calm (apart_of s (row ∷ p) m.next e) off e least)
-    go (Some n) e =
-        let made = made_is p row n alone e in
-        puts_linked s p row n least.inside m.next off e ((λ i. falls (bus p).bsy (bus (row ∷ p)).bsy && fell_false (bus p).sel (bus (row ∷ p)).sel made.sel i) ∙ and_false (falls (bus p).bsy (bus (row ∷ p)).bsy))
-        (λ k d ek c er. none_some d (sym none ∙ er))
 
 -- ---- a row of a connection
 
@@ -148,11 +147,10 @@ linked_puts s p row n m h en always least = by (crossing s p row n (link_row s p
         same_device a b z = cc
 
     by : Crossing p row n → Puts s p row
-    by (carries_none off none) = go (connection (row ∷ p)) refl
-      where
-        go : (o : Option Connection) → connection (row ∷ p) ≡ o → Puts s p row
-        go None e = apart_from off e none
-        go (Some k) e = puts_linked s p row k least.inside m.next off e (unput k e) (λ j d ej c er. none_some d (sym none ∙ er))
+    by (carries_none off none) =
+        by_option (connection (row ∷ p))
+        (λ e. apart_from off e none)
+        (λ k e. puts_linked s p row k least.inside m.next off e (unput k e) (λ j d ej c er. none_some d (sym none ∙ er)))
     by (carries d off r x) =
         let e = stands_still (row ∷ p) n d x in
         puts_linked s p row n least.inside m.next off e (unput n e) (crossed_by d r x)

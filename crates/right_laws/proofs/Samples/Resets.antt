@@ -6,13 +6,13 @@ use proofs.Names.{if◌then◌else◌, is_some, nat_lt, wrong, wrong', and_false
 use proofs.Names.{change_of, falls, LineSet, none, same_set, call, calling_after, connection, drives_two_ids}
 use proofs.Names.{new_calling, when, is_fault, bus, drives, driven_after, line_times, union_below, Kind, Drives, Fault}
 use proofs.Names.{Row, Change, Connection, Call, Calling, only_rst, ScenarioValue, Sample, is_kept_by_reset}
-use proofs.Names.{samples_with_ids, due_at, earlier_due, Due, reset_from, IsLeast, due, Own, AreOfDevices, is_there}
-use proofs.Names.{is_at, due_in_reset, only_caller, row_is, off_at, resets_of_own, one_of, comes_by, comes_by_first}
-use proofs.Names.{due_calm, due_holding, due_there, own_reset_is, reset_after, own_other, released_own, own_fault}
-use proofs.Names.{drives_own, always_is, calm_first, unreset_due, reset_due, row_of_lines, row_of_fault, CalmStanding}
-use proofs.Names.{Standing, BusStage, on_free_bus, in_arbitration, after_arbitration, with_both_ids, awaiting_answer}
-use proofs.Names.{after_withdrawal, after_answer, after_takeover, in_reset, due_of, none_some, not_unless}
-use proofs.Samples.{Calls.{calling_follows, GoesOn, call_goes, ids_unsampled}, Takes.{IsNoLater}}
+use proofs.Names.{samples_with_ids, due_at, earlier_due, Due, reset_from, IsLeast, due, Own, AreOfDevices, drives_own}
+use proofs.Names.{one_of, comes_by_first, due_calm, due_holding, due_there, own_reset_is, reset_after, own_other}
+use proofs.Names.{released_own, own_fault, off_at, resets_of_own, only_caller, is_there, is_at, due_in_reset, row_is}
+use proofs.Names.{always_is, calm_first, unreset_due, reset_due, row_of_lines, row_of_fault, CalmStanding, Standing}
+use proofs.Names.{BusStage, on_free_bus, in_arbitration, after_arbitration, with_both_ids, awaiting_answer}
+use proofs.Names.{after_withdrawal, after_answer, after_takeover, in_reset, due_of, none_some, not_unless, by_bool}
+use proofs.{Names.{by_option}, Samples.{Calls.{calling_follows, GoesOn, call_goes, ids_unsampled}, Takes.{IsNoLater}}}
 use lib.Count.{ones}
 use Rattle.bus_due.specs.Own.{own_of}
 use Rattle.trace_laws.specs.bus_laws.specs.Stages.{in_connection}
@@ -29,22 +29,21 @@ clear_lines true time x e = absurd (none_some x e)
 clear_lines false time x e = (is_at time none x e).kind_is
 
 pub under_reset : (s : ScenarioValue) (p : List Row) (row : Row) → AreOfDevices p → (bus p).rst ≡ true → IsLeast (due s p) 8 row → ResetRow s p row
-under_reset s p row dv on m = go (drives p row.dev).rst refl
+under_reset s p row dv on m =
+    by_bool (drives p row.dev).rst
+    (λ held.
+    let l = due_there s p row.dev x m.is_due in
+    lets_go (row_is row none (is_at ((own_of p row.dev).rst + 25000 + l.latency) none x (sym (due_holding s p row.dev l.latency dv m.inside l.latency_is held) ∙ m.is_due)).kind_is))
+    (λ off.
+    elim (one_of (reset_due s p row.dev) (unreset_due s p row.dev) x (sym (due_calm s p row.dev dv m.inside off) ∙ m.is_due)) [
+      | inl r ↦ raises off r (row_is row only_rst (own_reset_is s p row.dev x r).kind_is)
+      | inr c ↦
+          let w = is_there s p row.dev x c in
+          lets_go (row_is row none (clear_lines (same_set (drives p row.dev) none) ((line_times p).rst + w.0) x (sym (due_in_reset s p row.dev w.0 (drives p row.dev) dv m.inside w.1 on refl) ∙ c)))
+    ])
   where
     x : Due
     x = due_of row
-
-    go : (q : Bool) → (drives p row.dev).rst ≡ q → ResetRow s p row
-    go true held =
-        let l = due_there s p row.dev x m.is_due in
-        lets_go (row_is row none (is_at ((own_of p row.dev).rst + 25000 + l.latency) none x (sym (due_holding s p row.dev l.latency dv m.inside l.latency_is held) ∙ m.is_due)).kind_is)
-    go false off =
-        elim (one_of (reset_due s p row.dev) (unreset_due s p row.dev) x (sym (due_calm s p row.dev dv m.inside off) ∙ m.is_due)) [
-          | inl r ↦ raises off r (row_is row only_rst (own_reset_is s p row.dev x r).kind_is)
-          | inr c ↦
-              let w = is_there s p row.dev x c in
-              lets_go (row_is row none (clear_lines (same_set (drives p row.dev) none) ((line_times p).rst + w.0) x (sym (due_in_reset s p row.dev w.0 (drives p row.dev) dv m.inside w.1 on refl) ∙ c)))
-        ]
 
 -- While no device drives RST the row is the reset of its device, or the first that is due without resets.
 pub data CalmRow (s : ScenarioValue) (p : List Row) (row : Row) : Type 0 where
@@ -76,7 +75,10 @@ kept_is row a (inr h) = go a.time row.time a.dev row.dev h.0 h.1
     go t u d e h k = grind (arith, nat_tests)
 
 pub is_kept : (row : Row) (a : Sample) → is_kept_by_reset row a ≡ true → IsKept row.time row.dev a
-is_kept row a z = go (nat_lt a.time row.time) refl
+is_kept row a z =
+    by_bool (nat_lt a.time row.time)
+    (λ e. inl (less a.time row.time e))
+    (λ e. inr (ties a.time row.time a.dev row.dev e z, higher a.time row.time a.dev row.dev e z))
   where
     less : (t u : ℕ) → nat_lt t u ≡ true → t < u
     less t u e = grind (arith, nat_tests)
@@ -86,10 +88,6 @@ is_kept row a z = go (nat_lt a.time row.time) refl
 
     higher : (t u d e : ℕ) → nat_lt t u ≡ false → (nat_lt t u || (t == u && nat_lt e d)) ≡ true → e < d
     higher t u d e f h = grind (arith, nat_tests)
-
-    go : (q : Bool) → nat_lt a.time row.time ≡ q → IsKept row.time row.dev a
-    go true e = inl (less a.time row.time e)
-    go false e = inr (ties a.time row.time a.dev row.dev e z, higher a.time row.time a.dev row.dev e z)
 
 -- Every reset that is still to come keeps the sample.
 abbrev pub IsKeptOn : ScenarioValue → List Row → Sample → Type 0
@@ -273,7 +271,14 @@ no_two : {A : Type 0} (q r : Bool) (a h : Calling) → r ≡ false → (if q && 
 no_two q r a h e z = none_some h (sym (ap (λ (x : Bool). if x then Some a else None) ((λ i. q && e i) ∙ and_false q)) ∙ z)
 
 called_before : (p : List Row) (row : Row) (k : Call) (h : Calling) → IsBare row → call (row ∷ p) ≡ Some k → k.calling ≡ Some h → is_some h.answered ≡ false → Called p
-called_before p row k h b ek eh un = go w.was.calling refl
+called_before p row k h b ek eh un =
+    by_option w.was.calling
+    (λ e.
+    no_two (row.dev == w.was.caller) (drives_two_ids w.was.caller c.next) (new_calling w.was.caller c.next row.time) h (ap (drives_two_ids w.was.caller) next ∙ bare_ids w.was.caller b.lines b.bare)
+    (sym (ap (λ (o : Option Calling). calling_after w.was.caller o c row) e) ∙ w.goes))
+    (λ g e.
+    let f = calling_follows w.was.caller g h c row (sym (ap (λ (o : Option Calling). calling_after w.was.caller o c row) e) ∙ w.goes) in
+    record { was = w.was; calling = g; was_is = w.was_is; calling_is = e; unanswered = not_unless (is_some g.answered) (is_some h.answered) f.answered un })
   where
     w : GoesOn p row k h
     w = call_goes p row k h ek eh
@@ -284,22 +289,13 @@ called_before p row k h b ek eh un = go w.was.calling refl
     next : c.next ≡ b.lines
     next = ap (λ (r : Row). driven_after r.kind (drives p row.dev)) b.row_is
 
-    go : (o : Option Calling) → w.was.calling ≡ o → Called p
-    go None e =
-        no_two (row.dev == w.was.caller) (drives_two_ids w.was.caller c.next) (new_calling w.was.caller c.next row.time) h (ap (drives_two_ids w.was.caller) next ∙ bare_ids w.was.caller b.lines b.bare)
-        (sym (ap (λ (o : Option Calling). calling_after w.was.caller o c row) e) ∙ w.goes)
-    go (Some g) e =
-        let f = calling_follows w.was.caller g h c row (sym (ap (λ (o : Option Calling). calling_after w.was.caller o c row) e) ∙ w.goes) in
-        record { was = w.was; calling = g; was_is = w.was_is; calling_is = e; unanswered = not_unless (is_some g.answered) (is_some h.answered) f.answered un }
-
 pub calls_go : (p : List Row) (row : Row) → IsBare row → LetsCallsGo p → LetsCallsGo (row ∷ p)
 calls_go p row b u k h ek eh un =
     let w = called_before p row k h b ek eh un in
-    go (u w.was w.calling w.was_is w.calling_is w.unanswered)
-  where
-    go : IsLow p ⊎ IsEven p → IsLow (row ∷ p) ⊎ IsEven (row ∷ p)
-    go (inl f) = inl (low_on p row b (λ d lt ne. f d lt))
-    go (inr f) = inr (even_on p row b (λ d lt ne. f d lt))
+    elim (u w.was w.calling w.was_is w.calling_is w.unanswered) [
+      | inl f ↦ inl (low_on p row b (λ d lt ne. f d lt))
+      | inr f ↦ inr (even_on p row b (λ d lt ne. f d lt))
+    ]
 
 -- As RST rises.
 no_called : {A : Type 0} (p : List Row) → call p ≡ None → Called p → A

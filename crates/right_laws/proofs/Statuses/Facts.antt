@@ -8,15 +8,15 @@ use proofs.Names.{ScenarioValue, Obeys, reply_in, RowReading, row_reading, Carri
 use proofs.Names.{carried_after_byte, is_completion, is_complete, process, Link, aim_of, Exchange, one_message}
 use proofs.Names.{phase_of, first_plan, Next, Phase, run_state_plain, IsPrompt, IsPlain, AreOfDevices, RunState}
 use proofs.Names.{array_of, bus_of, carried_here, run_state, run_state_after, exchange_after, first_exchange}
-use proofs.Names.{leaving_of, may_negotiate, naming_of, requests_stay, in_connection, Knows, RowKind, still, strikes}
-use proofs.Names.{crosses, turns, GoesOn, Begins, change_plain, least_is, said_then, none_some, in_phase, message_line}
-use proofs.Names.{not_unless, beginning, stays_as, ConnectionRow, GoingRow, connection_row, going_row, RowKindOf}
-use proofs.Names.{begins_now, goes_now, row_kind, Stood, NextStood, frees_bus, LastFacts, LastBy, AnsweredOpen}
-use proofs.Names.{PlacedIn, TellFacts, Load, load, StatusAtEnd, StatusBy, StatusTalks, StatusFacts}
-use proofs.Ran.{Blocks.{lasting_by}, Crossings.{IsPlaced, placed_here, GoesSo, crossing_goes, here_goes, known_served}}
-use proofs.Ran.{Crossings.{InBytes, in_command, in_data, in_status, byte_phase}, Facts.{Known, undoes_of, here_is}}
-use proofs.{Ran.{Facts.{given_stays}, Lasting.{row_lasts}}, Statuses.{Leavings.{is_status_next}, Same.{freeing}}}
-use proofs.Statuses.{Stays.{Given, Going, talk_still, talk_crosses}, Turns.{talk_turns}}
+use proofs.Names.{leaving_of, may_negotiate, naming_of, in_connection, requests_stay, Knows, RowKind, still, strikes}
+use proofs.Names.{crosses, turns, GoesOn, Begins, change_plain, least_is, none_some, in_phase, message_line, not_unless}
+use proofs.Names.{ConnectionRow, GoingRow, connection_row, going_row, RowKindOf, begins_now, goes_now, row_kind, Stood}
+use proofs.Names.{NextStood, frees_bus, AnsweredOpen, PlacedIn, beginning, stays_as, LastFacts, LastBy, TellFacts}
+use proofs.{Names.{said_then, Load, load, StatusAtEnd, StatusBy, StatusTalks, StatusFacts}, Ran.Blocks.{lasting_by}}
+use proofs.Ran.Crossings.{IsPlaced, placed_here, GoesSo, crossing_goes, here_goes, known_served, InBytes, in_command}
+use proofs.Ran.{Crossings.{in_data, in_status, byte_phase}, Facts.{Known, undoes_of, here_is, given_stays}}
+use proofs.{Ran.Lasting.{row_lasts}, Statuses.{Leavings.{is_status_next}, Same.{freeing}, Stays.{Given, Going}}}
+use proofs.Statuses.{Stays.{talk_still, talk_crosses}, Turns.{talk_turns}}
 
 -- ---- what has no reply
 
@@ -60,10 +60,6 @@ empty_next s p row h f id none = stays ∙ f id before
             given z =
                 true≢false
                 (sym (ap is_some z.answered.given) ∙ (λ i. is_some (reply_in (sym (here_is s p row h) i).replies (place.id_is i))) ∙ before)
-
-            no_lines : (c i : Bool) → (not c && true) ≡ true → (c && i) ≡ true → ⊥
-            no_lines true i x y = true≢false (sym x)
-            no_lines false i x y = true≢false (sym y)
 
             other : is_data b ≡ true → is_status_phase b ≡ false
             other d = go_lines b.msg b.cd b.io d
@@ -137,11 +133,8 @@ first_talks s p row n h dv lt alone after calm id served begun = go n.reselected
         goes : j.exchange.plan.next ≡ Next.GoOn
         goes = ap (λ (x : Exchange). x.plan.next) first ∙ ap (λ (q : Bool). (first_plan q (not n.reselected && may_negotiate k n (aim_of k.story.aims n.initiator)) (naming_of s k n)).next) e
 
-        lines : is_message_in (bus_of j) ≡ true
-        lines = begins_so.names e
-
         into : phase_of (bus_of j) ≡ Phase.MessageIn
-        into = in_phase (bus_of j) lines
+        into = in_phase (bus_of j) (begins_so.names e)
 
         stood : Knows s j n
         stood = h.known.next.stood.books.knows n next (off)
@@ -163,9 +156,6 @@ status_next s p row o prompt lasts h = record { empty = empty_next s p row h.kno
     j : RunState
     j = run_state_after s k row
 
-    dv : AreOfDevices p
-    dv = h.known.was.standing.devices
-
     lt : row.dev < 8
     lt = (least_is s p row prompt.1).inside
 
@@ -173,14 +163,14 @@ status_next s p row o prompt lasts h = record { empty = empty_next s p row h.kno
     talks n after calm id served begun = go (row_kind s p row n o prompt h.known.was after calm)
       where
         go : RowKindOf s p row n → StatusBy (carried_here j id) j.exchange.plan j.handshakes.requests (phase_of (bus_of j))
-        go (begins_now alone f) = first_talks s p row n h dv lt alone after calm id served begun
+        go (begins_now alone f) = first_talks s p row n h h.known.was.standing.devices lt alone after calm id served begun
         go (goes_now con off) = by g.goes.row_is.kind
           where
             r : ConnectionRow s p row n
             r = connection_row s p row n o prompt h.known.was con off calm
 
             g : GoingRow s p row n
-            g = going_row s p row n dv lt con after calm h.known.next.row_is r.facts
+            g = going_row s p row n h.known.was.standing.devices lt con after calm h.known.next.row_is r.facts
 
             same : j.served ≡ k.served
             same = (in_connection s k row n g.change (changes_phase g.change) (is_some (receiver_in n g.change)) (is_fault row.kind) g.goes.row_is refl refl refl).served_is
@@ -221,9 +211,6 @@ status_at_end s p row was next told facts l id link item calm stands done = by (
     d : RowReading
     d = row_reading k.story.bus_state row
 
-    pl : IsPlain s p k
-    pl = run_state_plain s p was.standing.devices
-
     parts : (a b x y : Bool) → (a && b && x && not y) ≡ true → b ≡ true
     parts true true x y z = refl
     parts true false x y z = wrong' z
@@ -237,8 +224,8 @@ status_at_end s p row was next told facts l id link item calm stands done = by (
         let g = w.goes in
         let lines : is_message_in (bus_of k) ≡ true = ap is_message_in (g.row_is.bus_is ∙ ap (λ (x : Change). x.before) (sym g.row_is.change_is)) ∙ here in
         let begun = (g.phase (message_line (bus_of k) lines)).1 in
-        let con : connection p ≡ Some w.connection = sym pl.connection ∙ g.row_is.connection_is in
-        let off : (bus p).rst ≡ false = sym (ap (λ (x : LineSet). x.rst) pl.bus) ∙ g.calm in
+        let con : connection p ≡ Some w.connection = sym was.plain.connection ∙ g.row_is.connection_is in
+        let off : (bus p).rst ≡ false = sym (ap (λ (x : LineSet). x.rst) was.plain.bus) ∙ g.calm in
         let served = known_served s k row w.connection w.change l id was.books g link item in
         let says = said_then s p row w.connection w.change l was told.served told.last g link (ap (is_completion l) (sym g.row_is.change_is) ∙ done) in
         (subst (StatusBy (carried_here k id) k.exchange.plan k.handshakes.requests) (in_phase (bus_of k) lines) (facts.talks w.connection con off id served begun)).0.completes says.0

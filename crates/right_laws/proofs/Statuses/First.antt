@@ -6,7 +6,7 @@ use proofs.Names.{Handshakes, handshakes, ScenarioValue, Offering, follows_by, S
 use proofs.Names.{follows_in, lines_by, Leaving, Phase, run_state_plain, AreOfDevices, RunState, bus_of, run_state}
 use proofs.Names.{serving_of, serving_at, offering_of, EndLines, connected_bus, Linked, ends_selected, row_of_lines}
 use proofs.Names.{ends, none_some, risen, offering_is, initiator_end, target_end, freed_connection}
-use Rattle.trace_laws.proofs.Lines.Rows as rows
+use Rattle.trace_laws.specs.row_laws.proofs.Lines.Rows as rows
 
 -- REQ rises with the row, in STATUS.
 pub record Asks (p : List Row) (row : Row) (n : Connection) : Type 0 where

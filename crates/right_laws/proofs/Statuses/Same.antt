@@ -2,7 +2,7 @@
 use Rattle.right_laws.proofs
 use proofs.Names.{ℕ, ◌≡◌, ◌⊎◌, inl, inr, Bool, true, false, ◌==◌, ◌∙◌, Some, refl, sym, ap, subst, true≢false}
 use proofs.Names.{if◌then◌else◌, wrong', LineSet, MsgIn, CarriedBytes, Link, is_status_next, one_message, phase_of}
-use proofs.Names.{Cause, Messages, Next, Phase, Plan, KeptPlan, frees_bus, LastGiven, still_stays, to_close, to_save}
+use proofs.Names.{Cause, Messages, Next, Phase, Plan, frees_bus, KeptPlan, LastGiven, still_stays, to_close, to_save}
 use proofs.Names.{closed, Load, load, HasOne, IsSmall, IsReady, StatusSays, StatusAsked, StatusBy}
 
 -- ---- what is the same says the same
@@ -76,20 +76,14 @@ freeing l m next count (to_close f x one end zero last) e = frees next f
   where
     frees : (y : Next) → frees_bus y ≡ true → frees_bus y ≡ true
     frees Next.FreeBus z = refl
-    frees Next.Command z = wrong' z
-    frees Next.Status z = wrong' z
-    frees Next.GoOn z = wrong' z
+    frees _ z = wrong' z
 freeing l m next count (to_save f both at last) e = frees next f
   where
     frees : (y : Next) → frees_bus y ≡ true → frees_bus y ≡ true
     frees Next.FreeBus z = refl
-    frees Next.Command z = wrong' z
-    frees Next.Status z = wrong' z
-    frees Next.GoOn z = wrong' z
+    frees _ z = wrong' z
 freeing l m next count (closed f ends full last told) e = frees next f
   where
     frees : (y : Next) → frees_bus y ≡ true → frees_bus y ≡ true
     frees Next.FreeBus z = refl
-    frees Next.Command z = wrong' z
-    frees Next.Status z = wrong' z
-    frees Next.GoOn z = wrong' z
+    frees _ z = wrong' z

@@ -5,14 +5,14 @@ use proofs.Names.{Option, Some, None, refl, sym, ap, subst, true≢false, same_S
 use proofs.Names.{slice_index_or, wrong, wrong', ProcId, rises, LineSet, changes_phase, is_message_out, is_message_in}
 use proofs.Names.{is_fault, connection, receiver_in, bus, Row, Change, Connection, Handshakes, handshakes_after, got_in}
 use proofs.Names.{MsgIn, ScenarioValue, process_of, whole_in, message_out, message_in, Item, process, Link, one_message}
-use proofs.Names.{bytes_of_messages, phase_of, Messages, Next, Phase, run_state_plain, IsPlain, RunState, bus_of}
-use proofs.Names.{carried_here, run_state, run_state_after, own_of, requests_rise, InConnection, in_connection}
-use proofs.Names.{AreGiven, Knows, IsRowIn, GoesOn, counted_some, message_line, out_line, out_lines, out_in, zero_below}
-use proofs.Names.{Stays, stays_as, ConnectionRow, GoingRow, in_of, empty_front, LastFacts, Named, NamedFacts, known}
-use proofs.{Names.{said, refused, load, HasOne, IsSmall, IsReady, StatusBy, StatusFacts}, Ran.Crossings.{IsPlaced}}
-use proofs.Ran.{Crossings.{placed_here}, Facts.{Known, undoes_of}, Undone.{loads_stay_in}}
-use proofs.Statuses.{Areas.{area_stays, status_crosses, restore_whole, restore_crosses}, First.{status_first}}
-use proofs.Statuses.{Leavings.{is_status_next}, Same.{says_as, asked_as, same_by, status_lines}}
+use proofs.Names.{bytes_of_messages, phase_of, Messages, Next, Phase, RunState, bus_of, carried_here, run_state}
+use proofs.Names.{run_state_after, own_of, InConnection, in_connection, requests_rise, AreGiven, Knows, IsRowIn, GoesOn}
+use proofs.Names.{counted_some, message_line, out_line, out_lines, out_in, zero_below, ConnectionRow, GoingRow, Stays}
+use proofs.Names.{stays_as, in_of, empty_front, LastFacts, Named, NamedFacts, known, said, refused, load, HasOne}
+use proofs.{Names.{IsSmall, IsReady, StatusBy, StatusFacts}, Ran.{Crossings.{IsPlaced, placed_here}, Facts.{Known}}}
+use proofs.{Ran.{Facts.{undoes_of}, Undone.{loads_stay_in}}, Statuses.Areas.{area_stays, status_crosses, restore_whole}}
+use proofs.Statuses.{Areas.{restore_crosses}, First.{status_first}, Leavings.{is_status_next}, Same.{says_as, asked_as}}
+use proofs.Statuses.Same.{same_by, status_lines}
 
 -- ---- what is known
 
@@ -124,9 +124,6 @@ talk_crosses s p row n id dev h ef ep er talk = subst (StatusBy (carried_here j 
     knows : Knows s k n
     knows = knows_of s p row n id h
 
-    pl : IsPlain s p k
-    pl = run_state_plain s p h.given.known.was.standing.devices
-
     stays : Stays s k row n c true
     stays = stays_as s k row n c true r ep there
 
@@ -164,7 +161,7 @@ talk_crosses s p row n id dev h ef ep er talk = subst (StatusBy (carried_here j 
 
         first : (k.handshakes.requests == 0) ≡ true
         first =
-            ap (λ (x : Handshakes). x.requests == 0) pl.handshakes
+            ap (λ (x : Handshakes). x.requests == 0) h.given.known.was.plain.handshakes
             ∙ status_first s p row n h.given.known.was.standing.devices
             (record {
               msg = ap (λ (x : Change). x.before.msg) (sym h.going.change_is) ∙ lines.0;
@@ -244,6 +241,4 @@ talk_crosses s p row n id dev h ef ep er talk = subst (StatusBy (carried_here j 
     by Phase.Status e t = in_status e t
     by Phase.MessageIn e t = in_message e t
     by Phase.MessageOut e t = in_out e t
-    by Phase.Command e t = tt
-    by Phase.DataIn e t = tt
-    by Phase.DataOut e t = tt
+    by _ e t = tt

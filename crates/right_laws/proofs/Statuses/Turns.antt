@@ -7,13 +7,13 @@ use proofs.Names.{receiver_in, Row, Change, Connection, Handshakes, no_handshake
 use proofs.Names.{asked_if, MsgIn, ScenarioValue, reply_in, row_reading, CarriedBytes, is_complete, Link, plain}
 use proofs.Names.{complete, is_status_next as is_to_status, Exchange, one_message, bytes_of_messages, plan_anew}
 use proofs.Names.{from_byte, message_bytes, Serving, phase_of, phase_leaving, leaving_by, cause_after}
-use proofs.Names.{plan_in_message_out, plan_in_phase, Cause, Leaving, Messages, Next, Phase, Plan, run_state_plain}
-use proofs.Names.{IsPlain, RunState, bus_of, carried_here, run_state, run_state_after, serving_of, leaving, hearing_of}
-use proofs.Names.{InConnection, in_connection, OnMessage, LeavesWhole, Knows, IsOver, IsRowIn, reading_in, GoesOn}
-use proofs.Names.{in_phase, out_phase, out_lines, from_ends, stage_of_connection, link_phase, stays_out}
-use proofs.Names.{command_not_out, front_length, is_to_message_in, not_out, IsPlainIn, frees_bus, LastFacts, LastGiven}
-use proofs.Names.{still_stays, to_close, to_save, closed, LastBy, EndsWell, stays, closes, saves, PlacedIn}
-use proofs.Names.{PlacedBefore, PlacedAsked, Load, load, HasOne, IsReady, StatusSays, StatusAsked, StatusBy}
+use proofs.Names.{plan_in_message_out, plan_in_phase, Cause, Leaving, Messages, Next, Phase, Plan, IsPlain, RunState}
+use proofs.Names.{bus_of, carried_here, run_state, run_state_after, serving_of, leaving, hearing_of, InConnection}
+use proofs.Names.{in_connection, OnMessage, LeavesWhole, Knows, IsOver, IsRowIn, reading_in, GoesOn, in_phase}
+use proofs.Names.{out_phase, out_lines, by_bool, stage_of_connection, link_phase, is_to_message_in, IsPlainIn}
+use proofs.Names.{frees_bus, PlacedIn, PlacedBefore, PlacedAsked, from_ends, stays_out, front_length, not_out}
+use proofs.Names.{LastFacts, LastGiven, still_stays, to_close, to_save, closed, LastBy, EndsWell, stays, closes, saves}
+use proofs.Names.{command_not_out, Load, load, HasOne, IsReady, StatusSays, StatusAsked, StatusBy}
 use proofs.Ran.{Crossings.{IsPlaced, placed_here}, Facts.{undoes_of, here_is}, Undone.{loads_stay_in}}
 use proofs.Statuses.{Areas.{area_stays}, First.{status_follows}, Leavings.{is_ending, is_status_next, FromIn}}
 use proofs.Statuses.Leavings.{completes, repeats, restores, others, from_in, ToStatus, again, goes_on, gives_up}
@@ -103,9 +103,6 @@ talk_turns s p row n id h ef ep er lasts talk = subst (StatusBy d j.exchange.pla
     j : RunState
     j = run_state_after s k row
 
-    change : Change
-    change = h.going.change
-
     c : Change
     c = h.going.change
 
@@ -128,7 +125,7 @@ talk_turns s p row n id h ef ep er lasts talk = subst (StatusBy d j.exchange.pla
     knows = knows_of s p row n id h
 
     pl : IsPlain s p k
-    pl = run_state_plain s p h.given.known.was.standing.devices
+    pl = h.given.known.was.plain
 
     i : InConnection s k row n c true false false
     i = in_connection s k row n c true false false r ep none ef
@@ -177,9 +174,6 @@ talk_turns s p row n id h ef ep er lasts talk = subst (StatusBy d j.exchange.pla
         let stage = stage_of_connection s (row ∷ p) n h.given.known.next.stood h.after h.calm in
         ap (λ (x : Change). x.after.cd) h.going.change_is ∙ (link_phase s (row ∷ p) n stage (ap (λ (x : Change). x.after.msg) (sym h.going.change_is) ∙ z)).0
 
-    before_lines : c.before.msg ≡ true → c.before.cd ≡ true
-    before_lines z = ap (λ (x : LineSet). x.cd) (sym r.bus_is) ∙ (g.phase (ap (λ (x : LineSet). x.msg) r.bus_is ∙ z)).0
-
     -- the first phase is MESSAGE OUT
     first_out : k.exchange.begun ≡ false → is_message_out c.after ≡ true
     first_out q = sym (ap (λ (x : Change). is_message_out x.after) r.change_is) ∙ g.first change_is q
@@ -227,20 +221,19 @@ talk_turns s p row n id h ef ep er lasts talk = subst (StatusBy d j.exchange.pla
                 absurd (command_not_out v (bus_of k).atn (ap (λ (x : Phase). (phase_leaving v (bus_of k).atn x).to) (sym command) ∙ ap (λ (x : Leaving). x.to) (sym (leaving_is q)) ∙ whereto q ∙ ap (λ (x : Phase). Some x) (out_phase c.after out)))
 
     in_out : phase_of c.after ≡ Phase.MessageOut → StatusBy d j.exchange.plan j.handshakes.requests Phase.MessageOut
-    in_out e = go k.exchange.begun refl
+    in_out e =
+        by_bool k.exchange.begun
+        (λ q.
+        subst (λ (x : Plan). StatusAsked d x x.cause)
+        (sym (plan ∙ (λ z. if not (out z) then record (plan_anew k.exchange.plan) { messages = (leaving s k n.target).messages; next = (leaving s k n.target).next } else if q z then plan_in_message_out w k.exchange.plan else plan_anew k.exchange.plan)))
+        (asked_of q out))
+        (λ q.
+        subst (λ (x : Plan). StatusAsked d x x.cause)
+        (sym (plan ∙ (λ z. if not (out z) then record (plan_anew k.exchange.plan) { messages = (leaving s k n.target).messages; next = (leaving s k n.target).next } else if q z then plan_in_message_out w k.exchange.plan else plan_anew k.exchange.plan)))
+        (subst (StatusAsked d (plan_anew k.exchange.plan)) (sym ((h.given.known.was.books.speaks n r.connection_is g.calm).before_all q).cause_is) tt))
       where
         out : is_message_out c.after ≡ true
         out = out_lines c.after e known_lines
-
-        go : (q : Bool) → k.exchange.begun ≡ q → StatusAsked d j.exchange.plan j.exchange.plan.cause
-        go true q =
-            subst (λ (x : Plan). StatusAsked d x x.cause)
-            (sym (plan ∙ (λ z. if not (out z) then record (plan_anew k.exchange.plan) { messages = (leaving s k n.target).messages; next = (leaving s k n.target).next } else if q z then plan_in_message_out w k.exchange.plan else plan_anew k.exchange.plan)))
-            (asked_of q out)
-        go false q =
-            subst (λ (x : Plan). StatusAsked d x x.cause)
-            (sym (plan ∙ (λ z. if not (out z) then record (plan_anew k.exchange.plan) { messages = (leaving s k n.target).messages; next = (leaving s k n.target).next } else if q z then plan_in_message_out w k.exchange.plan else plan_anew k.exchange.plan)))
-            (subst (StatusAsked d (plan_anew k.exchange.plan)) (sym ((h.given.known.was.books.speaks n r.connection_is g.calm).before_all q).cause_is) tt)
 
     -- ---- MESSAGE IN follows
 
@@ -267,11 +260,8 @@ talk_turns s p row n id h ef ep er lasts talk = subst (StatusBy d j.exchange.pla
 
         -- COMMAND COMPLETE is said before the bus is freed
         freed : j.exchange.plan.messages ≡ one_message MsgIn.CommandComplete → frees_bus j.exchange.plan.next ≡ true
-        freed z = go after_link refl
+        freed z = go j.story.link refl
           where
-            after_link : Option Link
-            after_link = j.story.link
-
             linked : Knows s j n
             linked = h.given.known.next.stood.books.knows n (i.connection_is) (ap (λ (x : LineSet). x.rst) i.bus_is ∙ r.calm)
 
@@ -351,6 +341,4 @@ talk_turns s p row n id h ef ep er lasts talk = subst (StatusBy d j.exchange.pla
     by Phase.MessageOut e = subst (StatusBy d j.exchange.plan j.handshakes.requests) (sym e) (in_out e)
     by Phase.MessageIn e = subst (StatusBy d j.exchange.plan j.handshakes.requests) (sym e) (in_message e)
     by Phase.Status e = subst (StatusBy d j.exchange.plan j.handshakes.requests) (sym e) (in_status e)
-    by Phase.Command e = subst (StatusBy d j.exchange.plan j.handshakes.requests) (sym e) tt
-    by Phase.DataIn e = subst (StatusBy d j.exchange.plan j.handshakes.requests) (sym e) tt
-    by Phase.DataOut e = subst (StatusBy d j.exchange.plan j.handshakes.requests) (sym e) tt
+    by _ e = subst (StatusBy d j.exchange.plan j.handshakes.requests) (sym e) tt

@@ -1,16 +1,15 @@
 -- What is asked of a row, so that its events are those that the target of its connection rests on, follows from where the processes
 -- stand in the plain disk array, and from the faults that they have met.
 use Rattle.trace_laws.proofs
-use proofs.Names.{inl, inr, ◌≡◌, ◌⊎◌, Bool, true, false, ◌∙◌, List, [], ◌∷◌, Option, Some, None, refl, sym, ap, subst}
-use proofs.Names.{ℕ, same_Some, if◌then◌else◌, is_some, ProcId, LineSet, Row, Handshakes, PARITY_ERROR, ScenarioValue}
+use proofs.Names.{inl, inr, ◌≡◌, Bool, true, false, ◌∙◌, List, [], ◌∷◌, Option, Some, None, refl, sym, ap, subst, ℕ}
+use proofs.Names.{same_Some, if◌then◌else◌, is_some, ProcId, LineSet, Row, Handshakes, PARITY_ERROR, ScenarioValue}
 use proofs.Names.{reply_in, Reply, Process, process_of, same_id, has_ended, running_if, running_in, Array}
 use proofs.Names.{RunningProcess, UnitState, guest_at, without_reply, phase_of, Cause, Messages, Next, Phase, Plan}
 use proofs.Names.{run_state_plain, AreOfDevices, IsPlain, RunState, bus_of, carried_here, or_start, process_item}
-use proofs.Names.{run_state, process_id, AttendanceAsked, BeginsUnanswered, HasReplyGiven, LeavesAnswered, RepliesGiven}
-use proofs.Names.{AnsweredOpen, Closes, IsAnswered, IsAtRest, IsAway, IsTaken, IsUnanswered, IsUntouched, OnGuests}
-use proofs.Names.{OnUnits, PlaceFacts, PlacedAsked, PlacedBefore, PlacedIf, PlacedIn, RunsOpen, completes, disconnects}
-use proofs.{Names.{FailsAsLeft, FailsIn}, Common.Impossible.{none_some}, Events.Others.{untouched_rests}}
-use proofs.{Lines.First.{begun_first}, Places.Rows.{allowed_row}}
+use proofs.Names.{run_state, process_id, none_some, untouched_rests, begun_first, AnsweredOpen, Closes, IsAnswered}
+use proofs.Names.{IsAtRest, IsAway, IsUnanswered, IsUntouched, OnGuests, OnUnits, PlaceFacts, PlacedAsked, PlacedBefore}
+use proofs.Names.{PlacedIf, PlacedIn, RunsOpen, completes, disconnects, FailsAsLeft, FailsIn, AttendanceAsked}
+use proofs.{Names.{BeginsUnanswered, HasReplyGiven, LeavesAnswered, RepliesGiven}, Places.Rows.{allowed_row}}
 
 -- ---- the reply that a process has is the one that was given
 
@@ -26,7 +25,7 @@ unanswered given over (u ∷ units) id r h e = go (λ z. unanswered given over u
     by rest x w true f z = ap (λ (y : RunningProcess). y.reply) (sym (same_Some x r z)) ∙ (w f).0
     by rest x w false f z = rest z
 
-    go : (running_in units id ≡ Some r → r.reply ≡ None) → (o : Option RunningProcess) → Rattle.trace_laws.specs.Places.Runs (IsUnanswered given over id) o → (if is_some (running_if o id) then running_if o id else running_in units id) ≡ Some r → r.reply ≡ None
+    go : (running_in units id ≡ Some r → r.reply ≡ None) → (o : Option RunningProcess) → Rattle.story_laws.specs.row_laws.specs.Places.Runs (IsUnanswered given over id) o → (if is_some (running_if o id) then running_if o id else running_in units id) ≡ Some r → r.reply ≡ None
     go rest None w z = rest z
     go rest (Some x) w z = by rest x w (same_id x.process.id id) refl z
 
@@ -68,11 +67,8 @@ placed_given a p plan hs atn Phase.Command h = rests_given a p.id (untouched_res
 placed_given a p plan hs atn Phase.Status h = answered_given a p.id h
 placed_given a p plan hs atn Phase.DataIn h = runs_given a p h
 placed_given a p plan hs atn Phase.DataOut h = runs_given a p h
-placed_given a p plan hs atn Phase.MessageIn h = go h
-  where
-    go : PlacedBefore a p plan.messages plan.next ⊎ IsTaken a p plan hs atn → HasReplyGiven a p.id
-    go (inl w) = before_given a p plan.messages plan.next w
-    go (inr w) = rests_given a p.id w.rests
+placed_given a p plan hs atn Phase.MessageIn h =
+    elim h [ inl w ↦ before_given a p plan.messages plan.next w | inr w ↦ rests_given a p.id w.rests ]
 
 pub replies_given : (s : ScenarioValue) (p : List Row) → AreOfDevices p → PlaceFacts s p → RepliesGiven s p
 replies_given s p dv h n id con calm served = subst (λ (o : Option Array). HasReplyGiven (or_start s o) id) (sym h.array_is) (subst (λ (x : ProcId). HasReplyGiven h.array x) (process_id s id of.0 of.1) (go k.exchange.begun placed))
@@ -97,8 +93,8 @@ replies_given s p dv h n id con calm served = subst (λ (o : Option Array). HasR
 
 pub leaves_answered : (s : ScenarioValue) (p : List Row) (row : Row) → FailsAsLeft s p row → LeavesAnswered s p row
 leaves_answered s p row h n id con calm off begun left item = record {
-  command = λ e struck. let w = subst (λ (x : Phase). FailsIn k.exchange.plan (bus_of k).atn (carried_here k id) x) e fails in ap (λ (o : Option ℕ). is_some o) (w.1 ∙ ap (λ (q : Bool). Rattle.trace_laws.specs.Tells.code_if q PARITY_ERROR) struck);
-  message = λ e atn next. subst (λ (x : Next). Rattle.trace_laws.specs.Tells.FailsBefore (carried_here k id) x) next (subst (λ (x : Phase). FailsIn k.exchange.plan (bus_of k).atn (carried_here k id) x) e fails atn);
+  command = λ e struck. let w = subst (λ (x : Phase). FailsIn k.exchange.plan (bus_of k).atn (carried_here k id) x) e fails in ap (λ (o : Option ℕ). is_some o) (w.1 ∙ ap (λ (q : Bool). Rattle.story_laws.specs.row_laws.specs.Tells.code_if q PARITY_ERROR) struck);
+  message = λ e atn next. subst (λ (x : Next). Rattle.story_laws.specs.row_laws.specs.Tells.FailsBefore (carried_here k id) x) next (subst (λ (x : Phase). FailsIn k.exchange.plan (bus_of k).atn (carried_here k id) x) e fails atn);
 }
   where
     k : RunState

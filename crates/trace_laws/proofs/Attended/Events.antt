@@ -7,8 +7,8 @@ use proofs.Names.{CarriedBytes, carried_of, is_status_phase, is_whole_block, abo
 use proofs.Names.{bus_free_events, carried_if, connection_events, end_events, is_refuse, item_loss_events, link_events}
 use proofs.Names.{phase_events, queue_event, queue_events, row_events_by, status_event, Item, process, abort, Link}
 use proofs.Names.{LastMessage, plain, complete, disconnect, abortive, Story, RunState, AreShown, IsShown, accepts, runs}
-use proofs.Names.{fails, loses, aborts}
-use Rattle.trace_laws.specs.Attendance.{refuses, ends}
+use proofs.Names.{fails, loses, aborts, refuses}
+use Rattle.story_laws.specs.row_laws.specs.Attendance.{ends}
 
 -- What the row shows where the connection has a link.
 pub row_shows : (s : ScenarioValue) (b : Story) (row : Row) (d : RowReading) (l : Link) → b.link ≡ Some l → d.change.after.rst ≡ false → row_events_by s b d row ≡ (if is_some d.next then connection_events s b l d else bus_free_events s l l.last)

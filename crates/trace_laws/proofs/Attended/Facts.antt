@@ -5,10 +5,10 @@ use proofs.Names.{if◌then◌else◌, is_some, wrong, Event, ProcId, rises, con
 use proofs.Names.{ScenarioValue, Obeys, array_step, Reply, after_status, array_without, end_step, end_step_with}
 use proofs.Names.{running_process, settled_array_if, Array, RunningProcess, RowReading, row_reading, link_events, Link}
 use proofs.Names.{IsLeast, due, IsPrompt, RunState, or_start, array_after_events, run_state, change_plain, least_is}
-use proofs.Names.{link_calm, AnyStage, apart, linked, AttendedFacts, Shows, ShowsAfterReset, AttendanceAsked}
-use proofs.{Names.{EndsAsGiven, HasGiven, HasReplyGiven, CommandFacts, InstructedFacts}, Attended.Rows.{shows_in}}
-use proofs.{Common.Impossible.{none_some}, Lines.{Connections.{begins_now, goes_now, row_kind}, First.{under_rst}}}
-use proofs.Lines.Joint.{Stood}
+use proofs.Names.{link_calm, AnyStage, linked, none_some, begins_now, goes_now, row_kind, under_rst, Stood}
+use proofs.Names.{AttendedFacts, Shows, ShowsAfterReset, CommandFacts, InstructedFacts, AttendanceAsked, EndsAsGiven}
+use proofs.{Names.{HasGiven, HasReplyGiven}, Attended.Rows.{shows_in}}
+use Rattle.story_laws.specs.link_laws.specs.LinkStages.{apart}
 
 -- A connection in which RST was true does not outlast it.
 pub not_after_reset : (s : ScenarioValue) (p : List Row) (row : Row) (n : Connection) → Obeys s → IsPrompt s (row ∷ p) → Stood s p → connection p ≡ Some n → (bus p).rst ≡ true → (bus (row ∷ p)).rst ≡ false → connection (row ∷ p) ≡ None

@@ -1,24 +1,24 @@
 -- After any rows of a prompt trace: an abort that is served is of both ends of its connection; and while the target does not know the
 -- command after a selection, the process that it serves has no reply of status GOOD.
 use Rattle.trace_laws.proofs
-use proofs.Names.{inl, inr, ℕ, ◌≡◌, ◌⊎◌, ◌<◌, Bool, true, false, not, ◌∙◌, List, [], ◌∷◌, Option, Some, None, refl, sym}
-use proofs.Names.{ap, subst, same_Some, if◌then◌else◌, is_some, wrong, wrong', same_set-eq, change_of, falls, LineSet}
+use proofs.Names.{inl, inr, ℕ, ◌≡◌, ◌<◌, Bool, true, false, not, ◌∙◌, List, [], ◌∷◌, Option, Some, None, refl, sym, ap}
+use proofs.Names.{subst, same_Some, if◌then◌else◌, is_some, wrong, wrong', same_set-eq, change_of, falls, LineSet}
 use proofs.Names.{union, changes_phase, is_command, call, connected, connected_by, connected_of, connection}
 use proofs.Names.{connection_after, connection_of, bus, Row, Change, Connection, Call, Calling, only_rst, broken_rule}
 use proofs.Names.{ScenarioValue, Obeys, reply_in, is_initiator, Array, RowReading, row_reading, CarriedBytes}
 use proofs.Names.{carried_of, is_status_phase, bus_free_events, carried_if, connection_events, end_events}
 use proofs.Names.{is_completion, phase_events, Item, process, abort, Link, aim_of, is_status_next, phase_of, Hearing}
-use proofs.Names.{run_state_plain, IsLeast, due, IsPrompt, IsPlain, RunState, array_of, bus_of, item_of, or_start}
-use proofs.Names.{item_if, run_state, served_after, events_of_row, hearing_of, abort_target, initiator_if, ready_of}
-use proofs.Names.{target_of, command_is, Instructions, instructions, instructions_after, instructions_on}
-use proofs.Names.{instructions_with, Knows, change_plain, least_is, AnyStage, apart, linked, AbortsBetween}
-use proofs.Names.{AnswersBadly, AttendedFacts, IsNotGood, AttendanceAsked, InstructedFacts, KnownIn}
-use proofs.Attended.{Events.{row_shows}, Rows.{no_item}, Turns.{fails_first, turn_gives}}
-use proofs.{Common.{Impossible.{none_some}, PhaseLines.{out_no_status}}, Events.BadReplies.{GiveNoGood, events_keep}}
-use proofs.{Instructed.{Known.{known_after}, Opening.{status_is}, Turns.{known_turned}}, Lines.Called.{IsCalled}}
-use proofs.Lines.{Called.{IsDueCall}, Connections.{ConnectionRow, RowKindOf, begins_now, connection_row, goes_now}}
-use proofs.Lines.{Connections.{row_kind}, Crossings.{Goes, RowFacts, stays, ends_here}, First.{made_is, quiet_sel}}
-use proofs.Lines.{First.{under_rst}, Joint.{NextStood, Stood, link_connection}, UnderRst.{quiet_at_end}}
+use proofs.Names.{IsLeast, due, IsPrompt, RunState, array_of, bus_of, item_of, or_start, item_if, run_state}
+use proofs.Names.{served_after, events_of_row, hearing_of, abort_target, initiator_if, ready_of, target_of, command_is}
+use proofs.Names.{Instructions, instructions, instructions_after, instructions_on, instructions_with, Knows}
+use proofs.Names.{change_plain, least_is, AnyStage, linked, none_some, out_no_status, by_bool, GiveNoGood, IsCalled}
+use proofs.Names.{IsDueCall, ConnectionRow, RowKindOf, begins_now, connection_row, goes_now, row_kind, Goes, RowFacts}
+use proofs.Names.{stays, ends_here, made_is, quiet_sel, under_rst, NextStood, Stood, link_connection, quiet_at_end}
+use proofs.Names.{AbortsBetween, AnswersBadly, AttendedFacts, IsNotGood, known_after, status_is, known_turned}
+use proofs.{Names.{InstructedFacts, KnownIn, AttendanceAsked}, Attended.{Events.{row_shows}, Rows.{no_item}}}
+use proofs.Attended.Turns.{fails_first, turn_gives}
+use Rattle.story_laws.specs.link_laws.specs.LinkStages.{apart}
+use Rattle.story_laws.specs.row_laws.proofs.Events.BadReplies.{events_keep}
 
 -- ---- as a selection begins a connection for an abort
 
@@ -65,11 +65,10 @@ called_for s p row n alone e selects was = by_call (call p) refl (made_is p row 
 
 -- What is known after a connection went on with the row.
 still_unknown : (w : Rattle.bus_due.specs.bus_dialogue.specs.declared.exchange.Hearing.Hearing) (plan : Rattle.bus_due.specs.bus_dialogue.specs.declared.exchange.Plan.Plan) (i : Instructions) → (instructions_on w plan i).known ≡ false → i.known ≡ false
-still_unknown w plan i e = go i.known refl
-  where
-    go : (q : Bool) → i.known ≡ q → i.known ≡ false
-    go false f = f
-    go true f = wrong (sym f ∙ sym (ap (λ (q : Bool). (if q then i else instructions_with w plan i).known) f) ∙ e)
+still_unknown w plan i e =
+    by_bool i.known
+    (λ f. wrong (sym f ∙ sym (ap (λ (q : Bool). (if q then i else instructions_with w plan i).known) f) ∙ e))
+    (λ f. f)
 
 -- Premises of a row, and what holds after it.
 pub record Next (s : ScenarioValue) (p : List Row) (row : Row) : Type 0 where
@@ -106,23 +105,20 @@ attended_next s p row h = record { aborts = λ n e off. aborts n e off (kind n e
     m : IsLeast (due s p) 8 row
     m = least_is s p row h.prompt.1
 
-    pl : IsPlain s p k
-    pl = run_state_plain s p h.stood.standing.devices
-
     c : d.change ≡ change_of p row
     c = change_plain s row p h.stood.standing.devices m.inside
 
     next : d.next ≡ connection q
-    next = λ i. connection_after (pl.connection i) (pl.call i) (c i) row
+    next = λ i. connection_after (h.stood.plain.connection i) (h.stood.plain.call i) (c i) row
 
     kind : (n : Connection) → connection q ≡ Some n → (bus q).rst ≡ false → RowKindOf s p row n
     kind n e off = row_kind s p row n h.obeys h.prompt h.stood e off
 
     served_first : (n : Connection) → connection p ≡ None → connection q ≡ Some n → j.served ≡ (if n.reselected then item_if (ready_of s k n.target) else aim_of k.story.aims n.initiator)
-    served_first n alone e = λ x. served_after s k ((pl.connection ∙ alone) x) ((next ∙ e) x)
+    served_first n alone e = λ x. served_after s k ((h.stood.plain.connection ∙ alone) x) ((next ∙ e) x)
 
     served_on : (n : Connection) → connection p ≡ Some n → connection q ≡ Some n → j.served ≡ k.served
-    served_on n con e = λ x. served_after s k ((pl.connection ∙ con) x) ((next ∙ e) x)
+    served_on n con e = λ x. served_after s k ((h.stood.plain.connection ∙ con) x) ((next ∙ e) x)
 
     -- aborts
     aborts_first : (n : Connection) → connection p ≡ None → connection q ≡ Some n → (bus q).rst ≡ false → (t : Bool) → n.reselected ≡ t → AbortsBetween s j n
@@ -154,20 +150,16 @@ attended_next s p row h = record { aborts = λ n e off. aborts n e off (kind n e
         served_then = sym (served_on n con e) ∙ served
 
         knows : Knows s k n
-        knows = h.stood.books.knows n (pl.connection ∙ con) (ap (λ (l : LineSet). l.rst) pl.bus ∙ calm)
+        knows = h.stood.books.knows n (h.stood.plain.connection ∙ con) (ap (λ (l : LineSet). l.rst) h.stood.plain.bus ∙ calm)
 
         l : Link
         l = knows.link
 
         item : l.item ≡ Some (process id)
-        item = by knows.item_is
-          where
-            by : (l.item ≡ k.served) ⊎ ((n.reselected ≡ true) × (l.item ≡ None)) → l.item ≡ Some (process id)
-            by (inl z) = z ∙ served_then
-            by (inr z) = wrong (sym z.0 ∙ re)
+        item = elim knows.item_is [ inl z ↦ z ∙ served_then | inr z ↦ wrong (sym z.0 ∙ re) ]
 
         told_is : instructions s q ≡ instructions_on here k.exchange.plan i
-        told_is = λ x. instructions_after ((pl.connection ∙ con) x) ((next ∙ e) x) here k.exchange.plan i
+        told_is = λ x. instructions_after ((h.stood.plain.connection ∙ con) x) ((next ∙ e) x) here k.exchange.plan i
 
         unknown_on : (instructions_on here k.exchange.plan i).known ≡ false
         unknown_on = ap (λ (x : Instructions). x.known) (sym told_is) ∙ unknown
@@ -191,7 +183,17 @@ attended_next s p row h = record { aborts = λ n e off. aborts n e off (kind n e
 
         -- a phase is left for STATUS
         failed : (g : Goes s p row n) → changes_phase d.change ≡ true → is_status_phase d.change.after ≡ true → own.shown ≡ false → own.refused ≡ false → is_some own.failure ≡ true
-        failed g ep status shown refused = go k.exchange.begun refl
+        failed g ep status shown refused =
+            by_bool k.exchange.begun
+            (λ b.
+            let stage = ((h.told n con calm).selected re).stage b in
+            let known : KnownIn false k.exchange.plan (phase_of (bus_of k)) = subst (λ (x : Bool). KnownIn x k.exchange.plan (phase_of (bus_of k))) unknown_then stage in
+            let after : known_after false k.exchange.plan.struck (phase_of (bus_of k)) ≡ false =
+            sym (ap (λ (x : Bool). known_after x k.exchange.plan.struck (phase_of (bus_of k))) unknown_then)
+            ∙ sym (known_turned here k.exchange.plan i (phase_of (bus_of k)) b ep before) ∙ unknown_on in
+            fails_first s k n.target id b known after (h.asked.leaves n id con calm off b ep (ap item_of knows.link_is ∙ item))
+            (ap is_status_next (g.whereto turned (sym h.stood.plain.begun ∙ b)) ∙ sym (status_is g.change.after) ∙ status_next) shown refused)
+            (λ b. wrong (sym status_next ∙ out_no_status g.change.after (g.first turned (sym h.stood.plain.begun ∙ b))))
           where
             turned : changes_phase g.change ≡ true
             turned = ap changes_phase (sym g.row_is.change_is) ∙ ep
@@ -199,19 +201,8 @@ attended_next s p row h = record { aborts = λ n e off. aborts n e off (kind n e
             status_next : is_status_phase g.change.after ≡ true
             status_next = ap (λ (x : Change). is_status_phase x.after) (sym g.row_is.change_is) ∙ status
 
-            before : is_command d.change.before ≡ Rattle.target_units.specs.scsi_device.specs.Heard.is_command_phase (phase_of (bus_of k))
+            before : is_command d.change.before ≡ Rattle.story_laws.specs.scsi_device.specs.Heard.is_command_phase (phase_of (bus_of k))
             before = ap (λ (x : Change). is_command x.before) g.row_is.change_is ∙ ap is_command (sym g.row_is.bus_is) ∙ command_is (bus_of k)
-
-            go : (b : Bool) → k.exchange.begun ≡ b → is_some own.failure ≡ true
-            go false b = wrong (sym status_next ∙ out_no_status g.change.after (g.first turned (sym pl.begun ∙ b)))
-            go true b =
-                let stage = ((h.told n con calm).selected re).stage b in
-                let known : KnownIn false k.exchange.plan (phase_of (bus_of k)) = subst (λ (x : Bool). KnownIn x k.exchange.plan (phase_of (bus_of k))) unknown_then stage in
-                let after : known_after false k.exchange.plan.struck (phase_of (bus_of k)) ≡ false =
-                sym (ap (λ (x : Bool). known_after x k.exchange.plan.struck (phase_of (bus_of k))) unknown_then)
-                ∙ sym (known_turned here k.exchange.plan i (phase_of (bus_of k)) b ep before) ∙ unknown_on in
-                fails_first s k n.target id b known after (h.asked.leaves n id con calm off b ep (ap item_of knows.link_is ∙ item))
-                (ap is_status_next (g.whereto turned (sym pl.begun ∙ b)) ∙ sym (status_is g.change.after) ∙ status_next) shown refused
 
         gives : (g : Goes s p row n) → GiveNoGood (events_of_row s p row)
         gives g = subst GiveNoGood (sym (shows ∙ ap (λ (x : Option Item). if changes_phase d.change then phase_events s k.story (carried_if k.story x) d.change else if is_completion l d.change then end_events (carried_if k.story x) else []) item)) (by (changes_phase d.change) refl (is_completion l d.change))

@@ -1,22 +1,20 @@
 -- What a row of a prompt trace shows in a connection.
 use Rattle.trace_laws.proofs
-use proofs.Names.{inl, inr, ℕ, ◌≡◌, ◌⊎◌, ◌<◌, Bool, true, false, not, ◌&&◌, ◌==◌, ◌∙◌, List, [], ◌∷◌, Option, Some}
-use proofs.Names.{None, refl, sym, ap, subst, same_Some, slice_index, if◌then◌else◌, is_some, wrong, wrong', Event}
-use proofs.Names.{ProcId, change_of, rises, LineSet, changes_phase, is_command, is_message_in, is_message_out}
-use proofs.Names.{connection, connection_after, bus, Row, Change, Connection, GOOD, ScenarioValue, Obeys, AbortDef}
-use proofs.Names.{carried_id, RowReading, row_reading, CarriedBytes, carried_of, is_status_phase, abort_line_at}
-use proofs.Names.{bus_free_events, carried_if, connection_events, end_events, is_complete, is_completion, phase_events}
-use proofs.Names.{Item, process, abort, Link, is_status_next, Leaving, run_state_plain, IsLeast, due, IsPrompt, IsPlain}
-use proofs.Names.{RunState, bus_of, run_state, events_of_row, serving_of, obeys_fits, units_are, Instructions}
-use proofs.Names.{instructions, is_opening, AreUnits, IsItem, is_process, Knows, change_plain, least_is, LinkStage}
-use proofs.Names.{when_selected, when_settling, when_turning, when_offering, when_shaking, when_pulsing, AbortsBetween}
-use proofs.Names.{AreShown, AttendedFacts, ShowsIn, EndsAsGiven, CommandBooks, CommandFacts, Serves, Instructed}
-use proofs.{Names.{InstructedFacts}, Attended.Events.{AreOfEnds, EndsKnown, Of, end_shown, row_shows, stop_shown}}
-use proofs.{Attended.Events.{turn_shown}, Common.PhaseLines.{out_lines, out_no_status}, Instructed.Opening.{alone}}
-use proofs.Instructed.Opening.{opening_begun, opening_leads, opening_leaving, out_no_command, status_is}
-use proofs.Lines.{Connections.{ConnectionRow, connection_row}, Crossings.{Goes, RowFacts, Stops, stays, ends_here}}
-use proofs.{Lines.Joint.{Stood, link_phase}, Tells.Rows.{no_events, unbegun_lines}}
-use Rattle.bus_books.specs.Items.{is_abort}
+use proofs.Names.{inl, inr, ℕ, ◌≡◌, ◌<◌, Bool, true, false, not, ◌&&◌, ◌==◌, ◌∙◌, List, [], ◌∷◌, Option, Some, None}
+use proofs.Names.{refl, sym, ap, subst, same_Some, slice_index, if◌then◌else◌, is_some, wrong, wrong', Event, ProcId}
+use proofs.Names.{change_of, rises, LineSet, changes_phase, is_command, is_message_in, is_message_out, connection}
+use proofs.Names.{connection_after, bus, Row, Change, Connection, GOOD, ScenarioValue, Obeys, AbortDef, carried_id}
+use proofs.Names.{RowReading, row_reading, CarriedBytes, carried_of, is_status_phase, abort_line_at, bus_free_events}
+use proofs.Names.{carried_if, connection_events, end_events, is_complete, is_completion, phase_events, Item, process}
+use proofs.Names.{abort, Link, is_status_next, Leaving, IsPrompt, RunState, bus_of, run_state, events_of_row}
+use proofs.Names.{serving_of, obeys_fits, units_are, Instructions, instructions, is_opening, AreUnits, IsItem}
+use proofs.Names.{is_process, is_abort, Knows, change_plain, least_is, LinkStage, when_selected, when_settling}
+use proofs.Names.{when_turning, when_offering, when_shaking, when_pulsing, out_lines, out_no_status, ConnectionRow}
+use proofs.Names.{connection_row, Goes, RowFacts, Stops, stays, ends_here, Stood, link_phase, AbortsBetween, AreShown}
+use proofs.Names.{AttendedFacts, ShowsIn, alone, opening_begun, opening_leads, opening_leaving, out_no_command}
+use proofs.Names.{status_is, no_events, unbegun_lines, CommandBooks, CommandFacts, Serves, Instructed, InstructedFacts}
+use proofs.{Names.{EndsAsGiven}, Attended.Events.{AreOfEnds, EndsKnown, Of, end_shown, row_shows, stop_shown}}
+use proofs.Attended.Events.{turn_shown}
 
 pub no_item : {A : Type 0} (id : ProcId) (m : ℕ) → Some (process id) ≡ Some (abort m) → A
 no_item id m e = absurd cc
@@ -52,11 +50,7 @@ between s k n u below books again target m a served line = (host, target m a ser
 
 -- Its initiator knows what is served, or does not know it yet.
 item_of_link : (s : ScenarioValue) (k : RunState) (n : Connection) (w : Knows s k n) → Of k w.link.item
-item_of_link s k n w = go w.item_is
-  where
-    go : (w.link.item ≡ k.served) ⊎ ((n.reselected ≡ true) × (w.link.item ≡ None)) → Of k w.link.item
-    go (inl z) = inl z
-    go (inr z) = inr z.1
+item_of_link s k n w = elim w.item_is [ inl z ↦ inl z | inr z ↦ inr z.1 ]
 
 -- ---- a row of a connection, before and after which RST is false
 
@@ -84,14 +78,8 @@ shows_in s p row n h = go r.facts
     i : Instructions
     i = instructions s p
 
-    m : IsLeast (due s p) 8 row
-    m = least_is s p row h.prompt.1
-
-    pl : IsPlain s p k
-    pl = run_state_plain s p h.stood.standing.devices
-
     c : d.change ≡ change_of p row
-    c = change_plain s row p h.stood.standing.devices m.inside
+    c = change_plain s row p h.stood.standing.devices (least_is s p row h.prompt.1).inside
 
     u : AreUnits s
     u = units_are s (obeys_fits s h.obeys)
@@ -100,10 +88,10 @@ shows_in s p row n h = go r.facts
     r = connection_row s p row n h.obeys h.prompt h.stood h.stands h.calm h.calm_after
 
     here : k.story.bus_state.connection ≡ Some n
-    here = pl.connection ∙ h.stands
+    here = h.stood.plain.connection ∙ h.stands
 
     quiet : (bus_of k).rst ≡ false
-    quiet = ap (λ (l : LineSet). l.rst) pl.bus ∙ h.calm
+    quiet = ap (λ (l : LineSet). l.rst) h.stood.plain.bus ∙ h.calm
 
     knows : Knows s k n
     knows = h.stood.books.knows n here quiet
@@ -118,7 +106,7 @@ shows_in s p row n h = go r.facts
     of = item_of_link s k n knows
 
     known : (bus_of k).msg ≡ true → (bus_of k).cd ≡ true
-    known z = ap (λ (b : LineSet). b.cd) pl.bus ∙ (link_phase s p n r.stage (ap (λ (b : LineSet). b.msg) (sym pl.bus) ∙ z)).0
+    known z = ap (λ (b : LineSet). b.cd) h.stood.plain.bus ∙ (link_phase s p n r.stage (ap (λ (b : LineSet). b.msg) (sym h.stood.plain.bus) ∙ z)).0
 
     shows : events_of_row s p row ≡ (if is_some d.next then connection_events s k.story l d else bus_free_events s l l.last)
     shows = row_shows s k.story row d l knows.link_is (ap (λ (x : Change). x.after.rst) c ∙ h.calm_after)
@@ -196,8 +184,8 @@ shows_in s p row n h = go r.facts
         unbegun_in : k.exchange.begun ≡ false → (q : Bool) → is_message_in d.change.before ≡ q → is_message_in d.change.before ≡ false
         unbegun_in b false e = e
         unbegun_in b true e =
-            let msg : (bus p).msg ≡ true = ap (λ (x : LineSet). x.msg) (sym pl.bus ∙ before) ∙ first d.change.before.msg d.change.before.cd d.change.before.io e in
-            wrong (sym (link_phase s p n r.stage msg).1 ∙ sym pl.begun ∙ b)
+            let msg : (bus p).msg ≡ true = ap (λ (x : LineSet). x.msg) (sym h.stood.plain.bus ∙ before) ∙ first d.change.before.msg d.change.before.cd d.change.before.io e in
+            wrong (sym (link_phase s p n r.stage msg).1 ∙ sym h.stood.plain.begun ∙ b)
           where
             first : (x y z : Bool) → (x && y && z) ≡ true → x ≡ true
             first true y z f = refl
@@ -208,7 +196,7 @@ shows_in s p row n h = go r.facts
 
         to : changes_phase d.change ≡ true → k.exchange.begun ≡ true → is_status_phase d.change.after ≡ false
         to e b =
-            ap is_status_phase after ∙ status_is g.change.after ∙ ap is_status_next (sym (g.whereto (turned e) (sym pl.begun ∙ b)))
+            ap is_status_phase after ∙ status_is g.change.after ∙ ap is_status_next (sym (g.whereto (turned e) (sym h.stood.plain.begun ∙ b)))
             ∙ ap (λ (x : Leaving). is_status_next x.to) (opening_leaving s k n.target opens b) ∙ opening_leads (serving_of s k n.target)
 
         by : (q : Bool) → changes_phase d.change ≡ q → (b : Bool) → k.exchange.begun ≡ b → connection_events s k.story l d ≡ []
@@ -216,12 +204,12 @@ shows_in s p row n h = go r.facts
         by false e false b = stays_at e (unbegun_in b (is_message_in d.change.before) refl)
         by true e true b = turns_at e (out_no_command d.change.before (out b)).0 (to e b)
         by true e false b =
-            turns_at e (ap is_command (sym before ∙ pl.bus) ∙ unbegun_lines s p n r.stage (sym pl.begun ∙ b))
-            (ap is_status_phase after ∙ out_no_status g.change.after (g.first (turned e) (sym pl.begun ∙ b)))
+            turns_at e (ap is_command (sym before ∙ h.stood.plain.bus) ∙ unbegun_lines s p n r.stage (sym h.stood.plain.begun ∙ b))
+            (ap is_status_phase after ∙ out_no_status g.change.after (g.first (turned e) (sym h.stood.plain.begun ∙ b)))
 
     -- it ends
     stops_next : Stops s p row n → d.next ≡ None
-    stops_next g = (λ i. connection_after (pl.connection i) (pl.call i) (c i) row) ∙ g.stopped
+    stops_next g = (λ i. connection_after (h.stood.plain.connection i) (h.stood.plain.call i) (c i) row) ∙ g.stopped
 
     shown_stops : Stops s p row n → AreShown k n i.known (events_of_row s p row)
     shown_stops g =
@@ -237,5 +225,5 @@ shows_in s p row n h = go r.facts
     go (ends_here g) = record {
       shown = shown_stops g;
       silent = λ e opens z. wrong' (ap (λ (o : Option Connection). is_some o) (sym (stops_next g)) ∙ z);
-      ends_alone = λ e opens z. alone s k n u (h.stood.books.speaks n here quiet) (pl.begun ∙ g.begun_is) known g.over opens g.whereto;
+      ends_alone = λ e opens z. alone s k n u (h.stood.books.speaks n here quiet) (h.stood.plain.begun ∙ g.begun_is) known g.over opens g.whereto;
     }

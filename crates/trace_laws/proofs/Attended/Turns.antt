@@ -6,9 +6,9 @@ use proofs.Names.{ScenarioValue, array_after, CarriedBytes, is_status_phase, is_
 use proofs.Names.{queue_event, queue_events, status_event, Story, task_not, recovery_not, is_status_next, Serving}
 use proofs.Names.{after_messages, bus_free, leaving_by, message_out_leaving, phase_leaving, phase_of}
 use proofs.Names.{pointer_restoration, unless_attention, Cause, Next, Phase, RunState, bus_of, carried_here, leaving}
-use proofs.{Names.{serving_of, LeftAnswered, KnownFor, KnownIn, KnownNext}, Events.BadReplies.{GiveNoGood}}
-use proofs.{Events.BadReplies.{gives_no_good}, Instructed.{Known.{known_after}, Opening.{opening_leads}}}
-use proofs.Tells.Turns.{refused}
+use proofs.Names.{serving_of, GiveNoGood, gives_no_good, known_after, opening_leads, KnownFor, KnownIn, KnownNext}
+use proofs.Names.{LeftAnswered}
+use Rattle.story_laws.proofs.Tells.Turns.{refused}
 
 -- ---- any phase
 

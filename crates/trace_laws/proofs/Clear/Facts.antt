@@ -7,22 +7,21 @@ use proofs.Names.{MsgIn, MsgOut, ScenarioValue, Obeys, same_id, carried_id, RowR
 use proofs.Names.{carried_of, carried_after_fault, carried_or_nothing, carried_if, item_loss_events, bus_free_events}
 use proofs.Names.{Item, process, abort, has_item, sense_item, Link, link_after_name, LastMessage, plain, Story}
 use proofs.Names.{story_after_events, story_with_carried, story_after_out, story_after_in, story_after_byte}
-use proofs.Names.{carried_after_fault_if, story_after_fault, story_by_change, aim_of, phase_of, Ready, Phase}
-use proofs.Names.{run_state_plain, IsPrompt, IsPlain, AreOfDevices, RunState, bus_of, carried_here, run_state_after}
-use proofs.Names.{run_state, served_after, item_if, ready_of, InConnection, in_connection, put_other, Gives}
-use proofs.Names.{is_in_phase, Knows, RowKind, still, strikes, crosses, turns, IsRowIn, IsFirstRow, reading_in, GoesOn}
-use proofs.Names.{Books, Ends, RowOf, row_apart as apart, begins, goes_on, row_ends as ends, under_reset, change_plain}
-use proofs.Names.{least_is, StandsClear, ClearBooks, ClearFacts, UndoesServed, is_marked, IsClear, FailFacts}
-use proofs.{Names.{SentAsLeft, ItemFacts, IsFresh, PlaceFacts, TellFacts, IsLeaving}, Closes.Ends.{EndsHere, ends_row}}
-use proofs.{Closes.Ends.{ends_low, lost_by, lost_in}, Common.{Impossible.{none_some}, Tests.{not_unless}}}
-use proofs.Failures.{Away.{reset_same, apart_clear}, Bytes.{SameFail, clear_as, row_carries}, First.{BeginsClear}}
-use proofs.{Failures.Left.{fails_as_left, freed_as_left}, Items.{Facts.{rst_raised}, Fresh.{IsUnshown, items_fresh}}}
-use proofs.{Items.Fresh.{items_ready, items_sent}, Lines.Joint.{Stood, NextStood}, Places.EndTells.{EndTold, end_told}}
-use proofs.{Places.{EndTells.{end_begun}, Ends.{free_shown}, Joins.{sends_none}}, Pointers.Begins.{begins_undoes}}
-use proofs.Pointers.{Begins.{goes_undoes, same_process, none_item}, Crossings.{names_or}, Ends.{command_over}}
-use proofs.Pointers.{Steps.{IsNot, fault_id, byte_other, out_other, in_other}, Stories.{lost_over}, Waits.{SameSaved}}
-use proofs.{Pointers.Waits.{over_row, apart_same, ends_same, begins_same, item_not, goes_other}, Runs.Rows.{Serves, it}}
-use proofs.{Runs.Rows.{another, serves}, Tells.Facts.{left_tells}}
+use proofs.Names.{carried_after_fault_if, story_after_fault, story_by_change, aim_of, phase_of, Ready, Phase, IsPrompt}
+use proofs.Names.{RunState, bus_of, carried_here, run_state_after, run_state, served_after, item_if, ready_of}
+use proofs.Names.{InConnection, in_connection, put_other, Gives, is_in_phase, Knows, RowKind, still, strikes, crosses}
+use proofs.Names.{turns, IsRowIn, IsFirstRow, reading_in, GoesOn, Books, Ends, RowOf, apart, begins, goes_on, ends}
+use proofs.Names.{under_reset, change_plain, least_is, none_some, not_unless, by_bool, Stood, NextStood, UndoesServed}
+use proofs.Names.{is_marked, ItemFacts, PlaceFacts, IsLeaving, rst_raised, IsUnshown, items_fresh, items_ready}
+use proofs.Names.{items_sent, begins_undoes, goes_undoes, none_item, names_or, IsNot, fault_id, byte_other, out_other}
+use proofs.Names.{in_other, lost_over, SameSaved, over_row, apart_same, ends_same, begins_same, item_not, goes_other}
+use proofs.Names.{left_tells, IsFresh, TellFacts, StandsClear, ClearBooks, ClearFacts, IsClear, FailFacts, SentAsLeft}
+use proofs.{Closes.Ends.{EndsHere, ends_row, ends_low, lost_by, lost_in}, Failures.Away.{reset_same, apart_clear}}
+use proofs.Failures.{Bytes.{SameFail, clear_as, row_carries}, First.{BeginsClear}, Left.{fails_as_left, freed_as_left}}
+use proofs.{Places.{EndTells.{EndTold, end_told, end_begun}, Ends.{free_shown}, Joins.{sends_none}}, Runs.Rows.{Serves}}
+use proofs.Runs.Rows.{it, another, serves}
+use Rattle.story_laws.proofs.Pointers.Begins.{same_process}
+use Rattle.story_laws.proofs.Pointers.Ends.{command_over}
 use Rattle.trace_laws.proofs.Failures.Away as away
 
 -- ---- of one process
@@ -89,11 +88,7 @@ other_same s k row n c id now r en knows undoes other names =
     d = reading_in k.story.bus_state n c now
 
     own : (knows.link.item ≡ k.served) ⊎ (knows.link.item ≡ None)
-    own = by knows.item_is
-      where
-        by : (knows.link.item ≡ k.served) ⊎ ((n.reselected ≡ true) × (knows.link.item ≡ None)) → (knows.link.item ≡ k.served) ⊎ (knows.link.item ≡ None)
-        by (inl z) = inl z
-        by (inr z) = inr z.1
+    own = elim knows.item_is [ inl z ↦ inl z | inr z ↦ inr z.1 ]
 
     go : (q : Bool) (o : Option MsgOut) (m : Option MsgIn) → d.into ≡ m → carried_of (if q then (if is_some o then story_after_out k.story knows.link o else if is_some m then story_after_in s k.story knows.link m else story_after_byte k.story knows.link d) else story_after_fault k.story knows.link row.kind).carried id ≡ carried_here k id
     go false o m e = fault_not k.story knows.link row.kind id (item_not id k n knows.link.item other own)
@@ -235,20 +230,14 @@ reset_over s p row id prompt was places after off on served = go id.sense refl
     j : RunState
     j = run_state s (row ∷ p)
 
-    dv : AreOfDevices p
-    dv = was.standing.devices
-
     lt : row.dev < 8
     lt = (least_is s p row prompt.1).inside
 
-    pl : IsPlain s p k
-    pl = run_state_plain s p dv
-
     change : (row_reading k.story.bus_state row).change ≡ change_of p row
-    change = change_plain s row p dv lt
+    change = change_plain s row p was.standing.devices lt
 
     raised : rises (row_reading k.story.bus_state row).change.own.rst (row_reading k.story.bus_state row).change.next.rst ≡ true
-    raised = ap (λ (x : Change). rises x.own.rst x.next.rst) change ∙ rst_raised p row lt (ap (λ (x : LineSet). x.rst) (sym pl.bus) ∙ off) (ap (λ (x : Change). x.after.rst) (sym change) ∙ on)
+    raised = ap (λ (x : Change). rises x.own.rst x.next.rst) change ∙ rst_raised p row lt (ap (λ (x : LineSet). x.rst) (sym was.plain.bus) ∙ off) (ap (λ (x : Change). x.after.rst) (sym change) ∙ on)
 
     sent : has_item k.story.sent.sent (process id) ≡ true
     sent = places.sent id served
@@ -267,11 +256,10 @@ reset_over s p row id prompt was places after off on served = go id.sense refl
 -- ---- either
 
 pub ends_served : (s : ScenarioValue) (p : List Row) (row : Row) (n : Connection) (id : ProcId) → Obeys s → IsPrompt s (row ∷ p) → Stood s p → TellFacts s p → FailFacts s p → PlaceFacts s p → ItemFacts s (row ∷ p) → SentAsLeft s p row → Ends s (run_state s p) row n → (run_state s p).served ≡ Some (process id) → StandsClear (run_state s (row ∷ p)) id
-ends_served s p row n id o prompt was facts fails places after sent g served = go (row_reading (run_state s p).story.bus_state row).change.after.rst refl
-  where
-    go : (q : Bool) → (row_reading (run_state s p).story.bus_state row).change.after.rst ≡ q → StandsClear (run_state s (row ∷ p)) id
-    go false calm = ends_calm s p row n id o prompt was facts fails places sent g calm served
-    go true on = over_stands (run_state s (row ∷ p)) id (reset_over s p row id prompt was places after g.calm on served)
+ends_served s p row n id o prompt was facts fails places after sent g served =
+    by_bool (row_reading (run_state s p).story.bus_state row).change.after.rst
+    (λ on. over_stands (run_state s (row ∷ p)) id (reset_over s p row id prompt was places after g.calm on served))
+    (λ calm. ends_calm s p row n id o prompt was facts fails places sent g calm served)
 
 -- ---- As a connection begins nothing has struck the process that it serves; and what this asks of every row.
 
@@ -290,19 +278,16 @@ unsent_clear : (s : ScenarioValue) (p : List Row) (id : ProcId) → ItemFacts s 
 unsent_clear s p id items e = subst (λ (x : Option CarriedBytes). IsClear (carried_or_nothing x id)) (sym ((items_sent s p items).carried id e)) (record { failure = refl; struck = refl })
 
 pub clear_asks : (s : ScenarioValue) (p : List Row) (row : Row) → Obeys s → IsPrompt s (row ∷ p) → Stood s p → ItemFacts s p → ((n : Connection) → connection p ≡ None → connection (row ∷ p) ≡ Some n → IsUnshown s (run_state s p) n) → ClearFacts s p → BeginsClear s p row
-clear_asks s p row o prompt was items unshown h n id alone after calm served = apart_clear s k row id con (go n.reselected refl)
+clear_asks s p row o prompt was items unshown h n id alone after calm served = apart_clear s k row id con (by_bool n.reselected (λ e. again e (ready_of s k n.target) refl (anew true e)) (λ e. selected e (anew false e)))
   where
     k : RunState
     k = run_state s p
 
-    pl : IsPlain s p k
-    pl = run_state_plain s p was.standing.devices
-
     con : k.story.bus_state.connection ≡ None
-    con = pl.connection ∙ alone
+    con = was.plain.connection ∙ alone
 
     next : (row_reading k.story.bus_state row).next ≡ Some n
-    next = (λ i. connection_after (pl.connection i) (pl.call i) (change_plain s row p was.standing.devices (least_is s p row prompt.1).inside i) row) ∙ after
+    next = (λ i. connection_after (was.plain.connection i) (was.plain.call i) (change_plain s row p was.standing.devices (least_is s p row prompt.1).inside i) row) ∙ after
 
     none : k.served ≡ None
     none = (items.items.apart con).1
@@ -321,10 +306,6 @@ clear_asks s p row o prompt was items unshown h n id alone after calm served = a
         let f : IsFresh k n = items_fresh s p row n o prompt was items alone after e in
         let same : f.item ≡ process id = same_Some f.item (process id) (sym f.aim_is ∙ aim) in
         unsent_clear s p id items (ap (λ (x : Item). has_item k.story.sent.sent x) (sym same) ∙ f.unsent)
-
-    go : (q : Bool) → n.reselected ≡ q → IsClear (carried_here k id)
-    go true e = again e (ready_of s k n.target) refl (anew true e)
-    go false e = selected e (anew false e)
 
 -- ---- the next row
 

@@ -2,9 +2,8 @@
 use Rattle.trace_laws.proofs
 use proofs.Names.{◌≡◌, true, false, ◌==◌, ◌∙◌, List, ◌∷◌, Some, slice_index, ProcId, changes_phase, Row, Change}
 use proofs.Names.{Connection, ScenarioValue, Obeys, reply_in, Reply, is_completion, process, Link, IsPrompt, RunState}
-use proofs.Names.{array_of, carried_here, run_state, GoesOn, least_is, CloseFacts, TellFacts}
-use proofs.{Closes.Stays.{said_then, once_taken, attends_after}, Lines.Joint.{Stood, NextStood}}
-use proofs.Places.Stays.{IsStayAsked}
+use proofs.Names.{array_of, carried_here, run_state, GoesOn, least_is, Stood, NextStood, TellFacts, CloseFacts}
+use proofs.{Closes.Stays.{said_then, once_taken, attends_after}, Places.Stays.{IsStayAsked}}
 
 -- As the initiator takes COMMAND COMPLETE the status that was carried is that of the reply.
 abbrev pub CompletesAsGiven : ScenarioValue → RunState → Row → Type 0

@@ -5,12 +5,11 @@ use proofs.Names.{refl, sym, ap, subst, arith, if◌then◌else◌, is_some, wro
 use proofs.Names.{falls, LineSet, changes_phase, is_message_in, receiver_in, is_fault, bus, drives, Kind, Drives, Fault}
 use proofs.Names.{Row, Change, Connection, struck_same, Handshakes, handshakes, no_handshakes, handshakes_after}
 use proofs.Names.{answered_if, asked_if, ScenarioValue, bytes_of_messages, Messages, run_state_plain, IsPlain}
-use proofs.Names.{AreOfDevices, RunState, bus_of, run_state, run_state_after, in_io, in_same, InConnection}
-use proofs.Names.{in_connection, same_phase_is, RowKind, still, strikes, crosses, turns, GoesOn, change_plain}
-use proofs.Names.{fault_change, BeginsConnection, by_selection, by_reselection, change_to, counted_some, no_rise}
+use proofs.Names.{AreOfDevices, RunState, bus_of, run_state, run_state_after, InConnection, in_connection}
+use proofs.Names.{same_phase_is, in_io, in_same, RowKind, still, strikes, crosses, turns, GoesOn, change_plain}
+use proofs.Names.{fault_change, BeginsConnection, by_selection, by_reselection, change_to, no_rise, counted_some}
 use proofs.Names.{LinkStage, when_selected, when_settling, when_turning, when_offering, when_shaking, when_pulsing}
-use proofs.{Names.{IsCompleting, CloseCounts, awaits}, Last.Rows.{stays_as}, Lines.First.{IsFirst}}
-use proofs.{Pointers.Rows.{struck_answers}, Talks.Steps.{Alternates}}
+use proofs.Names.{IsFirst, awaits, stays_as, struck_answers, Alternates, IsCompleting, CloseCounts}
 
 -- ---- the counts after a row with which the phase stays
 
@@ -78,11 +77,7 @@ answered_now : (b a : LineSet) → Alternates b a → awaits a ≡ false → (ri
 answered_now b a t e = go b.req b.ack a.req a.ack t.asks t.ends_asking t.answers t.ends_answer e
   where
     go : (r k r' k' : Bool) → (rises r r' ≡ true → not k ≡ true) → (falls r r' ≡ true → k ≡ true) → (rises k k' ≡ true → r ≡ true) → (falls k k' ≡ true → not r ≡ true) → (r' && not k') ≡ false → (rises k k' ≡ true) ⊎ ((rises r r' ≡ false) × ((r && not k) ≡ false))
-    go true true r' k' x y z w e = inr (up r', refl)
-      where
-        up : (q : Bool) → rises true q ≡ false
-        up true = refl
-        up false = refl
+    go true true r' k' x y z w e = inr ((elim r' as (λ q. rises true q ≡ false) [ true ↦ refl | false ↦ refl ]), refl)
     go true false true true x y z w e = inl refl
     go true false true false x y z w e = wrong e
     go true false false k' x y z w e = wrong' (y refl)

@@ -5,11 +5,11 @@ use proofs.Names.{ℕ, ◌≡◌, Bool, true, false, not, ◌&&◌, ◌==◌, �
 use proofs.Names.{if◌then◌else◌, ProcId, LineSet, is_message_in, connection, bus, Row, Change, Connection}
 use proofs.Names.{ScenarioValue, Obeys, has_ended, RowReading, row_reading, process, Link, plain, bytes_of_messages}
 use proofs.Names.{Serving, phase_of, phase_entry, phase_leaving, after_messages, leaving_by, Leaving, Messages, Phase}
-use proofs.Names.{run_state_plain, IsPrompt, IsPlain, AreOfDevices, RunState, array_of, bus_of, run_state, serving_of}
-use proofs.Names.{obeys_fits, units_are, reading_is, Ends, change_plain, least_is, IsCompleting, CloseBooks, CloseFacts}
-use proofs.{Names.{awaits, LastFacts, LastTalk, LastBy}, Common.Impossible.{some_none}}
-use proofs.Lines.{Connections.{ConnectionRow, connection_row}, Crossings.{RowFacts, Stops, stays, ends_here}}
-use proofs.{Lines.Joint.{Stood, link_phase}, Tells.{Facts.{all_given}, Rows.{is_heard}}, Undone.Facts.{in_of}}
+use proofs.Names.{IsPrompt, IsPlain, RunState, array_of, bus_of, run_state, serving_of, obeys_fits, units_are}
+use proofs.Names.{reading_is, Ends, change_plain, least_is, some_none, ConnectionRow, connection_row, RowFacts, Stops}
+use proofs.Names.{stays, ends_here, Stood, link_phase, awaits, all_given, in_of, LastFacts, LastTalk, LastBy}
+use proofs.Names.{IsCompleting, CloseBooks, CloseFacts}
+use Rattle.story_laws.proofs.Tells.Rows.{is_heard}
 
 -- What the lines say of a row with which a connection ends.
 pub record EndsHere (s : ScenarioValue) (p : List Row) (row : Row) (n : Connection) : Type 0 where
@@ -20,25 +20,19 @@ pub record EndsHere (s : ScenarioValue) (p : List Row) (row : Row) (n : Connecti
   pub known : (bus_of (run_state s p)).msg ≡ true → (bus_of (run_state s p)).cd ≡ true
 
 pub ends_row : (s : ScenarioValue) (p : List Row) (row : Row) (n : Connection) → Obeys s → IsPrompt s (row ∷ p) → Stood s p → Ends s (run_state s p) row n → (row_reading (run_state s p).story.bus_state row).change.after.rst ≡ false → EndsHere s p row n
-ends_row s p row n o prompt was g calm = record { con = con; off = off; plain_is = pl; stops = freed r.facts; known = λ m. ap (λ (l : LineSet). l.cd) pl.bus ∙ (link_phase s p n r.stage (ap (λ (l : LineSet). l.msg) (sym pl.bus) ∙ m)).0 }
+ends_row s p row n o prompt was g calm = record { con = con; off = off; plain_is = was.plain; stops = freed r.facts; known = λ m. ap (λ (l : LineSet). l.cd) was.plain.bus ∙ (link_phase s p n r.stage (ap (λ (l : LineSet). l.msg) (sym was.plain.bus) ∙ m)).0 }
   where
     k : RunState
     k = run_state s p
 
-    dv : AreOfDevices p
-    dv = was.standing.devices
-
-    pl : IsPlain s p k
-    pl = run_state_plain s p dv
-
     con : connection p ≡ Some n
-    con = sym pl.connection ∙ g.connection_is
+    con = sym was.plain.connection ∙ g.connection_is
 
     off : (bus p).rst ≡ false
-    off = sym (ap (λ (x : LineSet). x.rst) pl.bus) ∙ g.calm
+    off = sym (ap (λ (x : LineSet). x.rst) was.plain.bus) ∙ g.calm
 
     off_after : (bus (row ∷ p)).rst ≡ false
-    off_after = sym (ap (λ (x : Change). x.after.rst) (change_plain s row p dv (least_is s p row prompt.1).inside)) ∙ calm
+    off_after = sym (ap (λ (x : Change). x.after.rst) (change_plain s row p was.standing.devices (least_is s p row prompt.1).inside)) ∙ calm
 
     r : ConnectionRow s p row n
     r = connection_row s p row n o prompt was con off off_after
@@ -78,19 +72,13 @@ lost_by s p n l id was facts g link e in_none out b = go (phase_of (bus_of k)) r
     k : RunState
     k = run_state s p
 
-    pl : IsPlain s p k
-    pl = run_state_plain s p was.standing.devices
-
     talk : LastTalk k l
-    talk = (facts n (sym pl.connection ∙ g.connection_is) (sym (ap (λ (x : LineSet). x.rst) pl.bus) ∙ g.calm)).0 l id link e
+    talk = (facts n (sym was.plain.connection ∙ g.connection_is) (sym (ap (λ (x : LineSet). x.rst) was.plain.bus) ∙ g.calm)).0 l id link e
 
     go : (x : Phase) → phase_of (bus_of k) ≡ x → LastBy l k.exchange.plan k.handshakes.requests k.story.bus_state.dialogue.is_last x → l.last ≡ plain
     go Phase.MessageIn z h = absurd (in_none z)
     go Phase.MessageOut z h = out z
-    go Phase.Command z h = h
-    go Phase.Status z h = h
-    go Phase.DataIn z h = h
-    go Phase.DataOut z h = h
+    go _ z h = h
 
 unattended : (q : Bool) (l : Leaving) → (if q then phase_entry Phase.MessageOut else l).to ≡ None → q ≡ false
 unattended true l e = some_none Phase.MessageOut e

@@ -5,17 +5,16 @@ use proofs.Names.{None, refl, sym, ap, subst, same_Some, if◌then◌else◌, is
 use proofs.Names.{rises, LineSet, changes_phase, is_message_in, connection, receiver_in, is_fault, bus, Row, Change}
 use proofs.Names.{Connection, Handshakes, no_handshakes, MsgIn, ScenarioValue, Obeys, has_ended, Array, carried_id}
 use proofs.Names.{row_reading, is_complete, is_completion, carried_if, end_events, row_events_by, Item, process, Link}
-use proofs.Names.{LastMessage, plain, complete, last_in, one_message, Messages, Next, Phase, run_state_plain, IsPrompt}
-use proofs.Names.{IsPlain, AreOfDevices, RunState, array_of, or_start, bus_of, carried_here, run_state, run_state_after}
-use proofs.Names.{array_after_events, InConnection, in_connection, Knows, RowKind, still, strikes, crosses, turns}
-use proofs.Names.{GoesOn, least_is, IsCompleting, HasClosed, CloseBooks, CloseFacts, LastGiven, still_stays, to_close}
-use proofs.Names.{to_save, closed, LastBy, Named, known, said, refused, PlaceFacts, TellFacts}
-use proofs.Closes.Counts.{Counted, counted_row, counts_goes, fresh_counts, turn_handshakes, first_handshakes, asked_for}
-use proofs.Closes.{Counts.{phase_line, same_answers}, Stays.{ended_after, attends_after, once_taken, awaited}}
-use proofs.{Closes.Stays.{alternates_at}, Common.{Impossible.{none_some}, PhaseLines.{in_phase, message_line}}}
-use proofs.{Common.Tests.{some_zero, all_four}, Last.Rows.{stays_as}, Lines.Connections.{ConnectionRow, GoingRow}}
-use proofs.Lines.{Connections.{connection_row, going_row, RowKindOf, begins_now, goes_now, row_kind}, Joint.{Stood}}
-use proofs.{Lines.Joint.{NextStood}, Places.Stays.{stay_shown}}
+use proofs.Names.{LastMessage, plain, complete, last_in, one_message, Messages, Next, Phase, IsPrompt, AreOfDevices}
+use proofs.Names.{RunState, array_of, or_start, bus_of, carried_here, run_state, run_state_after, array_after_events}
+use proofs.Names.{InConnection, in_connection, Knows, RowKind, still, strikes, crosses, turns, GoesOn, least_is}
+use proofs.Names.{none_some, in_phase, message_line, some_zero, all_four, by_bool, ConnectionRow, GoingRow}
+use proofs.Names.{connection_row, going_row, RowKindOf, begins_now, goes_now, row_kind, Stood, NextStood, PlaceFacts}
+use proofs.Names.{stays_as, LastGiven, still_stays, to_close, to_save, closed, LastBy, Named, known, said, refused}
+use proofs.{Names.{TellFacts, IsCompleting, HasClosed, CloseBooks, CloseFacts}, Closes.Counts.{Counted, counted_row}}
+use proofs.Closes.Counts.{counts_goes, fresh_counts, turn_handshakes, first_handshakes, asked_for, phase_line}
+use proofs.Closes.{Counts.{same_answers}, Stays.{ended_after, attends_after, once_taken, awaited, alternates_at}}
+use proofs.Places.Stays.{stay_shown}
 
 pub close_start : (s : ScenarioValue) → CloseFacts s []
 close_start s n e calm = none_some n e
@@ -30,7 +29,7 @@ has_second m = is_some m.second
 
 pub last_one : (l : Link) (m : Messages) (next : Next) (count : ℕ) → LastGiven l m next count → m ≡ one_message MsgIn.CommandComplete → (count == 0) ≡ false → l.last ≡ complete
 unfolding has_second
-last_one l m next count (still_stays f all last) e some = no_end ((subst (λ (x : Messages). Rattle.bus_books.specs.Giving.OnMessages (λ y. last_in y ≡ plain) x) e all).0)
+last_one l m next count (still_stays f all last) e some = no_end ((subst (λ (x : Messages). Rattle.story_laws.specs.bus_books.specs.Giving.OnMessages (λ y. last_in y ≡ plain) x) e all).0)
 last_one l m next count (to_close f x one end zero last) e some = some_zero count some zero
 last_one l m next count (to_save f both at last) e some = wrong (ap has_second (sym both ∙ e))
 last_one l m next count (closed f ends full last told) e some = told.1 e
@@ -61,7 +60,13 @@ front true b e = refl
 front false b e = wrong' e
 
 pub closed_stay : (s : ScenarioValue) (p : List Row) (row : Row) (n : Connection) (c : Change) → Obeys s → IsPrompt s (row ∷ p) → Stood s p → NextStood s p row → TellFacts s p → PlaceFacts s p → PlaceFacts s (row ∷ p) → ConnectionRow s p row n → GoesOn s (run_state s p) row n c → changes_phase c ≡ false → CloseFacts s p → HasClosed s (run_state s (row ∷ p))
-closed_stay s p row n c o prompt was next facts places after r g ep h id served here m some calm = by (k.handshakes.answers == 0) refl
+closed_stay s p row n c o prompt was next facts places after r g ep h id served here m some calm =
+    by_bool (k.handshakes.answers == 0)
+    (λ z.
+    by_bool (rises c.before.ack c.after.ack)
+    (λ f. ends f)
+    (λ f. wrong (sym (same_answers (rises c.before.ack c.after.ack) k.handshakes.answers j.handshakes.answers counts.answers f ∙ z) ∙ some)))
+    (λ z. ended z (is_completion l c) refl)
   where
     k : RunState
     k = run_state s p
@@ -69,20 +74,14 @@ closed_stay s p row n c o prompt was next facts places after r g ep h id served 
     j : RunState
     j = run_state_after s k row
 
-    dv : AreOfDevices p
-    dv = was.standing.devices
-
     lt : row.dev < 8
     lt = (least_is s p row prompt.1).inside
 
-    pl : IsPlain s p k
-    pl = run_state_plain s p dv
-
     con : connection p ≡ Some n
-    con = sym pl.connection ∙ g.row_is.connection_is
+    con = sym was.plain.connection ∙ g.row_is.connection_is
 
     off : (bus p).rst ≡ false
-    off = sym (ap (λ (x : LineSet). x.rst) pl.bus) ∙ g.calm
+    off = sym (ap (λ (x : LineSet). x.rst) was.plain.bus) ∙ g.calm
 
     now : Bool
     now = is_some (receiver_in n c)
@@ -115,7 +114,7 @@ closed_stay s p row n c o prompt was next facts places after r g ep h id served 
     shown = stay_shown s k row n c l now g.row_is ep refl knows.link_is
 
     counts : Counted c k.handshakes j.handshakes
-    counts = counted_row s p row n c lt dv g ep
+    counts = counted_row s p row n c lt was.standing.devices g ep
 
     -- it has ended before
     ended : (k.handshakes.answers == 0) ≡ false → (q : Bool) → is_completion l c ≡ q → has_ended (array_of s j) id ≡ true
@@ -135,10 +134,10 @@ closed_stay s p row n c o prompt was next facts places after r g ep h id served 
         begun = (g.phase (message_line (bus_of k) there)).1
 
         asks : (bus p).req ≡ true
-        asks = sym (ap (λ (x : LineSet). x.req) pl.bus) ∙ ap (λ (x : LineSet). x.req) g.row_is.bus_is ∙ front c.before.req c.before.ack (awaited c (alternates_at s p row n c lt was next g before) rose)
+        asks = sym (ap (λ (x : LineSet). x.req) was.plain.bus) ∙ ap (λ (x : LineSet). x.req) g.row_is.bus_is ∙ front c.before.req c.before.ack (awaited c (alternates_at s p row n c lt was next g before) rose)
 
         asked : (k.handshakes.requests == 0) ≡ false
-        asked = asked_for s p n k.handshakes r.stage (sym (ap is_message_in pl.bus) ∙ there) pl.handshakes asks
+        asked = asked_for s p n k.handshakes r.stage (sym (ap is_message_in was.plain.bus) ∙ there) was.plain.handshakes asks
 
         last : l.last ≡ complete
         last =
@@ -157,14 +156,6 @@ closed_stay s p row n c o prompt was next facts places after r g ep h id served 
             shown ∙ ap (λ (q : Bool). if q then end_events (carried_if k.story l.item) else []) done
             ∙ ap (λ (x : Option Item). end_events (carried_if k.story x)) (item_known s k n l knows (facts.named n con off) knows.link_is last ∙ e)
             ∙ (λ x. Event.End (carried_id k.story.carried id x) status ∷ [])
-
-    by : (q : Bool) → (k.handshakes.answers == 0) ≡ q → has_ended (array_of s j) id ≡ true
-    by false z = ended z (is_completion l c) refl
-    by true z = up (rises c.before.ack c.after.ack) refl
-      where
-        up : (q : Bool) → rises c.before.ack c.after.ack ≡ q → has_ended (array_of s j) id ≡ true
-        up true f = ends f
-        up false f = wrong (sym (same_answers (rises c.before.ack c.after.ack) k.handshakes.answers j.handshakes.answers counts.answers f ∙ z) ∙ some)
 
 -- ---- any row
 

@@ -1,7 +1,7 @@
 -- The status that the target offers is that of the reply that was given; and what a process carries of it stays that (6.4, 6.6.19).
 use Rattle.trace_laws.proofs
-use proofs.Names.{ℕ, zero, suc, arith, ◌≡◌, Bool, true, false, ◌==◌, ◌∙◌, List, [], ◌∷◌, ◌++◌, Option, Some, refl, ap}
-use proofs.Names.{true≢false, length, nat_tests, if◌then◌else◌, nat_lt, slice_index, slice_set, ScenarioValue, reply_in}
+use proofs.Names.{ℕ, zero, suc, ◌≡◌, Bool, true, false, ◌==◌, ◌∙◌, List, [], ◌∷◌, ◌++◌, Option, Some, refl, ap}
+use proofs.Names.{true≢false, length, if◌then◌else◌, nat_lt, slice_index, slice_set, eq_self, ScenarioValue, reply_in}
 use proofs.Names.{Reply, Process, Area, area_with, status_byte, Messages, Phase, RunState, array_of, process_served}
 use proofs.Names.{byte_of_phase, reply_now, status_by, task_if, AreAll}
 
@@ -29,7 +29,4 @@ area_all x a h = go (nat_lt a.active (length a.bytes))
 -- The first of some.
 pub first_all : (x : ℕ) (bytes : List ℕ) → AreAll x bytes → (length bytes == 0) ≡ false → (x == slice_index bytes 0) ≡ true
 first_all x [] h some = absurd (true≢false some)
-first_all x (b ∷ bytes) h some = ap (λ (y : ℕ). x == y) h.0 ∙ self x
-  where
-    self : (n : ℕ) → (n == n) ≡ true
-    self n = grind (arith, nat_tests)
+first_all x (b ∷ bytes) h some = ap (λ (y : ℕ). x == y) h.0 ∙ eq_self x

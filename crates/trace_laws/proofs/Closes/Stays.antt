@@ -4,13 +4,11 @@ use proofs.Names.{ℕ, ◌≡◌, Bool, true, false, ◌||◌, ◌==◌, ◌∙�
 use proofs.Names.{◌∷◌, subst, same_Some, if◌then◌else◌, wrong, wrong', Event, ProcId, change_of, rises, LineSet}
 use proofs.Names.{is_message_in, connection, bus, Row, Change, Connection, MsgIn, ScenarioValue, Obeys, Reply, same_id}
 use proofs.Names.{has_ended, running_process, RunningProcess, Array, settled_array, is_complete, is_completion, Link}
-use proofs.Names.{LastMessage, plain, complete, disconnect, abortive, one_message, phase_of, Messages, Next, Phase}
-use proofs.Names.{run_state_plain, IsPrompt, IsPlain, AreOfDevices, RunState, bus_of, run_state, self_id, is_in_phase}
-use proofs.Names.{GoesOn, change_plain, least_is, IsCompleting, CloseFacts, awaits, LastFacts, LastBy, LastGiven}
-use proofs.Names.{still_stays, to_close, to_save, closed, IsServed, of_process, of_abort, ServedFacts}
-use proofs.Common.{Impossible.{none_some}, PhaseLines.{in_phase}, Tests.{risen, not_unless}}
-use proofs.{Events.Replies.{running_id}, Lines.{Connections.{ConnectionRow, connection_row}, Joint.{Stood, NextStood}}}
-use proofs.Talks.{InMoves.{in_move, alternating}, Steps.{Alternates}, Turns.{frees}}
+use proofs.Names.{LastMessage, plain, complete, one_message, phase_of, Messages, Next, Phase, IsPrompt, RunState}
+use proofs.Names.{bus_of, run_state, self_id, is_in_phase, GoesOn, change_plain, least_is, none_some, in_phase, risen}
+use proofs.Names.{not_unless, by_bool, running_id, ConnectionRow, connection_row, Stood, NextStood, awaits, IsServed}
+use proofs.Names.{of_process, of_abort, ServedFacts, in_move, alternating, Alternates, frees, LastFacts, LastBy}
+use proofs.Names.{LastGiven, still_stays, to_close, to_save, closed, IsCompleting, CloseFacts}
 use Rattle.bus_due.specs.disk_array.specs.Steps
 
 -- Where END is a step, the process has ended after it.
@@ -23,19 +21,18 @@ ended_after s a b id status e = by (running_process a id) refl
       where
         of_reply : (o : Option Reply) → r.reply ≡ o → has_ended b id ≡ true
         of_reply None w = none_some b (sym ((λ i. Steps.settled_array_if (Steps.end_step a status (z i))) ∙ ap (λ (x : Option Reply). Steps.settled_array_if (Steps.end_step_with a r.process status x)) w) ∙ e)
-        of_reply (Some reply) w = go (reply.status == status) refl
+        of_reply (Some reply) w =
+            by_bool (reply.status == status)
+            (λ f.
+            let is : settled_array next ≡ b = same_Some (settled_array next) b (sym (ap (λ (x : Bool). Steps.settled_array_if (if x then Some next else None)) f) ∙ shown) in
+            ap (λ (x : Array). has_ended x id) (sym is) ∙ (λ i. (ap (λ (y : ProcId). same_id y id) (running_id a id r z) ∙ self_id id) i || has_ended (Steps.after_status a r.process reply) id))
+            (λ f. none_some b (sym (ap (λ (x : Bool). Steps.settled_array_if (if x then Some next else None)) f) ∙ shown))
           where
             next : Array
             next = Steps.array_without (Steps.after_status a r.process reply) r.process.id
 
             shown : Steps.settled_array_if (if reply.status == status then Some next else None) ≡ Some b
             shown = sym ((λ i. Steps.settled_array_if (Steps.end_step a status (z i))) ∙ ap (λ (x : Option Reply). Steps.settled_array_if (Steps.end_step_with a r.process status x)) w) ∙ e
-
-            go : (q : Bool) → (reply.status == status) ≡ q → has_ended b id ≡ true
-            go true f =
-                let is : settled_array next ≡ b = same_Some (settled_array next) b (sym (ap (λ (x : Bool). Steps.settled_array_if (if x then Some next else None)) f) ∙ shown) in
-                ap (λ (x : Array). has_ended x id) (sym is) ∙ (λ i. (ap (λ (y : ProcId). same_id y id) (running_id a id r z) ∙ self_id id) i || has_ended (Steps.after_status a r.process reply) id)
-            go false f = none_some b (sym (ap (λ (x : Bool). Steps.settled_array_if (if x then Some next else None)) f) ∙ shown)
 
 -- ---- As the initiator takes COMMAND COMPLETE, it is the only message that is said, once, and the bus is freed after it; and ATN stays false
 -- after it (6.6.5).
@@ -44,9 +41,7 @@ ended_after s a b id status e = by (running_process a id) refl
 
 pub complete_is : (x : LastMessage) → is_complete x ≡ true → x ≡ complete
 complete_is complete e = refl
-complete_is plain e = wrong' e
-complete_is disconnect e = wrong' e
-complete_is abortive e = wrong' e
+complete_is _ e = wrong' e
 
 not_plain : {A : Type 0} (x : LastMessage) → x ≡ plain → x ≡ complete → A
 not_plain x e f = wrong' (ap is_complete (sym e ∙ f))
@@ -82,14 +77,11 @@ said_then s p row n c l was served facts g link done = by (served n con off)
     k : RunState
     k = run_state s p
 
-    pl : IsPlain s p k
-    pl = run_state_plain s p was.standing.devices
-
     con : connection p ≡ Some n
-    con = sym pl.connection ∙ g.row_is.connection_is
+    con = sym was.plain.connection ∙ g.row_is.connection_is
 
     off : (bus p).rst ≡ false
-    off = sym (ap (λ (x : LineSet). x.rst) pl.bus) ∙ g.calm
+    off = sym (ap (λ (x : LineSet). x.rst) was.plain.bus) ∙ g.calm
 
     t : Taking k c l
     t = taking k c l done
@@ -125,7 +117,7 @@ awaited c a rose = both c.before.req c.before.ack (a.answers rose) (risen c.befo
 pub alternates_at : (s : ScenarioValue) (p : List Row) (row : Row) (n : Connection) (c : Change) → row.dev < 8 → Stood s p → NextStood s p row → GoesOn s (run_state s p) row n c → is_message_in c.before ≡ true → Alternates c.before c.after
 alternates_at s p row n c lt was next g here =
     let k = run_state s p in
-    let pl = run_state_plain s p was.standing.devices in
+    let pl = was.plain in
     let is : c ≡ change_of p row = sym g.row_is.change_is ∙ change_plain s row p was.standing.devices lt in
     subst (λ (x : Change). Alternates x.before x.after) (sym is)
     (alternating p row n next.obeys (sym pl.connection ∙ g.row_is.connection_is) (sym (ap (λ (x : LineSet). x.rst) pl.bus) ∙ g.calm) (sym (ap (λ (x : Change). x.after.rst) is) ∙ g.row_is.calm) (sym (ap (λ (x : Change). is_message_in x.before) is) ∙ here))
@@ -133,26 +125,20 @@ alternates_at s p row n c lt was next g here =
 pub attends_after : (s : ScenarioValue) (p : List Row) (row : Row) (n : Connection) (c : Change) → Obeys s → IsPrompt s (row ∷ p) → Stood s p → CloseFacts s p → GoesOn s (run_state s p) row n c → is_message_in c.before ≡ true → IsCompleting (run_state s p) → ((run_state s p).handshakes.answers == 0) ≡ false → c.after.atn ≡ c.before.atn
 attends_after s p row n c o prompt was h g here m some =
     ap (λ (x : Change). x.after.atn) is
-    ∙ (in_move s p row n (sym (ap (λ (x : Change). is_message_in x.before) is) ∙ here) r.link).attends (sym (ap awaits pl.bus) ∙ not_unless (awaits (bus_of k)) (k.handshakes.answers == 0) (λ z. (h n con off).counts.asked (ap is_message_in g.row_is.bus_is ∙ here) m z) some)
+    ∙ (in_move s p row n (sym (ap (λ (x : Change). is_message_in x.before) is) ∙ here) r.link).attends (sym (ap awaits was.plain.bus) ∙ not_unless (awaits (bus_of k)) (k.handshakes.answers == 0) (λ z. (h n con off).counts.asked (ap is_message_in g.row_is.bus_is ∙ here) m z) some)
     ∙ sym (ap (λ (x : Change). x.before.atn) is)
   where
     k : RunState
     k = run_state s p
 
-    dv : AreOfDevices p
-    dv = was.standing.devices
-
-    pl : IsPlain s p k
-    pl = run_state_plain s p dv
-
     is : c ≡ change_of p row
-    is = sym g.row_is.change_is ∙ change_plain s row p dv (least_is s p row prompt.1).inside
+    is = sym g.row_is.change_is ∙ change_plain s row p was.standing.devices (least_is s p row prompt.1).inside
 
     con : connection p ≡ Some n
-    con = sym pl.connection ∙ g.row_is.connection_is
+    con = sym was.plain.connection ∙ g.row_is.connection_is
 
     off : (bus p).rst ≡ false
-    off = sym (ap (λ (x : LineSet). x.rst) pl.bus) ∙ g.calm
+    off = sym (ap (λ (x : LineSet). x.rst) was.plain.bus) ∙ g.calm
 
     r : ConnectionRow s p row n
     r = connection_row s p row n o prompt was con off (sym (ap (λ (x : Change). x.after.rst) is) ∙ g.row_is.calm)
@@ -160,7 +146,7 @@ attends_after s p row n c o prompt was h g here m some =
 pub once_taken : (s : ScenarioValue) (p : List Row) (row : Row) (n : Connection) (c : Change) (l : Link) → row.dev < 8 → Stood s p → NextStood s p row → ServedFacts s p → LastFacts s p → CloseFacts s p → GoesOn s (run_state s p) row n c → (run_state s p).story.link ≡ Some l → is_completion l c ≡ true → ((run_state s p).handshakes.answers == 0) ≡ true
 once_taken s p row n c l lt was next served facts h g link done =
     let k = run_state s p in
-    let pl = run_state_plain s p was.standing.devices in
+    let pl = was.plain in
     let t = taking k c l done in
     (h n (sym pl.connection ∙ g.row_is.connection_is) (sym (ap (λ (x : LineSet). x.rst) pl.bus) ∙ g.calm)).counts.asked (ap is_message_in g.row_is.bus_is ∙ t.here) (said_then s p row n c l was served facts g link done).0
     (ap awaits g.row_is.bus_is ∙ awaited c (alternates_at s p row n c lt was next g t.here) t.rose)

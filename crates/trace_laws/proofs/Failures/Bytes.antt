@@ -6,12 +6,12 @@ use proofs.Names.{receiver_in, Kind, Drives, Fault, Row, Change, Connection, Msg
 use proofs.Names.{carried_id, carried_with, message_id, ends_carried, check_carried, RowReading, row_reading}
 use proofs.Names.{CarriedBytes, area_with, carried_of, with_carried, with_restored_pointers, carried_after_message}
 use proofs.Names.{carried_after_byte, is_status_phase, carried_if, row_events_by, Item, process, abort, Link, last_out}
-use proofs.Names.{last_in, link_after_name, Story, by_abort, by_reset, is_aborted, is_sense_stopped, marked_refused}
-use proofs.Names.{marked_shown, story_after_event, story_after_events, story_with_restored, story_with_carried}
-use proofs.Names.{is_parity_error, story_after_out, carried_after_message_if, story_after_message, story_after_in}
-use proofs.Names.{carried_after_byte_if, story_after_byte, story_after_fault, story_in_connection, story_on_bus}
-use proofs.Names.{story_by_change, RunState, carried_here, run_state_after, reading_is, id_is, put_own, IsRowIn}
-use proofs.Names.{reading_in, IsClear, UndoesClear}
+use proofs.Names.{last_in, link_after_name, Story, by_abort, is_aborted, is_sense_stopped, marked_refused, marked_shown}
+use proofs.Names.{story_after_event, story_after_events, story_with_restored, story_with_carried, is_parity_error}
+use proofs.Names.{story_after_out, carried_after_message_if, story_after_message, story_after_in, carried_after_byte_if}
+use proofs.Names.{story_after_byte, story_after_fault, story_in_connection, story_on_bus, story_by_change, RunState}
+use proofs.Names.{carried_here, run_state_after, reading_is, id_is, put_own, IsRowIn, reading_in, IsClear, UndoesClear}
+use Rattle.bus_due.specs.bus_story.specs.Story.{by_reset}
 
 pub record SameFail (c d : CarriedBytes) : Type 0 where
   pub failure : d.failure ≡ c.failure
@@ -132,12 +132,7 @@ out_clear b l m id undo h = go (is_parity_error m) l.undo undo
 clear_message : (c : CarriedBytes) (m : MsgIn) → IsClear c → IsClear (carried_after_message c m)
 clear_message c MsgIn.SavePointer h = record { failure = h.failure; struck = h.struck }
 clear_message c MsgIn.RestorePointers h = record { failure = refl; struck = refl }
-clear_message c MsgIn.CommandComplete h = h
-clear_message c MsgIn.Disconnect h = h
-clear_message c MsgIn.Reject h = h
-clear_message c (MsgIn.Identify lun) h = h
-clear_message c (MsgIn.SimpleTag n) h = h
-clear_message c (MsgIn.Sdtr a) h = h
+clear_message c _ h = h
 
 put_clear : (all : List CarriedBytes) (c : CarriedBytes) (p id : ProcId) → c.id ≡ p → (IsClear (carried_of all p) → IsClear c) → IsClear (carried_of all id) → IsClear (carried_of (with_carried all c) id)
 put_clear all c p id same f h = subst IsClear (sym (carried_with all c id)) (go (same_id c.id id) refl)

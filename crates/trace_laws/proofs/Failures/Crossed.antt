@@ -2,11 +2,10 @@
 use Rattle.trace_laws.proofs
 use proofs.Names.{ℕ, ◌≡◌, ◌<◌, true, false, ◌∙◌, List, [], ◌∷◌, Option, Some, None, refl, sym, ap, same_Some, is_some}
 use proofs.Names.{wrong', change_of, connection, is_fault, receiver_in, receiver_of, bus, Row, Change, Connection}
-use proofs.Names.{ScenarioValue, Obeys, RowReading, Exchange, phase_of, run_state_plain, IsPrompt, IsPlain}
-use proofs.Names.{AreOfDevices, crossed_if, RunState, run_state, in_connection, reading_is, RowKind, still, strikes}
-use proofs.{Names.{crosses, turns, least_is}, Common.Impossible.{none_some}, Failures.Faults.{CrossedHere}}
-use proofs.Lines.Connections.{GoingRow, connection_row, going_row, RowKindOf, begins_now, goes_now, row_kind}
-use proofs.{Lines.Joint.{Stood, NextStood}, Undone.Answers.{same_phase_of}}
+use proofs.Names.{ScenarioValue, Obeys, RowReading, Exchange, phase_of, run_state_plain, IsPrompt, IsPlain, crossed_if}
+use proofs.Names.{RunState, run_state, in_connection, reading_is, RowKind, still, strikes, crosses, turns, least_is}
+use proofs.Names.{none_some, GoingRow, connection_row, going_row, RowKindOf, begins_now, goes_now, row_kind, Stood}
+use proofs.{Names.{NextStood, same_phase_of}, Failures.Faults.{CrossedHere}}
 
 pub record CrossedBooks (k : RunState) : Type 0 where
   pub here : CrossedHere k
@@ -24,9 +23,6 @@ none_crossed k e = record { here = λ g z. none_some g (sym e ∙ z); begun = λ
 pub crossed_next : (s : ScenarioValue) (p : List Row) (row : Row) → Obeys s → IsPrompt s (row ∷ p) → Stood s p → NextStood s p row → CrossedFacts s (row ∷ p)
 crossed_next s p row o prompt was next n after calm = go (row_kind s p row n o prompt was after calm)
   where
-    dv : AreOfDevices p
-    dv = was.standing.devices
-
     lt : row.dev < 8
     lt = (least_is s p row prompt.1).inside
 
@@ -37,7 +33,7 @@ crossed_next s p row o prompt was next n after calm = go (row_kind s p row n o p
     j = run_state s (row ∷ p)
 
     ql : IsPlain s (row ∷ p) j
-    ql = run_state_plain s (row ∷ p) (lt, dv)
+    ql = run_state_plain s (row ∷ p) (lt, was.standing.devices)
 
     silent : (o : Option Connection) → connection p ≡ o → receiver_of o (change_of p row) ≡ None → CrossedBooks j
     silent o e z = none_crossed j (ql.crossed ∙ (λ i. crossed_if (is_some (receiver_of (e i) (change_of p row))) (change_of p row)) ∙ ap (λ (x : Option ℕ). crossed_if (is_some x) (change_of p row)) z)
@@ -60,5 +56,5 @@ crossed_next s p row o prompt was next n after calm = go (row_kind s p row n o p
     go (begins_now alone f) = silent None alone refl
     go (goes_now con off) =
         let r = connection_row s p row n o prompt was con off calm in
-        let g = going_row s p row n dv lt con after calm next.row_is r.facts in
+        let g = going_row s p row n was.standing.devices lt con after calm next.row_is r.facts in
         on con g g.goes.row_is.kind

@@ -7,11 +7,11 @@ use proofs.Names.{fresh_bytes, ScenarioValue, whole_in, whole_out, message_in, m
 use proofs.Names.{carried_if, Item, process, Link, story_after_out, story_after_in, story_after_byte}
 use proofs.Names.{story_in_connection, Exchange, Speech, plan_after_message, speech_after_byte, speech_after_request}
 use proofs.Names.{phase_of, Phase, Plan, RunState, bus_of, carried_here, run_state_after, is_message, in_connection}
-use proofs.Names.{reading_in, is_marked, IsClear, UndoesClear, FailsBy, FailTalk, is_short}
-use proofs.{Common.Impossible.{none_some}, Failures.Bytes.{SameFail, clear_as, row_carries, byte_fails, in_clear}}
-use proofs.Failures.{Bytes.{in_restores}, Rows.{fails_as, HearsOf, gives_on}, Steps.{FailRow, count_as}}
-use proofs.{Items.Row.{LinkAfter, says, hears, stays, heard_link, link_crossed}, Undone.Answers.{same_phase_of}}
-use proofs.Undone.Rows.{answers_stay}
+use proofs.Names.{reading_in, none_some, is_marked, is_short, LinkAfter, says, hears, heard_link, link_crossed}
+use proofs.{Names.{same_phase_of, answers_stay, IsClear, UndoesClear, FailsBy, FailTalk}, Failures.Bytes.{SameFail}}
+use proofs.Failures.{Bytes.{clear_as, row_carries, byte_fails, in_clear, in_restores}, Rows.{fails_as, HearsOf}}
+use proofs.Failures.{Rows.{gives_on}, Steps.{FailRow, count_as}}
+use Rattle.story_laws.proofs.Items.Row.{stays}
 
 by_exchange : (l : Link) (c : CarriedBytes) (p q : Plan) (words others : List ℕ) (count : ℕ) (phase : Phase) → q ≡ p → others ≡ words → FailsBy l c p words count phase → FailsBy l c q others count phase
 by_exchange l c p q words others count phase ep ew h = subst (λ (x : Plan). FailsBy l c x others count phase) (sym ep) (subst (λ (x : List ℕ). FailsBy l c p x count phase) (sym ew) h)

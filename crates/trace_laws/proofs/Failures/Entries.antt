@@ -5,11 +5,11 @@ use proofs.Names.{refl, sym, ap, subst, if◌then◌else◌, ◌-◌, wrong', or
 use proofs.Names.{PARITY_ERROR, INITIATOR_DETECTED_ERROR, ScenarioValue, row_reading, CarriedBytes, carried_of}
 use proofs.Names.{row_events_by, Link, Story, story_after_events, story_by_change, is_status_next, bytes_of_messages}
 use proofs.Names.{from_byte, Serving, phase_of, phase_leaving, cause_after, Cause, Messages, Next, Phase, Plan}
-use proofs.Names.{RunState, carried_here, run_state_after, is_marked, IsClear, ClearIn, GivesFailure, RefusesFailure}
-use proofs.{Names.{SaysFailure, FailsBy, code_if, UndoesAnswers}, Events.Replies.{replies_to}}
+use proofs.Names.{RunState, carried_here, run_state_after, replies_to, answered_on, change_keeps, is_marked, code_if}
+use proofs.Names.{UndoesAnswers, is_attended, IsClear, ClearIn, GivesFailure, RefusesFailure, SaysFailure, FailsBy}
 use proofs.Failures.{Bytes.{SameFail}, Rows.{clear_in_as, clear_out_as}, Turns.{is_sending, refuses_left}}
-use proofs.{Failures.Words.{refuses_kept}, Pointers.Leavings.{is_attended}, Shown.Facts.{answered_on, change_keeps}}
-use proofs.Tells.Turns.{refused}
+use proofs.Failures.Words.{refuses_kept}
+use Rattle.story_laws.proofs.Tells.Turns.{refused}
 
 -- ---- what is carried after the row
 
@@ -51,12 +51,10 @@ gives_entered l c d p q count other next w em en ec h = subst (GivesFailure l d 
 -- ---- COMMAND, data and STATUS
 
 pub sending_entered : (l : Link) (d : CarriedBytes) (q : Plan) (words : List ℕ) (count : ℕ) (phase : Phase) → is_sending (Some phase) ≡ true → IsClear d → q.struck ≡ false → FailsBy l d q words count phase
-sending_entered l d q words count Phase.MessageOut e h s = wrong' e
-sending_entered l d q words count Phase.MessageIn e h s = wrong' e
 sending_entered l d q words count Phase.Command e h s = (h.struck ∙ sym s, h.failure ∙ ap (λ (x : Bool). code_if x PARITY_ERROR) (sym s))
 sending_entered l d q words count Phase.DataOut e h s = (h.struck, h.failure ∙ ap (λ (x : Bool). code_if x PARITY_ERROR) (sym s))
 sending_entered l d q words count Phase.DataIn e h s = h.struck
-sending_entered l d q words count Phase.Status e h s = wrong' e
+sending_entered l d q words count _ e h s = wrong' e
 
 -- A process that the initiator does not know yet is not left for STATUS.
 pub not_to_status : (v : Serving) (attention : Bool) (phase : Phase) → ((phase ≡ Phase.MessageOut) × (v.plan.cause ≡ Cause.InMessage)) ⊎ ((phase ≡ Phase.MessageIn) × (attention ≡ true)) → is_status_next (phase_leaving v attention phase).to ≡ false

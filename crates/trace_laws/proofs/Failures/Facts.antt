@@ -5,20 +5,17 @@ use proofs.Names.{None, refl, sym, ap, subst, same_Some, if◌then◌else◌, is
 use proofs.Names.{changes_phase, is_command, is_message_in, is_message_out, connection, is_fault, receiver_in, bus, Row}
 use proofs.Names.{Change, Connection, struck_same, Handshakes, handshakes_after, INITIATOR_DETECTED_ERROR, got_in}
 use proofs.Names.{MsgIn, Dialogue, ScenarioValue, Obeys, Tag, Process, RowReading, message_in, whole_in, Item, process}
-use proofs.Names.{Link, bytes_of_messages, phase_of, parity_error, tag_named, Cause, Messages, Next, Phase}
-use proofs.Names.{run_state_plain, IsPrompt, IsPlain, AreOfDevices, RunState, bus_of, carried_here, run_state}
-use proofs.Names.{run_state_after, is_message, requests_stay, in_io, few_messages, heard_next, in_connection}
-use proofs.Names.{reading_is, AreGiven, Gives, OnMessage, OnMessages, LeavesWhole, Knows, RowKind, still, strikes}
-use proofs.Names.{crosses, turns, Speaks, GoesOn, least_is, is_marked, IsClear, UndoesClear, clear, GivesFailure}
-use proofs.Names.{FailTalk, FailTalks, FailFacts, FailsBy, SentAsLeft, Names, all, tag_alone, known, said, refused}
-use proofs.{Names.{Named, TellFacts, code_if, UndoesAnswers}, Commands.Counts.{refusal_offers_none}}
-use proofs.Common.{Impossible.{none_some}, PhaseLines.{out_phase, in_phase, out_lines}}
-use proofs.Failures.{Crossed.{CrossedBooks, CrossedFacts}, Crossings.{else_fail, in_fail}, Faults.{fault_crossed}}
-use proofs.Failures.{Steps.{FailRow, still_fail, struck_fail}, Turned.{LeftHere, turn_fail}, Words.{out_fail}}
-use proofs.{Last.Bytes.{first_is}, Lines.Connections.{ConnectionRow, GoingRow, connection_row, going_row}}
-use proofs.Lines.{Connections.{stage_of_connection}, Joint.{Stood, NextStood, link_phase}}
-use proofs.{Offers.{Facts.{refuses_later}, Rows.{request_rises}}, Tells.{Facts.{front_length}, Rows.{unbegun_lines}}}
-use proofs.Undone.Facts.{in_of, undo_asks}
+use proofs.Names.{Link, bytes_of_messages, phase_of, parity_error, tag_named, Cause, Messages, Next, Phase, IsPrompt}
+use proofs.Names.{IsPlain, RunState, bus_of, carried_here, run_state, run_state_after, is_message, in_connection}
+use proofs.Names.{reading_is, heard_next, requests_stay, in_io, few_messages, AreGiven, Gives, OnMessage, OnMessages}
+use proofs.Names.{LeavesWhole, Knows, RowKind, still, strikes, crosses, turns, Speaks, GoesOn, least_is, none_some}
+use proofs.Names.{out_phase, in_phase, out_lines, by_bool, ConnectionRow, GoingRow, connection_row, going_row}
+use proofs.Names.{stage_of_connection, Stood, NextStood, link_phase, is_marked, code_if, UndoesAnswers}
+use proofs.Names.{refusal_offers_none, first_is, refuses_later, request_rises, front_length, unbegun_lines, in_of}
+use proofs.Names.{undo_asks, Names, all, tag_alone, known, said, refused, Named, TellFacts, IsClear, UndoesClear, clear}
+use proofs.{Names.{GivesFailure, FailTalk, FailTalks, FailFacts, FailsBy, SentAsLeft}, Failures.Crossed.{CrossedBooks}}
+use proofs.Failures.{Crossed.{CrossedFacts}, Crossings.{else_fail, in_fail}, Faults.{fault_crossed}, Steps.{FailRow}}
+use proofs.Failures.{Steps.{still_fail, struck_fail}, Turned.{LeftHere, turn_fail}, Words.{out_fail}}
 
 -- ---- a name restores nothing
 
@@ -31,9 +28,7 @@ RestoresNone m = is_restore m ≡ false
 
 tag_restores : (t : Tag) → OnMessage RestoresNone (tag_named t)
 tag_restores Tag.Untagged = tt
-tag_restores (Tag.Simple n) = refl
-tag_restores (Tag.Ordered n) = refl
-tag_restores (Tag.Head n) = refl
+tag_restores _ = refl
 
 names_restore : (p : Process) (l : Link) (m : Messages) (count : ℕ) → Names p l m count → OnMessages RestoresNone m
 names_restore p l m count (all e f) = subst (λ (x : Messages). OnMessages RestoresNone x) (sym e) (refl, tag_restores p.tag)
@@ -107,16 +102,12 @@ goes_fail s p row n w h m id em ej = go of.row_is.kind
     naming re = w.facts.named n w.con w.off re
 
     item_is : (l.item ≡ Some (process id)) ⊎ ((l.item ≡ None) × (is_message (phase_of (bus_of k)) ≡ true))
-    item_is = by knows.item_is
+    item_is = elim knows.item_is [ inl e ↦ inl (e ∙ served) | inr e ↦ inr (e.1, at e.1 (naming e.0)) ]
       where
         at : l.item ≡ None → Named s k n → is_message (phase_of (bus_of k)) ≡ true
         at f (known x e z g) = unknown x e f z
         at f (said q x y on names whole) = ap is_message (in_phase (bus_of k) on)
         at f (refused q x y on cause names) = ap is_message (out_phase (bus_of k) on)
-
-        by : (l.item ≡ k.served) ⊎ ((n.reselected ≡ true) × (l.item ≡ None)) → (l.item ≡ Some (process id)) ⊎ ((l.item ≡ None) × (is_message (phase_of (bus_of k)) ≡ true))
-        by (inl e) = inl (e ∙ served)
-        by (inr e) = inr (e.1, at e.1 (naming e.0))
 
     row_of : FailRow s k row n c l id
     row_of = record { row_is = of.row_is; link_is = knows.link_is; item_is = item_is; undoes = w.undoes }
@@ -146,21 +137,25 @@ goes_fail s p row n w h m id em ej = go of.row_is.kind
         no_restore plain e = wrong (subst (OnMessage RestoresNone) (sym reads ∙ e) (heard_next RestoresNone k.exchange.plan.messages d.half k.handshakes.requests (c.after.data_bits % 256) gives.fit plain (given b here) byte.0 byte.1))
 
         named : message_in d c true ≡ Some MsgIn.RestorePointers → l.item ≡ Some (process id)
-        named e = by knows.item_is
+        named e = elim knows.item_is [ inl f ↦ f ∙ served | inr f ↦ at f.1 (naming f.0) ]
           where
             at : l.item ≡ None → Named s k n → l.item ≡ Some (process id)
             at f (known x g z q) = unknown x g f z
             at f (said q x y z names whole) = no_restore (names_restore q x k.exchange.plan.messages k.handshakes.requests names) e
             at f (refused q x y z cause names) = no_restore (names_restore q x k.exchange.plan.messages 0 names) e
 
-            by : (l.item ≡ k.served) ⊎ ((n.reselected ≡ true) × (l.item ≡ None)) → l.item ≡ Some (process id)
-            by (inl f) = f ∙ served
-            by (inr f) = at f.1 (naming f.0)
-
     -- ---- a phase is left
 
     left : changes_phase c ≡ true → k.exchange.begun ≡ true → LeftHere k l id
-    left ep b = record { named = by knows.item_is; code = w.code ep b id served; answered = answered; few = λ e. front_length (bytes_of_messages k.exchange.plan.messages) d.half k.handshakes.requests (given b e) }
+    left ep b = record {
+      named = elim knows.item_is [
+        | inl e ↦ inl (e ∙ served)
+        | inr e ↦ inr (at e.1 (naming e.0))
+      ];
+      code = w.code ep b id served;
+      answered = answered;
+      few = λ e. front_length (bytes_of_messages k.exchange.plan.messages) d.half k.handshakes.requests (given b e);
+    }
       where
         leaves : LeavesWhole s k n
         leaves = of.leaves (ap changes_phase of.row_is.change_is ∙ ep)
@@ -171,18 +166,13 @@ goes_fail s p row n w h m id em ej = go of.row_is.kind
         at : l.item ≡ None → Named s k n → Left
         at f (known x g z q) = unknown x g f z
         at f (refused q x y on cause names) = inl (out_phase (bus_of k) on, cause)
-        at f (said q x y on names whole) = attends (bus_of k).atn refl
+        at f (said q x y on names whole) =
+            by_bool (bus_of k).atn
+            (λ z. inr (here, z))
+            (λ z. unknown x y.link_is f (whole (leaves.given here z)))
           where
             here : phase_of (bus_of k) ≡ Phase.MessageIn
             here = in_phase (bus_of k) on
-
-            attends : (r : Bool) → (bus_of k).atn ≡ r → Left
-            attends true z = inr (here, z)
-            attends false z = unknown x y.link_is f (whole (leaves.given here z))
-
-        by : (l.item ≡ k.served) ⊎ ((n.reselected ≡ true) × (l.item ≡ None)) → (l.item ≡ Some (process id)) ⊎ Left
-        by (inl e) = inl (e ∙ served)
-        by (inr e) = inr (at e.1 (naming e.0))
 
         answered : phase_of (bus_of k) ≡ Phase.MessageOut → k.exchange.plan.cause ≡ Cause.InMessage → is_some k.exchange.plan.said.offer ≡ true → (k.exchange.plan.next ≡ Next.Command) × (k.exchange.speech.words ≡ parity_error → ⊥)
         answered e cause offer = (next (refuses_later s p n w.facts.offers w.con w.off b out cause), other)
@@ -254,7 +244,7 @@ fail_goes s p row n o prompt was next facts crossed sent con off after calm h =
       crossed = crossed n con off;
       con = con;
       off = off;
-      plain = pl;
+      plain = was.plain;
       row_is = r;
       going = g;
       undoes = undo_asks is_marked s p row was next facts.undo;
@@ -262,17 +252,11 @@ fail_goes s p row n o prompt was next facts crossed sent con off after calm h =
       code = λ ep b id served. sent n id (record { stands = con; calm = off; calm_after = calm; begun = b; leaves = inl (ap changes_phase g.goes.row_is.change_is ∙ ep) }) served;
     }) (h n con off)
   where
-    dv : AreOfDevices p
-    dv = was.standing.devices
-
-    pl : IsPlain s p (run_state s p)
-    pl = run_state_plain s p dv
-
     r : ConnectionRow s p row n
     r = connection_row s p row n o prompt was con off calm
 
     g : GoingRow s p row n
-    g = going_row s p row n dv (least_is s p row prompt.1).inside con after calm next.row_is r.facts
+    g = going_row s p row n was.standing.devices (least_is s p row prompt.1).inside con after calm next.row_is r.facts
 
 -- The first row of a connection, whose process nothing has struck.
 pub fail_first : (k : RunState) (l : Link) (id : ProcId) → IsClear (carried_here k id) → UndoesClear l.undo → (k.exchange.begun ≡ true → (phase_of (bus_of k) ≡ Phase.MessageIn) × (k.exchange.plan.next ≡ Next.GoOn)) → FailTalk k l (carried_here k id)

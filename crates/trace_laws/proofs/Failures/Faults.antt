@@ -6,10 +6,9 @@ use proofs.Names.{receiver_in, Kind, Drives, Fault, Row, Change, Connection, eff
 use proofs.Names.{INITIATOR_DETECTED_ERROR, ScenarioValue, carried_id, CarriedBytes, carried_of, carried_after_fault}
 use proofs.Names.{carried_if, process, Link, story_with_carried, carried_after_fault_if, story_after_fault, phase_of}
 use proofs.Names.{Phase, IsPlain, crossed, crossed_if, RunState, bus_of, carried_here, run_state, run_state_after}
-use proofs.Names.{command_is, no_input, is_command_phase, put_own, IsRowIn, some_device}
-use proofs.{Common.PhaseLines.{data_in_lines, is_data_phase}, Failures.Bytes.{SameFail, same_fail, row_carries}}
-use proofs.Lines.Rows.{LinkRow}
-use Rattle.trace_laws.proofs.Lines.Rows as rows
+use proofs.Names.{command_is, no_input, is_command_phase, put_own, IsRowIn, some_device, data_in_lines, is_data_phase}
+use proofs.{Names.{LinkRow}, Failures.Bytes.{SameFail, same_fail, row_carries}}
+use Rattle.story_laws.specs.row_laws.proofs.Lines.Rows as rows
 
 -- ---- it strikes the byte of the last row
 
@@ -77,9 +76,6 @@ Struck c d _ = SameFail c d
 struck_by : (c : CarriedBytes) (b : LineSet) (phase : Phase) → phase_of b ≡ phase → Struck c (carried_after_fault c b) phase
 struck_by c b phase e = go phase e (is_command b) (command_is b ∙ ap is_command_phase e) (is_data b) (data_lines b ∙ ap is_data_phase e)
   where
-    after : Bool → Bool → CarriedBytes
-    after q r = if q then record c { struck = true; failure = Some PARITY_ERROR } else if r then record c { failure = Some (if b.io then INITIATOR_DETECTED_ERROR else PARITY_ERROR) } else c
-
     go : (f : Phase) → phase_of b ≡ f → (q : Bool) → q ≡ is_command_phase f → (r : Bool) → r ≡ is_data_phase f → Struck c (if q then record c { struck = true; failure = Some PARITY_ERROR } else if r then record c { failure = Some (if b.io then INITIATOR_DETECTED_ERROR else PARITY_ERROR) } else c) f
     go Phase.Command w true z r y = (refl, refl)
     go Phase.Command w false z r y = wrong' z
@@ -100,12 +96,10 @@ struck_by c b phase e = go phase e (is_command b) (command_is b ∙ ap is_comman
     go Phase.Status w false z false y = same_fail c
 
 struck_as : (c d e : CarriedBytes) (phase : Phase) → SameFail d e → Struck c d phase → Struck c e phase
-struck_as c d e Phase.Command w h = (w.struck ∙ h.0, w.failure ∙ h.1)
-struck_as c d e Phase.DataOut w h = (w.struck ∙ h.0, w.failure ∙ h.1)
-struck_as c d e Phase.DataIn w h = (w.struck ∙ h.0, w.failure ∙ h.1)
 struck_as c d e Phase.MessageOut w h = record { failure = w.failure ∙ h.failure; struck = w.struck ∙ h.struck }
 struck_as c d e Phase.MessageIn w h = record { failure = w.failure ∙ h.failure; struck = w.struck ∙ h.struck }
 struck_as c d e Phase.Status w h = record { failure = w.failure ∙ h.failure; struck = w.struck ∙ h.struck }
+struck_as c d e _ w h = (w.struck ∙ h.0, w.failure ∙ h.1)
 
 -- Of the process that the initiator knows.
 pub fault_fails : (s : ScenarioValue) (k : RunState) (row : Row) (n : Connection) (c : Change) (l : Link) (id : ProcId) → IsRowIn k row n c → is_some (receiver_in n c) ≡ false → k.story.link ≡ Some l → l.item ≡ Some (process id) → is_fault row.kind ≡ true → is_some k.story.bus_state.crossed ≡ true → CrossedHere k → Struck (carried_here k id) (carried_here (run_state_after s k row) id) (phase_of (bus_of k))

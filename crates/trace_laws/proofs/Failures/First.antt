@@ -5,10 +5,10 @@ use proofs.Names.{wrong, ProcId, change_of, connection, connection_after, bus, R
 use proofs.Names.{Obeys, events_link, row_reading, row_events_by, process, aim_of, story_by_change, story_on_bus}
 use proofs.Names.{no_messages, phase_of, first_plan, Next, Phase, run_state_plain, IsPrompt, IsPlain, AreOfDevices}
 use proofs.Names.{RunState, bus_of, carried_here, run_state, exchange_after, leaving_of, may_negotiate, messages_if}
-use proofs.Names.{ready_of, change_plain, least_is, BeginsConnection, by_selection, by_reselection, IsClear}
-use proofs.{Names.{UndoesClear, FailTalks, FailFacts, SentAsLeft, TellFacts}, Commands.Blocks.{undo_of}}
-use proofs.{Commands.First.{undo_first}, Failures.{Crossed.{CrossedFacts}, Facts.{fail_first, fail_goes}}}
-use proofs.Lines.{Connections.{RowKindOf, begins_now, goes_now, row_kind}, First.{IsFirst}, Joint.{Stood, NextStood}}
+use proofs.Names.{ready_of, change_plain, least_is, BeginsConnection, by_selection, by_reselection, RowKindOf}
+use proofs.Names.{begins_now, goes_now, row_kind, IsFirst, Stood, NextStood, undo_of, undo_first, TellFacts, IsClear}
+use proofs.{Names.{UndoesClear, FailTalks, FailFacts, SentAsLeft}, Failures.Crossed.{CrossedFacts}}
+use proofs.Failures.Facts.{fail_first, fail_goes}
 
 -- What is asked of it.
 abbrev pub BeginsClear : ScenarioValue → List Row → Row → Type 0

@@ -3,13 +3,11 @@ use Rattle.trace_laws.proofs
 use proofs.Names.{inl, inr, ℕ, ◌≡◌, ◌⊎◌, Bool, true, false, ◌∙◌, List, ◌∷◌, length, Some, None, refl, sym, ap, subst}
 use proofs.Names.{arith, is_some, ProcId, LineSet, changes_phase, receiver_in, Row, Connection}
 use proofs.Names.{INITIATOR_DETECTED_ERROR, ScenarioValue, Obeys, RowReading, row_reading, CarriedBytes, process, Link}
-use proofs.Names.{bytes_of_messages, phase_of, Cause, Messages, Next, Phase, Plan, run_state_plain, IsPrompt, IsPlain}
-use proofs.Names.{RunState, bus_of, carried_here, item_of, run_state, reading_is, Knows, IsOver, is_marked, IsClear}
-use proofs.Names.{ClearIn, clear, GivesFailure, SaysFailure, FailsBy, FailFacts, SentAsLeft, code_if, FailsAsked}
-use proofs.{Names.{FailsBefore, FailsIn, IsLeaving, FailsAsLeft}, Common.Impossible.{none_some}}
-use proofs.Lines.{Connections.{ConnectionRow, connection_row}, Crossings.{RowFacts, stays, ends_here}, Joint.{Stood}}
-use proofs.{Lines.Joint.{link_phase}, Tells.Facts.{all_given}, Undone.Facts.{in_of}}
-use Rattle.trace_laws.specs.Failures.{restores}
+use proofs.Names.{bytes_of_messages, phase_of, Cause, Messages, Next, Phase, Plan, IsPrompt, IsPlain, RunState, bus_of}
+use proofs.Names.{carried_here, item_of, run_state, reading_is, Knows, IsOver, none_some, ConnectionRow, connection_row}
+use proofs.Names.{RowFacts, stays, ends_here, Stood, link_phase, is_marked, code_if, FailsAsked, FailsBefore, FailsIn}
+use proofs.Names.{IsLeaving, FailsAsLeft, all_given, in_of, IsClear, ClearIn, clear, GivesFailure, SaysFailure, FailsBy}
+use proofs.Names.{FailFacts, SentAsLeft, restores}
 
 none_given : {A : Type 0} (count : ℕ) → count ≡ 0 → count ≡ 1 → A
 none_given count e f = absurd (apart count e f)
@@ -31,10 +29,8 @@ before_as l c p count Next.Status e h = h
 before_as l c p count Next.FreeBus e h = tt
 
 asked_as : (l : Link) (c : CarriedBytes) (p : Plan) (words : List ℕ) (cause : Cause) → SaysFailure l c p words cause → FailsAsked c cause
-asked_as l c p words Cause.Selected h = tt
-asked_as l c p words Cause.InMessage h = tt
 asked_as l c p words Cause.InData h = h
-asked_as l c p words Cause.InStatus h = tt
+asked_as l c p words _ h = tt
 
 pub fails_left : (l : Link) (c : CarriedBytes) (p : Plan) (words : List ℕ) (count : ℕ) (attention : Bool) (phase : Phase) → (phase ≡ Phase.DataIn → c.failure ≡ code_if attention INITIATOR_DETECTED_ERROR) → (phase ≡ Phase.MessageIn → attention ≡ false → count ≡ length (bytes_of_messages p.messages)) → FailsBy l c p words count phase → FailsIn p attention c phase
 fails_left l c p words count attention Phase.MessageOut code given h = asked_as l c p words p.cause h
@@ -51,7 +47,7 @@ freed_as l c p count e (inr h) = inr (clear_given l c p.messages count e h)
 -- ---- of a prompt trace
 
 plain_of : (s : ScenarioValue) (p : List Row) → Stood s p → IsPlain s p (run_state s p)
-plain_of s p was = run_state_plain s p was.standing.devices
+plain_of s p was = was.plain
 
 knows_of : (s : ScenarioValue) (p : List Row) (row : Row) (n : Connection) → Stood s p → IsLeaving s p row n → Knows s (run_state s p) n
 knows_of s p row n was w =
@@ -95,11 +91,7 @@ fails_as_left s p row o prompt was sent h n id w item =
     named = ap item_of (sym knows.link_is) ∙ item
 
     served : k.served ≡ Some (process id)
-    served = by knows.item_is
-      where
-        by : (knows.link.item ≡ k.served) ⊎ ((n.reselected ≡ true) × (knows.link.item ≡ None)) → k.served ≡ Some (process id)
-        by (inl e) = sym e ∙ named
-        by (inr e) = none_some (process id) (sym e.1 ∙ named)
+    served = elim knows.item_is [ inl e ↦ sym e ∙ named | inr e ↦ none_some (process id) (sym e.1 ∙ named) ]
 
 -- As its target frees the bus the process has an answer, or nothing has struck it.
 pub freed_as_left : (s : ScenarioValue) (p : List Row) (row : Row) (n : Connection) (id : ProcId) → Obeys s → IsPrompt s (row ∷ p) → Stood s p → FailFacts s p → IsLeaving s p row n → (run_state s p).served ≡ Some (process id) → phase_of (bus_of (run_state s p)) ≡ Phase.MessageIn → (bus_of (run_state s p)).atn ≡ false → (run_state s p).exchange.plan.next ≡ Next.FreeBus

@@ -2,10 +2,9 @@
 use Rattle.trace_laws.proofs
 use proofs.Names.{inl, inr, ℕ, ◌≡◌, ◌⊎◌, Bool, true, false, not, ◌+◌, ◌∙◌, List, Option, Some, None, refl, sym, ap}
 use proofs.Names.{subst, if◌then◌else◌, wrong, wrong', MsgIn, CarriedBytes, Link, struck_plan, parity_error, Cause}
-use proofs.Names.{Messages, Next, Phase, Plan, is_marked, IsClear, UndoesClear, ClearIn, clear, ClearOut, still_clear}
-use proofs.{Names.{GivesFailure, RefusesFailure, SaysFailure, FailsBy, is_short}, Failures.Bytes.{SameFail, clear_as}}
-use proofs.Failures.Faults.{Struck}
-use Rattle.trace_laws.specs.Failures.{restores, restores_again}
+use proofs.Names.{Messages, Next, Phase, Plan, by_option, is_marked, is_short, IsClear, UndoesClear, ClearIn, clear}
+use proofs.Names.{ClearOut, still_clear, GivesFailure, RefusesFailure, SaysFailure, FailsBy, restores, restores_again}
+use proofs.Failures.{Bytes.{SameFail, clear_as}, Faults.{Struck}}
 
 -- ---- what is carried stays as it was
 
@@ -52,27 +51,21 @@ fails_as l c d p words count Phase.Status w a h = a ∙ h
 
 struck_refuses : (l : Link) (c d : CarriedBytes) (p : Plan) (words : List ℕ) (next : Next) → RefusesFailure l c p words next → RefusesFailure l c (struck_plan p) words next
 struck_refuses l c d p words Next.Command h = h
-struck_refuses l c d p words Next.GoOn h = h
-struck_refuses l c d p words Next.Status h = h
-struck_refuses l c d p words Next.FreeBus h = h
+struck_refuses l c d p words _ h = h
 
 struck_says : (l : Link) (c : CarriedBytes) (p : Plan) (words : List ℕ) (cause : Cause) → SaysFailure l c p words cause → SaysFailure l c (struck_plan p) words cause
-struck_says l c p words Cause.Selected h = h
 struck_says l c p words Cause.InMessage h = struck_refuses l c c p words p.next h
-struck_says l c p words Cause.InData h = h
-struck_says l c p words Cause.InStatus h = h
+struck_says l c p words _ h = h
 
 -- The target knows of it in the phases to it.
 abbrev pub plan_struck : Bool → Plan → Plan
 plan_struck io p = if not io then struck_plan p else p
 
 abbrev pub IsLine : Bool → Phase → Type 0
-IsLine io Phase.Command = io ≡ false
-IsLine io Phase.DataOut = io ≡ false
-IsLine io Phase.MessageOut = io ≡ false
 IsLine io Phase.DataIn = io ≡ true
 IsLine io Phase.MessageIn = io ≡ true
 IsLine io Phase.Status = io ≡ true
+IsLine io _ = io ≡ false
 
 pub fails_struck : (l : Link) (c d : CarriedBytes) (p : Plan) (words : List ℕ) (count : ℕ) (io : Bool) (phase : Phase) → IsLine io phase → Struck c d phase → is_marked d ≡ is_marked c → FailsBy l c p words count phase → FailsBy l d (plan_struck io p) words count phase
 fails_struck l c d p words count true Phase.Command line w a h = wrong line
@@ -98,11 +91,10 @@ pub record HearsOf (l m : Link) (c d : CarriedBytes) (heard : Option MsgIn) : Ty
   pub answer : is_marked d ≡ is_marked c
 
 clear_in_on : (l m : Link) (c d : CarriedBytes) (messages : Messages) (count : ℕ) (heard : Option MsgIn) → HearsOf l m c d heard → (count ≡ 0 → is_short messages.first ≡ true → heard ≡ messages.first) → ClearIn l c messages count → ClearIn m d messages (count + 1)
-clear_in_on l m c d messages count heard w first (clear h (inl u)) = by heard refl
-  where
-    by : (o : Option MsgIn) → heard ≡ o → ClearIn m d messages (count + 1)
-    by None e = let v = w.none e in clear (clear_as c d v.0 h) (inl (subst UndoesClear (sym v.1) u))
-    by (Some x) e = let v = w.some x e in clear (v.0 h) (inl (v.1 h))
+clear_in_on l m c d messages count heard w first (clear h (inl u)) =
+    by_option heard
+    (λ e. let v = w.none e in clear (clear_as c d v.0 h) (inl (subst UndoesClear (sym v.1) u)))
+    (λ x e. let v = w.some x e in clear (v.0 h) (inl (v.1 h)))
 clear_in_on l m c d messages count heard w first (clear h (inr z)) = by messages.first refl z.1
   where
     by : (o : Option MsgIn) → messages.first ≡ o → is_short o ≡ true → ClearIn m d messages (count + 1)
@@ -110,11 +102,7 @@ clear_in_on l m c d messages count heard w first (clear h (inr z)) = by messages
     by (Some x) e s = let v = w.some x (first z.0 z.1 ∙ e) in clear (v.0 h) (inl (v.1 h))
 clear_in_on l m c d messages count heard w first (restores e (inl z)) =
     restores e (inr (w.restored (first z (ap (λ (x : Messages). is_short x.first) e) ∙ ap (λ (x : Messages). x.first) e)))
-clear_in_on l m c d messages count heard w first (restores e (inr h)) = restores e (inr (by heard refl))
-  where
-    by : (o : Option MsgIn) → heard ≡ o → IsClear d
-    by None z = clear_as c d (w.none z).0 h
-    by (Some x) z = (w.some x z).0 h
+clear_in_on l m c d messages count heard w first (restores e (inr h)) = restores e (inr (by_option heard (λ z. clear_as c d (w.none z).0 h) (λ x z. (w.some x z).0 h)))
 
 pub gives_on : (l m : Link) (c d : CarriedBytes) (p : Plan) (count : ℕ) (next : Next) (heard : Option MsgIn) → HearsOf l m c d heard → (count ≡ 0 → is_short p.messages.first ≡ true → heard ≡ p.messages.first) → GivesFailure l c p count next → GivesFailure m d p (count + 1) next
 gives_on l m c d p count Next.Command heard w first h = clear_in_on l m c d p.messages count heard w first h
@@ -137,11 +125,7 @@ refuses_on l m c d p words next w said h = go next h
     kept : ClearOut l c p.messages words → ClearOut m d p.messages words
     kept (still_clear f u) = still_clear (w.clears u f) (subst UndoesClear (sym w.undo) u)
     kept (restores_again e (inl z)) = restores_again e (inl z)
-    kept (restores_again e (inr f)) = restores_again e (by said)
-      where
-        by : (words ≡ parity_error) ⊎ SameFail c d → (words ≡ parity_error) ⊎ IsClear d
-        by (inl z) = inl z
-        by (inr v) = inr (clear_as c d v f)
+    kept (restores_again e (inr f)) = restores_again e (elim said [ inl z ↦ inl z | inr v ↦ inr (clear_as c d v f) ])
 
     go : (x : Next) → RefusesFailure l c p words x → RefusesFailure m d p words x
     go Next.Command z = kept z

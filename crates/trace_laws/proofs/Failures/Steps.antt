@@ -5,10 +5,9 @@ use proofs.Names.{if◌then◌else◌, is_some, wrong, wrong', ProcId, LineSet, 
 use proofs.Names.{Drives, Fault, Row, Change, Connection, ScenarioValue, CarriedBytes, carried_of, carried_if, process}
 use proofs.Names.{Link, story_after_fault, story_with_carried, carried_after_fault_if, Exchange, phase_of, Phase, Plan}
 use proofs.Names.{RunState, bus_of, carried_here, run_state_after, is_message, InConnection, in_connection, IsRowIn}
-use proofs.{Names.{is_marked, FailsBy, FailTalk, UndoesAnswers}, Failures.Bytes.{SameFail, clear_as, row_carries}}
-use proofs.Failures.{Bytes.{still_fails}, Faults.{CrossedHere, Struck, fault_fails}, Rows.{fails_as, plan_struck}}
-use proofs.{Failures.Rows.{IsLine, fails_struck}, Items.Row.{link_still}, Undone.Answers.{same_phase_of}}
-use proofs.Undone.Rows.{answers_stay}
+use proofs.Names.{is_marked, UndoesAnswers, link_still, same_phase_of, answers_stay, FailsBy, FailTalk}
+use proofs.Failures.{Bytes.{SameFail, clear_as, row_carries, still_fails}, Faults.{CrossedHere, Struck, fault_fails}}
+use proofs.Failures.Rows.{fails_as, plan_struck, IsLine, fails_struck}
 
 pub record FailRow (s : ScenarioValue) (k : RunState) (row : Row) (n : Connection) (c : Change) (l : Link) (id : ProcId) : Type 0 where
   pub row_is : IsRowIn k row n c
@@ -18,11 +17,7 @@ pub record FailRow (s : ScenarioValue) (k : RunState) (row : Row) (n : Connectio
 
 pub count_as : (l : Link) (c : CarriedBytes) (p : Plan) (words : List ℕ) (count other : ℕ) (phase : Phase) → (phase ≡ Phase.MessageIn → other ≡ count) → FailsBy l c p words count phase → FailsBy l c p words other phase
 count_as l c p words count other Phase.MessageIn e h = subst (λ (x : ℕ). FailsBy l c p words x Phase.MessageIn) (sym (e refl)) h
-count_as l c p words count other Phase.MessageOut e h = h
-count_as l c p words count other Phase.Command e h = h
-count_as l c p words count other Phase.DataOut e h = h
-count_as l c p words count other Phase.DataIn e h = h
-count_as l c p words count other Phase.Status e h = h
+count_as l c p words count other _ e h = h
 
 line_of : (b : LineSet) → IsLine b.io (phase_of b)
 line_of b = go b.msg b.cd b.io
@@ -79,10 +74,7 @@ still_fail s k row n c l m id g ef ep en em asked h =
 message_struck : (c d : CarriedBytes) (phase : Phase) → is_message phase ≡ true → SameFail c d → Struck c d phase
 message_struck c d Phase.MessageOut e h = h
 message_struck c d Phase.MessageIn e h = h
-message_struck c d Phase.Command e h = wrong' e
-message_struck c d Phase.DataOut e h = wrong' e
-message_struck c d Phase.DataIn e h = wrong' e
-message_struck c d Phase.Status e h = wrong' e
+message_struck c d _ e h = wrong' e
 
 pub struck_fail : (s : ScenarioValue) (k : RunState) (row : Row) (n : Connection) (c : Change) (l m : Link) (id : ProcId) → FailRow s k row n c l id → is_fault row.kind ≡ true → changes_phase c ≡ false → is_some (receiver_in n c) ≡ false → is_some k.story.bus_state.crossed ≡ true → CrossedHere k → (run_state_after s k row).story.link ≡ Some m → k.exchange.begun ≡ true → (phase_of (bus_of k) ≡ Phase.MessageIn → (run_state_after s k row).handshakes.requests ≡ k.handshakes.requests)
     → FailTalk k l (carried_here k id) → FailTalk (run_state_after s k row) m (carried_here (run_state_after s k row) id)

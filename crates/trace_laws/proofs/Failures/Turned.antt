@@ -11,13 +11,12 @@ use proofs.Names.{story_after_events, story_by_change, is_status_next, Exchange,
 use proofs.Names.{bytes_of_messages, Serving, phase_of, phase_leaving, leaving_by, cause_after, plan_in_message_out}
 use proofs.Names.{plan_in_phase, parity_error, Cause, Leaving, Next, Phase, Plan, RunState, carried_here, bus_of}
 use proofs.Names.{run_state_after, serving_of, leaving, hearing_of, InConnection, in_connection, self_id, LeavesWhole}
-use proofs.Names.{is_out_phase, IsRowIn, reading_in, is_marked, SaysFailure, FailsBy, FailTalk, UndoesAnswers, code_if}
-use proofs.{Common.PhaseLines.{out_phase, out_lines, is_out_next}, Complaints.Turns.{IsAttended, attended_for}}
-use proofs.{Events.Replies.{replies_to}, Failures.{Bytes.{clear_as, still_fails}, Entries.{KeptFail, answer_kept}}}
-use proofs.Failures.{Entries.{gives_entered, sending_entered, not_to_status, out_entered}, Turns.{LeftSo, gives_left}}
-use proofs.{Failures.Turns.{sends_clear, is_sending}, Items.Row.{row_shows, link_still}, Offers.Steps.{stays_out}}
-use proofs.{Shown.Facts.{answered_on, change_keeps}, Tells.Turns.{status_lines}, Undone.Leavings.{is_to_message_in}}
-use proofs.Undone.Turns.{TurnOf, not_out}
+use proofs.Names.{is_out_phase, IsRowIn, reading_in, out_phase, out_lines, is_out_next, by_bool, replies_to}
+use proofs.Names.{is_to_message_in, answered_on, change_keeps, is_marked, UndoesAnswers, code_if, attended_for}
+use proofs.Names.{row_shows, link_still, stays_out, status_lines, TurnOf, not_out, SaysFailure, FailsBy, FailTalk}
+use proofs.Failures.{Bytes.{clear_as, still_fails}, Entries.{KeptFail, answer_kept, gives_entered, sending_entered}}
+use proofs.Failures.{Entries.{not_to_status, out_entered}, Turns.{LeftSo, gives_left, sends_clear, is_sending}}
+use Rattle.story_laws.proofs.Complaints.Turns.{IsAttended}
 
 -- An event that answers it, or an answer that it had, stays.
 answered : (s : ScenarioValue) (b : Story) (e : Event) (id : ProcId) → replies_to e id ≡ true → is_marked (carried_of (story_after_event s b e).carried id) ≡ true
@@ -40,9 +39,6 @@ marks s b a c change id same before st = by (is_command change.before && is_whol
     last arrived false true r f g h = g refl
     last arrived false false true f g h = h refl
     last arrived false false false f g h = answered s (story_after_events s a arrived) (status_event c.id c.failure) id (subst (λ (x : ProcId). replies_to (status_event x c.failure) id ≡ true) (sym same) (status_replies id c.failure))
-
-    had : (q : Bool) → c.shown ≡ q → q ≡ true → is_marked (carried_of a.carried id) ≡ true
-    had q e f = before ∙ (λ i. (e ∙ f) i || c.refused)
 
     refused : c.refused ≡ true → is_marked (carried_of a.carried id) ≡ true
     refused e = before ∙ ap (λ (q : Bool). c.shown || q) e ∙ or_true c.shown
@@ -155,11 +151,10 @@ turn_fail s k row n c l m id t undoes left em h =
     known_before z = (t.goes.phase z).0
 
     elsewhere : (phase : Phase) → phase_of c.after ≡ phase → is_out_phase phase ≡ false → is_message_out c.after ≡ false
-    elsewhere phase e o = by (is_message_out c.after) refl
-      where
-        by : (q : Bool) → is_message_out c.after ≡ q → is_message_out c.after ≡ false
-        by false z = z
-        by true z = wrong (sym (ap is_out_phase (out_phase c.after z)) ∙ ap is_out_phase e ∙ o)
+    elsewhere phase e o =
+        by_bool (is_message_out c.after)
+        (λ z. wrong (sym (ap is_out_phase (out_phase c.after z)) ∙ ap is_out_phase e ∙ o))
+        (λ z. z)
 
     refused_out : k.exchange.begun ≡ true → phase_of c.after ≡ Phase.MessageOut → SaysFailure l d j.exchange.plan j.exchange.speech.words j.exchange.plan.cause
     refused_out b e =
@@ -185,11 +180,7 @@ turn_fail s k row n c l m id t undoes left em h =
           where
             by : (x : Phase) → phase_of (bus_of k) ≡ x → is_out_phase (phase_of (bus_of k)) ≡ false
             by Phase.MessageOut z = wrong (sym t.turns ∙ stays_out c (ap is_message_out (sym t.goes.row_is.bus_is) ∙ out_lines (bus_of k) z known_before) out)
-            by Phase.MessageIn z = ap is_out_phase z
-            by Phase.Command z = ap is_out_phase z
-            by Phase.DataIn z = ap is_out_phase z
-            by Phase.DataOut z = ap is_out_phase z
-            by Phase.Status z = ap is_out_phase z
+            by _ z = ap is_out_phase z
 
         a : IsAttended k
         a = attended_for s k n.target b not_again (ap is_out_next (t.whereto b) ∙ ap (λ (x : Phase). is_out_next (Some x)) e)

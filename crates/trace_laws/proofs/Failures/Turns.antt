@@ -3,11 +3,10 @@ use Rattle.trace_laws.proofs
 use proofs.Names.{inl, inr, ℕ, ◌≡◌, ◌≤◌, Bool, true, false, ◌==◌, ◌∙◌, List, length, Option, Some, refl, sym, ap, subst}
 use proofs.Names.{arith, nat_tests, ◌-◌, is_some, wrong', PARITY_ERROR, INITIATOR_DETECTED_ERROR, MsgIn, CarriedBytes}
 use proofs.Names.{Link, one_message, bytes_of_messages, from_byte, Serving, phase_leaving, parity_error, Cause, Leaving}
-use proofs.Names.{Messages, Next, Phase, Plan, IsClear, UndoesClear, ClearIn, clear, ClearOut, still_clear}
-use proofs.{Names.{GivesFailure, RefusesFailure, SaysFailure, FailsBy, code_if}, Common.Tests.{some_zero}}
-use proofs.Undone.Leavings.{is_to_message_in}
-use Rattle.trace_laws.specs.Failures.{restores, restores_again}
-use Rattle.link_laws.proofs.LeavingWays as ways
+use proofs.Names.{Messages, Next, Phase, Plan, some_zero, is_to_message_in, code_if, IsClear, UndoesClear, ClearIn}
+use proofs.Names.{clear, ClearOut, still_clear, GivesFailure, RefusesFailure, SaysFailure, FailsBy, restores}
+use proofs.Names.{restores_again}
+use Rattle.story_laws.specs.link_laws.proofs.LeavingWays as ways
 
 -- ---- to MESSAGE IN
 

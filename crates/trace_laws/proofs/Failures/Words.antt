@@ -1,19 +1,20 @@
 -- The code of the failure of the process that is served, as a byte of MESSAGE OUT crosses.
 use Rattle.trace_laws.proofs
-use proofs.Names.{inl, inr, ℕ, ◌≡◌, ◌⊎◌, Bool, true, false, ◌%◌, ◌∙◌, List, [], ◌∷◌, ◌++◌, Option, Some, None, refl}
-use proofs.Names.{sym, ap, subst, same_Some, if◌then◌else◌, is_some, wrong, wrong', ProcId, changes_phase}
-use proofs.Names.{is_message_out, is_fault, receiver_in, Row, Change, Connection, got_in, got_out, MsgOut, fresh_bytes}
-use proofs.Names.{Dialogue, ScenarioValue, whole_in, whole_out, message_in, message_out, CarriedBytes, carried_of, Link}
-use proofs.Names.{last_out, story_after_out, story_after_in, story_after_byte, Exchange, phase_of, parity_error, Cause}
-use proofs.Names.{Messages, Next, Phase, Plan, host_of, RunState, bus_of, carried_here, run_state_after, in_connection}
-use proofs.Names.{reading_in, AreWordsFor, refuses, answers, rejects_data, rejects_status, Speaks, GoesOn, is_marked}
-use proofs.{Names.{ClearOut, RefusesFailure, SaysFailure, FailsBy, FailTalk, is_detected}, Commands.Counts.{is_refusal}}
-use proofs.{Commands.Counts.{answer_said}, Common.{Impossible.{none_some}, PhaseLines.{in_out, out_phase}}}
-use proofs.Failures.{Bytes.{SameFail, clear_as, row_carries, out_fails, out_clear}, Crossings.{quiet_same, same_words}}
-use proofs.{Failures.{Rows.{SaysOf, says_on}, Steps.{FailRow}}, Items.Row.{LinkAfter, says, hears, link_crossed}}
-use proofs.{Last.Rows.{KeptPlan, Stays, stays_as}, Undone.{Answers.{detects}, Rows.{answers_stay}}}
-use Rattle.bus_books.specs.Speaking.{opens}
-use Rattle.trace_laws.proofs.Items.Row as rows
+use proofs.Names.{inl, inr, ℕ, ◌≡◌, ◌⊎◌, Bool, true, false, ◌%◌, ◌∙◌, List, [], ◌∷◌, ◌++◌, Some, None, refl, sym, ap}
+use proofs.Names.{subst, same_Some, if◌then◌else◌, is_some, wrong, wrong', ProcId, changes_phase, is_message_out}
+use proofs.Names.{is_fault, receiver_in, Row, Change, Connection, got_in, got_out, MsgOut, fresh_bytes, Dialogue}
+use proofs.Names.{ScenarioValue, whole_in, whole_out, message_in, message_out, CarriedBytes, carried_of, Link, last_out}
+use proofs.Names.{story_after_out, story_after_in, story_after_byte, Exchange, phase_of, parity_error, Cause, Messages}
+use proofs.Names.{Next, Phase, Plan, host_of, RunState, bus_of, carried_here, run_state_after, in_connection}
+use proofs.Names.{reading_in, AreWordsFor, answers, Speaks, GoesOn, none_some, in_out, out_phase, by_option, is_marked}
+use proofs.Names.{is_detected, answer_said, LinkAfter, says, hears, link_crossed, KeptPlan, Stays, stays_as}
+use proofs.{Names.{answers_stay, ClearOut, RefusesFailure, SaysFailure, FailsBy, FailTalk}, Failures.Bytes.{SameFail}}
+use proofs.Failures.{Bytes.{clear_as, row_carries, out_fails, out_clear}, Crossings.{quiet_same, same_words}}
+use proofs.Failures.{Rows.{SaysOf, says_on}, Steps.{FailRow}}
+use Rattle.story_laws.specs.bus_books.specs.Speaking.{refuses}
+use Rattle.story_laws.proofs.Commands.Counts.{is_refusal}
+use Rattle.story_laws.proofs.Undone.Answers.{detects}
+use Rattle.story_laws.proofs.Items.Row as rows
 
 -- ---- what is planned stays
 
@@ -25,10 +26,8 @@ refuses_kept l c p q words Next.FreeBus e (inl h) = inl h
 refuses_kept l c p q words Next.FreeBus e (inr h) = inr (subst (λ (m : Messages). ClearOut l c m words) (sym e) h)
 
 says_kept : (l : Link) (c : CarriedBytes) (p q : Plan) (words : List ℕ) (cause : Cause) → KeptPlan p q → SaysFailure l c p words cause → SaysFailure l c q words cause
-says_kept l c p q words Cause.Selected k h = h
 says_kept l c p q words Cause.InMessage k h = subst (RefusesFailure l c q words) (sym k.next) (refuses_kept l c p q words p.next k.messages h)
-says_kept l c p q words Cause.InData k h = h
-says_kept l c p q words Cause.InStatus k h = h
+says_kept l c p q words _ k h = h
 
 -- ---- a byte of MESSAGE OUT
 
@@ -79,26 +78,23 @@ out_fail s k row n c l m id g of speaks ep en out em b h = record {
 
     -- Nothing is taken back.
     kept : is_refusal (message_out dialogue c true) ≡ false → SameFail own d
-    kept e = go (message_out dialogue c true) refl
-      where
-        go : (o : Option MsgOut) → message_out dialogue c true ≡ o → SameFail own d
-        go None z = quiet_same s k row n c l id g en z none
-        go (Some x) z =
-            let v = carries x z in
-            let w = out_fails k.story l x id (sym (ap is_refusal z) ∙ e) in
-            record { failure = v.failure ∙ w.failure; struck = v.struck ∙ w.struck }
+    kept e =
+        by_option (message_out dialogue c true)
+        (λ z. quiet_same s k row n c l id g en z none)
+        (λ x z.
+        let v = carries x z in
+        let w = out_fails k.story l x id (sym (ap is_refusal z) ∙ e) in
+        record { failure = v.failure ∙ w.failure; struck = v.struck ∙ w.struck })
 
     in_message : k.exchange.plan.cause ≡ Cause.InMessage → (k.exchange.speech.words ≡ parity_error) ⊎ SameFail own d
     in_message ec = go k.exchange.plan.cause ec (speaks.in_message_out b (ap is_message_out g.row_is.bus_is ∙ out)).words_for
       where
         go : (cause : Cause) → cause ≡ Cause.InMessage → AreWordsFor s n k.served k.exchange cause → (k.exchange.speech.words ≡ parity_error) ⊎ SameFail own d
-        go _ e (opens w) = absurd cc
         go _ e (refuses w) = inl w
         go _ e (answers w) =
             inr (kept ((λ i. is_refusal (if out i then whole_out (got_out (fresh_bytes dialogue ++ c.after.data_bits % 256 ∷ [])) else None))
             ∙ answer_said k.exchange.speech k.exchange.plan dialogue (c.after.data_bits % 256) (host_of s n.initiator) k.exchange.speech.asked (speaks.in_message_out b (ap is_message_out g.row_is.bus_is ∙ out)).heard (of.says out en).0 w))
-        go _ e (rejects_data w) = absurd cc
-        go _ e (rejects_status w) = absurd cc
+        go _ e _ = absurd cc
 
     in_data : k.exchange.plan.cause ≡ Cause.InData → SameFail own d
     in_data ec = kept (detects s k n c speaks b g.row_is.bus_is out (of.says out en).0 (ap is_detected ec))

@@ -8,12 +8,11 @@ use proofs.Names.{Item, process, abort, has_item, aim_of, phase_of, Ready, Next,
 use proofs.Names.{ProcessProgress, progress_in, IsPrompt, AreOfDevices, IsPlain, RunState, array_of, or_start, bus_of}
 use proofs.Names.{process_item, process_served, run_state, item_if, leaving_of, progress_after, served_after, ready_of}
 use proofs.Names.{ready_among, seek_of, is_new, is_beginning, is_answered, is_unanswered, is_uncounted, IsFirstRow}
-use proofs.Names.{Begins, IsReadyFor, RowOf, row_apart as apart, begins, goes_on, row_ends as ends, under_reset}
-use proofs.Names.{change_plain, least_is, ArePlaced, BeginsPlaced, IsPlacedIn, ItemFacts, no_progress, frees_bus}
-use proofs.Names.{IsUntouched, IsAtRest, PlaceFacts, PlacedIf, PlacedIn, PlacedBefore, RunsOpen, AnsweredOpen}
-use proofs.{Common.Impossible.{none_some}, Events.Arriving.{not_waiting, not_running, no_guest}, Heard.Rows.{begun_of}}
-use proofs.{Items.Fresh.{items_fresh}, Lines.Joint.{Stood, NextStood}, Places.First.{rest_first, shown_first}}
-use proofs.Places.Ready.{MayBeReady, ready_runs}
+use proofs.Names.{Begins, IsReadyFor, RowOf, apart, begins, goes_on, ends, under_reset, change_plain, least_is}
+use proofs.Names.{none_some, by_bool, by_option, not_waiting, not_running, no_guest, Stood, NextStood, ArePlaced}
+use proofs.Names.{BeginsPlaced, IsPlacedIn, ItemFacts, no_progress, frees_bus, IsUntouched, IsAtRest, PlaceFacts}
+use proofs.{Names.{PlacedIf, PlacedIn, PlacedBefore, RunsOpen, AnsweredOpen, items_fresh}, Heard.Rows.{begun_of}}
+use proofs.Places.{First.{rest_first, shown_first}, Ready.{MayBeReady, ready_runs}}
 use Rattle.bus_due.specs.disk_array.proofs.SoundArrays.{id_is}
 
 pub new_heard : (a : Array) (p : Process) → IsUntouched a p.id → is_new a p ≡ true
@@ -69,7 +68,10 @@ uncounted r id e = ap is_uncounted e
 
 begun_here : (s : ScenarioValue) (p : List Row) (row : Row) (n : Connection) → Obeys s → IsPrompt s (row ∷ p) → Stood s p → NextStood s p row → ItemFacts s p → (h : PlaceFacts s p) → (before : connection p ≡ None) → connection (row ∷ p) ≡ Some n → (b : Begins s (run_state s p) row n) → (q : Process) → process_served s (run_state s (row ∷ p)) ≡ Some q
     → is_beginning s (run_state s (row ∷ p)) n (Some q) ≡ true
-begun_here s p row n o prompt was nx items h alone after b q served = by n.reselected refl
+begun_here s p row n o prompt was nx items h alone after b q served =
+    by_bool n.reselected
+    (λ e. (λ i. if e i then is_none (guest_at (array_of s j).guests q.id) && is_none (reply_in (array_of s j).replies q.id) else is_new (array_of s j) q && is_uncounted (progress_in j.progress q.id)) ∙ again e)
+    (λ e. (λ i. if e i then is_none (guest_at (array_of s j).guests q.id) && is_none (reply_in (array_of s j).replies q.id) else is_new (array_of s j) q && is_uncounted (progress_in j.progress q.id)) ∙ anew e)
   where
     k : RunState
     k = run_state s p
@@ -98,7 +100,7 @@ begun_here s p row n o prompt was nx items h alone after b q served = by n.resel
     anew : n.reselected ≡ false → (is_new (array_of s j) q && is_uncounted (progress_in j.progress q.id)) ≡ true
     anew e = go fresh.item refl
       where
-        fresh : Rattle.trace_laws.specs.Items.IsFresh k n
+        fresh : Rattle.story_laws.specs.Items.IsFresh k n
         fresh = items_fresh s p row n o prompt was items alone after e
 
         item_is : j.served ≡ Some fresh.item
@@ -126,12 +128,11 @@ begun_here s p row n o prompt was nx items h alone after b q served = by n.resel
         ap (λ (a : Array). is_none (reply_in a.replies q.id)) array_is ∙ ap (λ (x : Process). is_none (reply_in h.array.replies x.id)) (sym same) ∙ ap (λ (x : Option Reply). is_none x) may.runs.runs.reply in
         λ i. guest i && reply i
 
-    by : (r : Bool) → n.reselected ≡ r → is_beginning s j n (Some q) ≡ true
-    by true e = (λ i. if e i then is_none (guest_at (array_of s j).guests q.id) && is_none (reply_in (array_of s j).replies q.id) else is_new (array_of s j) q && is_uncounted (progress_in j.progress q.id)) ∙ again e
-    by false e = (λ i. if e i then is_none (guest_at (array_of s j).guests q.id) && is_none (reply_in (array_of s j).replies q.id) else is_new (array_of s j) q && is_uncounted (progress_in j.progress q.id)) ∙ anew e
-
 pub begins_placed : (s : ScenarioValue) (p : List Row) (row : Row) → Obeys s → IsPrompt s (row ∷ p) → Stood s p → NextStood s p row → ItemFacts s p → PlaceFacts s p → BeginsPlaced s p row
-begins_placed s p row o prompt was nx items h n alone after off = go (process_served s j) refl
+begins_placed s p row o prompt was nx items h n alone after off =
+    by_option (process_served s j)
+    (λ e. ap (is_beginning s j n) e)
+    (λ q e. ap (is_beginning s j n) e ∙ begun_here s p row n o prompt was nx items h alone after (of nx.row_is) q e)
   where
     k : RunState
     k = run_state s p
@@ -139,17 +140,14 @@ begins_placed s p row o prompt was nx items h n alone after off = go (process_se
     j : RunState
     j = run_state s (row ∷ p)
 
-    pl : IsPlain s p k
-    pl = run_state_plain s p was.standing.devices
-
     c : (row_reading k.story.bus_state row).change ≡ change_of p row
     c = change_plain s row p was.standing.devices (least_is s p row prompt.1).inside
 
     next : (row_reading k.story.bus_state row).next ≡ Some n
-    next = (λ i. connection_after (pl.connection i) (pl.call i) (c i) row) ∙ after
+    next = (λ i. connection_after (was.plain.connection i) (was.plain.call i) (c i) row) ∙ after
 
     none : k.story.bus_state.connection ≡ None
-    none = pl.connection ∙ alone
+    none = was.plain.connection ∙ alone
 
     of : RowOf s k row → Begins s k row n
     of (apart e f) = none_some n (sym f ∙ next)
@@ -157,7 +155,3 @@ begins_placed s p row o prompt was nx items h n alone after off = go (process_se
     of (goes_on m x g) = none_some m (sym none ∙ g.row_is.connection_is)
     of (ends m g) = none_some m (sym none ∙ g.connection_is)
     of (under_reset e f) = wrong (sym e ∙ ap (λ (x : Change). x.after.rst) c ∙ off)
-
-    go : (x : Option Process) → process_served s j ≡ x → is_beginning s j n (process_served s j) ≡ true
-    go None e = ap (is_beginning s j n) e
-    go (Some q) e = ap (is_beginning s j n) e ∙ begun_here s p row n o prompt was nx items h alone after (of nx.row_is) q e

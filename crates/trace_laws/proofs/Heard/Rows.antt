@@ -5,42 +5,37 @@ use proofs.Names.{◌⊎◌, inl, inr, ◌∷◌, subst, and_from, if◌then◌e
 use proofs.Names.{implication, unless, all_three, ProcId, change_of, LineSet, is_command, is_message_out, connection}
 use proofs.Names.{connection_after, bus, drives, Row, Change, Connection, Dialogue, ScenarioValue, Obeys, reply_in}
 use proofs.Names.{Process, running_process, RowReading, row_reading, Item, same_bytes, begun, phase_of, Next, Phase}
-use proofs.Names.{run_state_plain, is_block_of_process, is_true_leaving, same_process, IsLeast, due, IsPrompt, IsPlain}
-use proofs.Names.{RunState, bus_of, drives_of, process_served, array_of, carried_here, item_of, run_state, offering_of}
-use proofs.Names.{obeys_fits, units_are, phase_is_command, is_said, Instructions, gives_status, instructions}
-use proofs.Names.{is_answered, is_command_phase, is_heard, is_heard_after, is_heard_in, is_heard_on, is_heard_process}
-use proofs.Names.{is_heard_row, is_instructed, is_known_item, is_message, is_new, is_of_scenario, is_opening}
-use proofs.Names.{is_opening_in, is_served, is_true_end, is_unanswered, moves_data, AreUnits, block_own, process_same}
-use proofs.Names.{opening_named, out_over, command_over, HasPhase, IsItem, is_process, Knows, IsOver, change_plain}
-use proofs.Names.{least_is, EndLines, Linked, LinkStage, when_selected, when_settling, when_turning, when_offering}
-use proofs.Names.{when_shaking, when_pulsing, ends, CommandBooks, CommandFacts, Serves, StandsIn, TakesBlock, ArePlaced}
-use proofs.Names.{BeginsPlaced, IsPlacedIn, Instructed, InstructedFacts, KnownIn, KnownNext, Named, NamedFacts, known}
-use proofs.{Names.{refused, said}, Bytes.Blocks.{HasCommands, commands_are}}
-use proofs.{Commands.Facts.{same_process as same_id_of, served_process}, Common.Impossible.{none_some}}
-use proofs.{Common.PhaseLines.{out_lines, message_is}, Heard.Turns.{heard_goes}}
-use proofs.Lines.{Connections.{stage_of_connection, begins_now, goes_now, row_kind}, Driven.{no_third}, Joint.{Stood}}
-use proofs.Lines.Joint.{link_phase}
-use Rattle.target_units.specs.scsi_device.specs.Heard.{may_leave}
-use Rattle.bus_books.proofs.Blocks.{same_self}
-use Rattle.bus_books.specs.Items.{is_abort}
+use proofs.Names.{is_block_of_process, is_true_leaving, IsLeast, due, IsPrompt, RunState, bus_of, drives_of}
+use proofs.Names.{process_served, array_of, carried_here, item_of, run_state, offering_of, obeys_fits, units_are}
+use proofs.Names.{phase_is_command, is_said, Instructions, gives_status, instructions, is_answered, is_command_phase}
+use proofs.Names.{is_heard, is_heard_after, is_heard_in, is_heard_on, is_heard_process, is_heard_row, is_instructed}
+use proofs.Names.{is_known_item, is_message, is_new, is_of_scenario, is_opening, is_opening_in, is_served, is_true_end}
+use proofs.Names.{is_unanswered, moves_data, may_leave, AreUnits, block_own, process_same, out_over, command_over}
+use proofs.Names.{opening_named, HasPhase, IsItem, is_process, is_abort, Knows, IsOver, change_plain, least_is}
+use proofs.Names.{EndLines, Linked, LinkStage, when_selected, when_settling, when_turning, when_offering, when_shaking}
+use proofs.Names.{when_pulsing, HasCommands, commands_are, none_some, out_lines, message_is, by_bool}
+use proofs.Names.{stage_of_connection, begins_now, goes_now, row_kind, no_third, Stood, link_phase, ArePlaced}
+use proofs.Names.{BeginsPlaced, IsPlacedIn, same_process as same_id_of, served_process, CommandBooks, CommandFacts}
+use proofs.Names.{Serves, StandsIn, TakesBlock, Instructed, InstructedFacts, KnownIn, KnownNext, Named, NamedFacts}
+use proofs.{Names.{known, refused, said}, Heard.Turns.{heard_goes}}
+use Rattle.bus_due.specs.Faithful.{same_process}
+use Rattle.story_laws.specs.link_laws.specs.Phases.{ends}
+use Rattle.story_laws.specs.bus_books.proofs.Carried.Blocks.{same_self}
 
 -- ---- the lines
 
 -- In MESSAGE OUT ATN is then as the last byte left it.
 pub over_at : (s : ScenarioValue) (p : List Row) (n : Connection) → Stood s p → connection p ≡ Some n → (bus p).rst ≡ false → begun p ≡ true → (drives p n.target).req ≡ false → (offering_of s (run_state s p) n.target).follows ≡ false → IsOver s (run_state s p) n
-over_at s p n was con calm b low none = record { follows = none; attention = λ out. by (stage_of_connection s p n was con calm) (ap is_message_out (sym pl.bus) ∙ out) }
+over_at s p n was con calm b low none = record { follows = none; attention = λ out. by (stage_of_connection s p n was con calm) (ap is_message_out (sym was.plain.bus) ∙ out) }
   where
     k : RunState
     k = run_state s p
-
-    pl : IsPlain s p k
-    pl = run_state_plain s p was.standing.devices
 
     of_ends : (e : EndLines) → Linked p n e → (e.sent == 0 || e.ack) ≡ true → is_message_out (bus p) ≡ true → (bus_of k).atn ≡ not k.story.bus_state.dialogue.is_last
     of_ends e h q out =
         let on = h.stands.bus_is in
         let d = was.driven n con calm e h b in
-        ap (λ (l : LineSet). l.atn) (pl.bus ∙ on) ∙ d.attention (ap is_message_out (sym on) ∙ out) q ∙ ap (λ (x : Dialogue). not x.is_last) (sym pl.dialogue)
+        ap (λ (l : LineSet). l.atn) (was.plain.bus ∙ on) ∙ d.attention (ap is_message_out (sym on) ∙ out) q ∙ ap (λ (x : Dialogue). not x.is_last) (sym was.plain.dialogue)
 
     to_initiator : {A : Type 0} (e : EndLines) → Linked p n e → e.io ≡ true → is_message_out (bus p) ≡ true → A
     to_initiator e h io out = absurd (no_third e.msg e.cd ((λ i. e.msg && e.cd && not (sym io i)) ∙ ap is_message_out (sym h.stands.bus_is) ∙ out))
@@ -71,7 +66,7 @@ pub record MayLeave (s : ScenarioValue) (p : List Row) (n : Connection) : Type 0
 pub leaves_at : (s : ScenarioValue) (p : List Row) (n : Connection) → Stood s p → connection p ≡ Some n → (bus p).rst ≡ false → n.target < 8 → may_leave s (run_state s p) n ≡ true → MayLeave s p n
 leaves_at s p n was con calm lt e =
     let k = run_state s p in
-    let pl = run_state_plain s p was.standing.devices in
+    let pl = was.plain in
     let w = and_3 k.exchange.begun (drives_of k n.target).req (offering_of s k n.target).follows e in
     record { begun_is = w.0; over = over_at s p n was con calm (sym pl.begun ∙ w.0) (ap (λ (l : LineSet). l.req) (sym (pl.drives n.target lt)) ∙ w.1) w.2 }
 
@@ -81,20 +76,14 @@ said_over s p n u gr was con calm m = go (phase_of (bus_of k)) refl
     k : RunState
     k = run_state s p
 
-    pl : IsPlain s p k
-    pl = run_state_plain s p was.standing.devices
-
-    h : LinkStage s p n
-    h = stage_of_connection s p n was con calm
-
     here : k.story.bus_state.connection ≡ Some n
-    here = pl.connection ∙ con
+    here = was.plain.connection ∙ con
 
     quiet : (bus_of k).rst ≡ false
-    quiet = ap (λ (l : LineSet). l.rst) pl.bus ∙ calm
+    quiet = ap (λ (l : LineSet). l.rst) was.plain.bus ∙ calm
 
     phase : HasPhase k
-    phase z = let w = link_phase s p n h (ap (λ (l : LineSet). l.msg) (sym pl.bus) ∙ z) in (ap (λ (l : LineSet). l.cd) pl.bus ∙ w.0, pl.begun ∙ w.1)
+    phase z = let w = link_phase s p n (stage_of_connection s p n was con calm) (ap (λ (l : LineSet). l.msg) (sym was.plain.bus) ∙ z) in (ap (λ (l : LineSet). l.cd) was.plain.bus ∙ w.0, was.plain.begun ∙ w.1)
 
     block : phase_of (bus_of k) ≡ Phase.Command → (o : Option Process) → process_served s k ≡ o → is_block_of_process s k o ≡ true
     block e None f = refl
@@ -116,10 +105,7 @@ said_over s p n u gr was con calm m = go (phase_of (bus_of k)) refl
         let out = out_lines (bus_of k) e (λ z. (phase z).0) in
         opening_named s k n u (was.books.speaks n here quiet) m.begun_is out (out_over s k n out m.over)
     go Phase.Command e = block e (process_served s k) refl
-    go Phase.MessageIn e = refl
-    go Phase.Status e = refl
-    go Phase.DataIn e = refl
-    go Phase.DataOut e = refl
+    go _ e = refl
 
 pub said_at : (s : ScenarioValue) (p : List Row) (n : Connection) → AreUnits s → HasCommands s → Stood s p → connection p ≡ Some n → (bus p).rst ≡ false → n.target < 8 → is_said s (run_state s p) n ≡ true
 said_at s p n u gr was con calm lt =
@@ -155,15 +141,14 @@ known_item s k n w names = go w.item_is
     go (inr (e, none)) = λ i. by e none (names e) i || same_process k.served (item_of k.story.link)
 
 served_item : (s : ScenarioValue) (k : RunState) (n : Connection) → CommandBooks s k n → (n.reselected ≡ true → Serves s k) → is_of_scenario s k.served ≡ true
-served_item s k n books again = go n.reselected refl
+served_item s k n books again =
+    by_bool n.reselected
+    (λ e. let v = again e in ap (is_of_scenario s) v.served_is ∙ ap (λ (o : Option Process). is_some o) v.process_is)
+    (λ e. let h = books.serves e in ap (is_of_scenario s) h.served_is ∙ of_item h.item h.item_is)
   where
     of_item : (item : Item) → IsItem s n.initiator item → is_of_scenario s (Some item) ≡ true
     of_item _ (is_process id p ep own) = ap (λ (o : Option Process). is_some o) ep
     of_item _ (is_abort x a ea own) = ap (λ o. is_some o) ea
-
-    go : (q : Bool) → n.reselected ≡ q → is_of_scenario s k.served ≡ true
-    go true e = let v = again e in ap (is_of_scenario s) v.served_is ∙ ap (λ (o : Option Process). is_some o) v.process_is
-    go false e = let h = books.serves e in ap (is_of_scenario s) h.served_is ∙ of_item h.item h.item_is
 
 pub begun_of : (k : RunState) → is_opening k ≡ false → k.exchange.begun ≡ true
 begun_of k e = go k.exchange.begun (is_opening_in (phase_of (bus_of k)) k.exchange.plan.cause) e
@@ -175,18 +160,14 @@ begun_of k e = go k.exchange.begun (is_opening_in (phase_of (bus_of k)) k.exchan
 -- ---- what it has been told, and where it stands
 
 known_data : (told : Bool) (k : RunState) (x : Phase) → KnownIn told k.exchange.plan x → moves_data x k.exchange.plan.next ≡ true → told ≡ true
-known_data told k Phase.MessageOut h e = wrong' e
-known_data told k Phase.Command h e = wrong' e
 known_data told k Phase.DataIn h e = h
 known_data told k Phase.DataOut h e = h
-known_data told k Phase.Status h e = wrong' e
 known_data told k Phase.MessageIn h e = go k.exchange.plan.next h e
   where
     go : (next : Next) → KnownNext told next → moves_data Phase.MessageIn next ≡ true → told ≡ true
     go Next.GoOn h e = h
-    go Next.Command h e = wrong' e
-    go Next.Status h e = wrong' e
-    go Next.FreeBus h e = wrong' e
+    go _ h e = wrong' e
+known_data told k _ h e = wrong' e
 
 heard_process : (s : ScenarioValue) (k : RunState) (n : Connection) (i : Instructions) → CommandBooks s k n → Instructed s k i n → (v : Serves s k) → is_opening k ≡ false → IsPlacedIn (array_of s k) v.process (phase_of (bus_of k)) k.exchange.plan.next → is_heard_process s k n i (Some v.process) (phase_of (bus_of k)) ≡ true
 heard_process s k n i books told v after at = and_from _ _ (unless n.reselected _ instructed) (all_three _ _ _ new unanswered answered)
@@ -197,14 +178,11 @@ heard_process s k n i books told v after at = and_from _ _ (unless n.reselected 
     stage : n.reselected ≡ false → KnownIn i.known k.exchange.plan (phase_of (bus_of k))
     stage e = (told.selected e).stage begun
 
-    same : v.process.id ≡ v.id
-    same = same_id_of s k v
-
     instructed : n.reselected ≡ false → is_instructed k i v.process (phase_of (bus_of k)) ≡ true
     instructed e =
         let w = told.selected e in
         all_three _ _ _ (w.named after v)
-        (implication (is_command_phase (phase_of (bus_of k))) _ (λ z. ap (λ (x : ProcId). same_bytes i.block (carried_here k x).block) same ∙ ap (same_bytes i.block) (sym (w.carried begun (phase_is_command (phase_of (bus_of k)) z) v)) ∙ same_self i.block))
+        (implication (is_command_phase (phase_of (bus_of k))) _ (λ z. ap (λ (x : ProcId). same_bytes i.block (carried_here k x).block) (same_id_of s k v) ∙ ap (same_bytes i.block) (sym (w.carried begun (phase_is_command (phase_of (bus_of k)) z) v)) ∙ same_self i.block))
         (implication i.known _ (λ z. let b = w.block z v in and_from _ _ b.0 (ap (same_bytes i.block) (sym b.1) ∙ same_self i.block)))
 
     unknown : is_command_phase (phase_of (bus_of k)) ≡ true → i.known ≡ false
@@ -217,11 +195,7 @@ heard_process s k n i books told v after at = and_from _ _ (unless n.reselected 
     new = implication _ _ (λ z. and_from _ _ (ap not (unknown z)) (at.new z))
 
     knows : moves_data (phase_of (bus_of k)) k.exchange.plan.next ≡ true → i.known ≡ true
-    knows z = go n.reselected refl
-      where
-        go : (q : Bool) → n.reselected ≡ q → i.known ≡ true
-        go true e = (told.again e).0
-        go false e = known_data i.known k (phase_of (bus_of k)) (stage e) z
+    knows z = by_bool n.reselected (λ e. (told.again e).0) (λ e. known_data i.known k (phase_of (bus_of k)) (stage e) z)
 
     unanswered : (not (moves_data (phase_of (bus_of k)) k.exchange.plan.next) || (i.known && is_unanswered (running_process (array_of s k) v.process.id) && is_none (reply_in (array_of s k).replies v.process.id))) ≡ true
     unanswered = implication _ _ (λ z. let w = at.unanswered z in all_three _ _ _ (knows z) w.0 w.1)
@@ -253,9 +227,6 @@ heard_in s q n o h con calm = λ x. told_all x && named x && served x && heard x
     k : RunState
     k = run_state s q
 
-    pl : IsPlain s q k
-    pl = run_state_plain s q h.stood.standing.devices
-
     told : Instructed s k (instructions s q) n
     told = h.told n con calm
 
@@ -266,7 +237,7 @@ heard_in s q n o h con calm = λ x. told_all x && named x && served x && heard x
     told_all = said_at s q n (units_are s (obeys_fits s o)) (commands_are s o) h.stood con calm (target_below s q n (stage_of_connection s q n h.stood con calm))
 
     named : is_known_item k n ≡ true
-    named = known_item s k n (h.stood.books.knows n (pl.connection ∙ con) (ap (λ (l : LineSet). l.rst) pl.bus ∙ calm)) (λ e. h.named n con calm e)
+    named = known_item s k n (h.stood.books.knows n (h.stood.plain.connection ∙ con) (ap (λ (l : LineSet). l.rst) h.stood.plain.bus ∙ calm)) (λ e. h.named n con calm e)
 
     served : is_served s k ≡ true
     served = and_from _ _ (served_item s k n books (λ e. (told.again e).1)) (unless (is_opening k) _ (λ z. ap (λ (o : Option Process). is_some o) (served_process s k (told.served z))))
@@ -297,14 +268,11 @@ heard_turn s p row o prompt was begins = unless d.change.after.rst _ (λ off. on
     m : IsLeast (due s p) 8 row
     m = least_is s p row prompt.1
 
-    pl : IsPlain s p k
-    pl = run_state_plain s p was.standing.devices
-
     c : d.change ≡ change_of p row
     c = change_plain s row p was.standing.devices m.inside
 
     next : d.next ≡ connection q
-    next = λ i. connection_after (pl.connection i) (pl.call i) (c i) row
+    next = λ i. connection_after (was.plain.connection i) (was.plain.call i) (c i) row
 
     first : (o : Option Connection) → connection q ≡ o → connection p ≡ None → (bus q).rst ≡ false → is_heard_on s k (run_state s q) d None o ≡ true
     first None e none off = refl
@@ -329,7 +297,7 @@ heard_turn s p row o prompt was begins = unless d.change.after.rst _ (λ off. on
     go (Some n) con off = going n (bus p).rst refl con off
 
     on : (bus q).rst ≡ false → is_heard_on s k (run_state s q) d k.story.bus_state.connection d.next ≡ true
-    on off = ap (λ (x : Option Connection). is_heard_on s k (run_state s q) d x d.next) pl.connection ∙ go (connection p) refl off
+    on off = ap (λ (x : Option Connection). is_heard_on s k (run_state s q) d x d.next) was.plain.connection ∙ go (connection p) refl off
 
 pub heard_row : (s : ScenarioValue) (p : List Row) (row : Row) → Obeys s → IsPrompt s (row ∷ p) → Stood s p → BeginsPlaced s p row → HeardFacts s (row ∷ p) → is_heard_after s (run_state s p) (run_state s (row ∷ p)) (row_reading (run_state s p).story.bus_state row) (instructions s (row ∷ p)) ≡ true
 heard_row s p row o prompt was begins h = and_from _ _ (heard_turn s p row o prompt was begins) (ap (λ (x : Option Connection). is_heard s j x (instructions s q)) next ∙ go (connection q) refl)
@@ -346,15 +314,9 @@ heard_row s p row o prompt was begins h = and_from _ _ (heard_turn s p row o pro
     m : IsLeast (due s p) 8 row
     m = least_is s p row prompt.1
 
-    pl : IsPlain s p k
-    pl = run_state_plain s p was.standing.devices
-
-    ql : IsPlain s q j
-    ql = run_state_plain s q h.stood.standing.devices
-
     next : (row_reading k.story.bus_state row).next ≡ connection q
-    next = λ i. connection_after (pl.connection i) (pl.call i) (change_plain s row p was.standing.devices m.inside i) row
+    next = λ i. connection_after (was.plain.connection i) (was.plain.call i) (change_plain s row p was.standing.devices m.inside i) row
 
     go : (o : Option Connection) → connection q ≡ o → is_heard s j o (instructions s q) ≡ true
     go None e = refl
-    go (Some n) e = unless (bus_of j).rst _ (λ off. heard_in s q n o h e (ap (λ (l : LineSet). l.rst) (sym ql.bus) ∙ off))
+    go (Some n) e = unless (bus_of j).rst _ (λ off. heard_in s q n o h e (ap (λ (l : LineSet). l.rst) (sym h.stood.plain.bus) ∙ off))

@@ -1,14 +1,13 @@
 -- A phase is left, and a connection, only where its target may leave it and as it means to; and not under RST.
 use Rattle.trace_laws.proofs
 use proofs.Names.{◌≡◌, ◌<◌, Bool, true, false, not, ◌&&◌, ◌||◌, ◌∙◌, List, ◌∷◌, Some, None, refl, sym, ap}
-use proofs.Names.{if◌then◌else◌, is_none, change_of, LineSet, changes_phase, is_message_out, connection}
+use proofs.Names.{if◌then◌else◌, is_none, or_true, change_of, LineSet, changes_phase, is_message_out, connection}
 use proofs.Names.{connection_after, bus, drives, Row, Change, Connection, ScenarioValue, Obeys, RowReading, row_reading}
-use proofs.Names.{begun, phase_of, leaving_by, Phase, run_state_plain, IsPrompt, IsPlain, RunState, bus_of, drives_of}
-use proofs.Names.{run_state, offering_of, serving_of, is_heard_on, is_to, is_true_turn, change_plain, LinkStage}
-use proofs.Names.{when_selected, when_settling, when_turning, when_offering, when_shaking, when_pulsing, Attention}
-use proofs.{Common.PhaseLines.{out_phase}, Lines.{Attention.{attention_row}, Connections.{ConnectionRow}}}
-use proofs.Lines.{Connections.{connection_row, link_low}, Crossings.{Goes, RowFacts, stays, ends_here}, Joint.{Stood}}
-use Rattle.target_units.specs.scsi_device.specs.Heard.{may_leave, same_phase}
+use proofs.Names.{begun, phase_of, leaving_by, Phase, IsPrompt, RunState, bus_of, drives_of, run_state, offering_of}
+use proofs.Names.{serving_of, is_heard_on, is_to, is_true_turn, may_leave, change_plain, LinkStage, when_selected}
+use proofs.Names.{when_settling, when_turning, when_offering, when_shaking, when_pulsing, out_phase, attention_row}
+use proofs.Names.{ConnectionRow, connection_row, link_low, Goes, RowFacts, stays, ends_here, Stood, Attention}
+use Rattle.story_laws.specs.scsi_device.specs.Heard.{same_phase}
 
 -- ---- REQ is that of the target
 
@@ -24,11 +23,7 @@ target_req s p n (when_pulsing io req ack atn x y h a) = ap (λ (l : LineSet). l
 
 same_self : (x : Phase) → same_phase x x ≡ true
 same_self Phase.MessageOut = refl
-same_self Phase.MessageIn = refl
-same_self Phase.Command = refl
-same_self Phase.Status = refl
-same_self Phase.DataIn = refl
-same_self Phase.DataOut = refl
+same_self _ = refl
 
 all_3 : (a b c : Bool) → a ≡ true → b ≡ false → c ≡ false → (a && not b && not c) ≡ true
 all_3 a b c e f g = λ i. e i && not (f i) && not (g i)
@@ -45,9 +40,6 @@ heard_goes s p row n o prompt was lt below con calm off = by r.facts
     d : RowReading
     d = row_reading k.story.bus_state row
 
-    pl : IsPlain s p k
-    pl = run_state_plain s p was.standing.devices
-
     r : ConnectionRow s p row n
     r = connection_row s p row n o prompt was con calm off
 
@@ -55,17 +47,17 @@ heard_goes s p row n o prompt was lt below con calm off = by r.facts
     c = change_plain s row p was.standing.devices lt
 
     next : d.next ≡ connection (row ∷ p)
-    next = λ i. connection_after (pl.connection i) (pl.call i) (c i) row
+    next = λ i. connection_after (was.plain.connection i) (was.plain.call i) (c i) row
 
     quiet : d.change.before.rst ≡ false
     quiet = ap (λ (x : Change). x.before.rst) c ∙ calm
 
     may : begun p ≡ true → (bus p).req ≡ false → (offering_of s k n.target).follows ≡ false → may_leave s k n ≡ true
-    may b low none = all_3 k.exchange.begun (drives_of k n.target).req (offering_of s k n.target).follows (pl.begun ∙ b) (ap (λ (l : LineSet). l.req) (pl.drives n.target below) ∙ target_req s p n r.stage ∙ low) none
+    may b low none = all_3 k.exchange.begun (drives_of k n.target).req (offering_of s k n.target).follows (was.plain.begun ∙ b) (ap (λ (l : LineSet). l.req) (was.plain.drives n.target below) ∙ target_req s p n r.stage ∙ low) none
 
     turn : (g : Goes s p row n) → connection (row ∷ p) ≡ Some n → g.change ≡ d.change → changes_phase d.change ≡ true → (b : Bool) → begun p ≡ b → is_true_turn s k n d ≡ true
     turn g after same ep false b =
-        (λ i. (not ((pl.begun ∙ b) i) || may_leave s k n) && is_to (leaving_by (serving_of s k n.target) ((pl.begun ∙ b) i) (bus_of k)).to (phase_of d.change.after))
+        (λ i. (not ((was.plain.begun ∙ b) i) || may_leave s k n) && is_to (leaving_by (serving_of s k n.target) ((was.plain.begun ∙ b) i) (bus_of k)).to (phase_of d.change.after))
         ∙ ap (λ (x : Phase). is_to (Some Phase.MessageOut) x) (out_phase d.change.after (ap (λ (x : Change). is_message_out x.after) (sym same) ∙ g.first (ap changes_phase same ∙ ep) b))
     turn g after same ep true b =
         let gone = ap changes_phase same ∙ ep in
@@ -75,18 +67,10 @@ heard_goes s p row n o prompt was lt below con calm off = by r.facts
         (λ i. (not k.exchange.begun || may b low (g.over gone b).follows i) && is_to (to i) (phase_of d.change.after))
         ∙ (λ i. or_true (not k.exchange.begun) i && is_to (Some (phase_of (same i).after)) (phase_of d.change.after))
         ∙ same_self (phase_of d.change.after)
-      where
-        or_true : (q : Bool) → (q || true) ≡ true
-        or_true true = refl
-        or_true false = refl
 
     either : (g : Goes s p row n) → connection (row ∷ p) ≡ Some n → g.change ≡ d.change → (q : Bool) → changes_phase d.change ≡ q → (not (changes_phase d.change) || is_true_turn s k n d) ≡ true
     either g after same false ep = ap (λ (q : Bool). not q || is_true_turn s k n d) ep
     either g after same true ep = ap (λ (q : Bool). not (changes_phase d.change) || q) (turn g after same ep (begun p) refl) ∙ or_true (not (changes_phase d.change))
-      where
-        or_true : (q : Bool) → (q || true) ≡ true
-        or_true true = refl
-        or_true false = refl
 
     by : RowFacts s p row n → is_heard_on s k (run_state s (row ∷ p)) d (Some n) d.next ≡ true
     by (stays g) =

@@ -10,12 +10,11 @@ use proofs.Names.{MsgIn, ScenarioValue, Policy, reply_in, array_after, execution
 use proofs.Names.{check_condition, unit_not_supported, is_request_sense, is_opcode, needs_unit, range_in, Process}
 use proofs.Names.{context_at, Array, unit_state_at, nexus_of, row_reading, is_completion, process, Link, Story}
 use proofs.Names.{policy_of, runs_in, runs_in_all, one_message, bytes_of_messages, phase_of, Cause, Messages, Next}
-use proofs.Names.{Phase, Task, run_state_plain, progress_in, IsPlain, RunState, array_of, process_served, carried_here}
-use proofs.Names.{bus_of, run_state, serving_of, blocks_in, moved_count, reply_now, task_with, task_if, task_of}
-use proofs.{Names.{is_command_phase, is_in_phase, GoesOn, Begins, Ends, IsOutside}, Common.PhaseLines.{is_status}}
-use proofs.{Lines.{Connections.{stage_of_connection}, Joint.{Stood, link_unbegun}}, Places.Ends.{IsEndAsked}}
-use proofs.Places.{First.{IsSelectedFor}, Leavings.{HasOneRun}, Next.{SendsNone, IsResetAsked}, Rows.{PlaceAsked}}
-use proofs.{Places.{Stays.{IsStayAsked}, TurnRows.{TellsOf, IsTurnAsked}}, Talks.LastMessages.{one_run}}
+use proofs.Names.{Phase, Task, progress_in, RunState, array_of, process_served, carried_here, bus_of, run_state}
+use proofs.Names.{serving_of, blocks_in, moved_count, reply_now, task_with, task_if, task_of, is_command_phase}
+use proofs.Names.{is_in_phase, GoesOn, Begins, Ends, is_status, stage_of_connection, Stood, link_unbegun, IsOutside}
+use proofs.{Names.{one_run}, Places.{Ends.{IsEndAsked}, First.{IsSelectedFor}, Leavings.{HasOneRun}, Next.{SendsNone}}}
+use proofs.Places.{Next.{IsResetAsked}, Rows.{PlaceAsked}, Stays.{IsStayAsked}, TurnRows.{TellsOf, IsTurnAsked}}
 
 -- ---- commands of no blocks
 
@@ -97,12 +96,8 @@ outside_runs s k dev p served out = λ z t e. subst (λ (x : Task). nat_lt (x.ru
         by (inl z) = by_range (inquires p.cdb z)
         by (inr z) = by_range (no_blocks (command_of p.cdb) z)
 
-    kinds : IsOutside a p → nat_lt (task.runs + 1) (runs_in_all policy task) ≡ false
-    kinds (inl e) = absent e (needs_unit p.cdb) refl
-    kinds (inr e) = by_range (no_blocks (command_of p.cdb) e)
-
     one : nat_lt (task.runs + 1) (runs_in_all policy task) ≡ false
-    one = kinds out
+    one = elim out [ inl e ↦ absent e (needs_unit p.cdb) refl | inr e ↦ by_range (no_blocks (command_of p.cdb) e) ]
 
 -- ---- What is asked of a row, that the processes stand where they should after it, from what is owed of items, of what the rows tell and of
 -- the last message.
@@ -147,24 +142,21 @@ turn_asked : (s : ScenarioValue) (p : List Row) (row : Row) (n : Connection) (c 
 turn_asked s p row n c l was g owed = record {
   tells = owed.tells;
   unnamed = owed.unnamed;
-  unbegun = λ b. (ap (λ (x : LineSet). is_command_phase (phase_of x)) (sym g.row_is.bus_is ∙ pl.bus ∙ link_unbegun s p n (stage_of_connection s p n was con off) (sym pl.begun ∙ b)), ((was.books.speaks n g.row_is.connection_is g.calm).before_all b).cause_is);
+  unbegun = λ b. (ap (λ (x : LineSet). is_command_phase (phase_of x)) (sym g.row_is.bus_is ∙ was.plain.bus ∙ link_unbegun s p n (stage_of_connection s p n was con off) (sym was.plain.begun ∙ b)), ((was.books.speaks n g.row_is.connection_is g.calm).before_all b).cause_is);
   offers = owed.offers;
   few = λ e m. few (in_lines (bus_of k).msg (bus_of k).cd (bus_of k).io (λ z. (g.phase z).0) (ap is_in_phase e)) m;
   one_run = λ x e out. outside_runs s k n.target x e out;
-  history_is = sym (pl.array ∙ ap (λ (b : Story). array_after s b.history) (sym pl.story));
+  history_is = sym (was.plain.array ∙ ap (λ (b : Story). array_after s b.history) (sym was.plain.story));
 }
   where
     k : RunState
     k = run_state s p
 
-    pl : IsPlain s p k
-    pl = run_state_plain s p was.standing.devices
-
     con : connection p ≡ Some n
-    con = sym pl.connection ∙ g.row_is.connection_is
+    con = sym was.plain.connection ∙ g.row_is.connection_is
 
     off : (bus p).rst ≡ false
-    off = sym (ap (λ (x : LineSet). x.rst) pl.bus) ∙ g.calm
+    off = sym (ap (λ (x : LineSet). x.rst) was.plain.bus) ∙ g.calm
 
     few : ((bus_of k).msg ≡ true) × (is_message_in (bus_of k) ≡ true) → k.exchange.plan.messages ≡ one_message MsgIn.CommandComplete → k.handshakes.requests - 1 ≡ 0
     few e m =

@@ -4,8 +4,8 @@ use Rattle.trace_laws.proofs
 use proofs.Names.{inl, inr, ℕ, ◌≡◌, ◌⊎◌, Bool, true, false, not, ◌&&◌, ◌∙◌, List, [], ◌∷◌, Option, Some, None, refl}
 use proofs.Names.{sym, ap, subst, same_Some, list_any, if◌then◌else◌, is_some, wrong, wrong', Event, ProcId}
 use proofs.Names.{ScenarioValue, Policy, array_step, array_after, Process, Array, is_refuse, status_event, queue_event}
-use proofs.Names.{Serving, phase_leaving, Arrival, Leaving, Next, Phase, is_refusal, IsUntouched, IsAtRest, RunsOpen}
-use proofs.{Names.{AnsweredOpen, PlacedBefore, disconnects}, Common.{Impossible.{none_some}, PhaseLines.{is_status}}}
+use proofs.Names.{Serving, phase_leaving, Arrival, Leaving, Next, Phase, is_refusal, none_some, is_status, by_bool}
+use proofs.Names.{by_option, IsUntouched, IsAtRest, RunsOpen, AnsweredOpen, PlacedBefore, disconnects}
 use proofs.Places.Events.{Passes, passes_on, Turned, turned_fails, turned_none, ArrivesAs, plan_for, accepts}
 use proofs.Places.{Events.{refusal_planned, refused_so}, Leavings.{LeadsRunning, LeavesStruck, restores, fails, frees}}
 use proofs.Places.{Leavings.{from_struck_command, ArrivedTo, from_command}, Turns.{Standing, PlacedNext, none_shown}}
@@ -73,7 +73,15 @@ arrived_turn s a b p policy failure l phase Arrival.Queued st passes e planned h
 -- ---- no byte was struck
 
 whole_turn : (s : ScenarioValue) (a : Array) (p : Process) (v : Serving) (atn : Bool) (policy : Policy) (history : List Event) (failure : Option ℕ) (phase : Phase) → Standing s a p → IsUntouched a p.id → v.plan.struck ≡ false → (v.task ≡ None → ⊥) → v.arrival ≡ plan_for policy a p → array_after s history ≡ Some a → (phase_leaving v atn Phase.Command).to ≡ Some phase → (phase ≡ Phase.MessageOut → ⊥) → Turns s a p (command_shown s history p.id failure true phase) (phase_leaving v atn Phase.Command) phase
-whole_turn s a p v atn policy history failure phase st h struck task planned hist to out = go (Steps.step s (Event.Accept p.id) a) refl
+whole_turn s a p v atn policy history failure phase st h struck task planned hist to out =
+    by_option (Steps.step s (Event.Accept p.id) a)
+    (λ e.
+    let is : Phase.Status ≡ phase = same_Some Phase.Status phase (sym (leads Arrival.Refused (refusal_planned s a p policy st.process_is e)) ∙ to) in
+    shown (Event.Refuse p.id) (queue_is None e)
+    (subst (λ (x : Phase). Turns s a p (with_reply p.id failure x (Event.Refuse p.id ∷ [])) l x) is (refused_so s a p st.seats st.sound st.within st.process_is h e)))
+    (λ b e.
+    let k = accepts s a b p policy st.seats st.sound st.within st.process_is h e in
+    shown (Event.Accept p.id) (queue_is (Some b) e) (arrived_turn s a b p policy failure l phase (plan_for policy a p) st k.passes e k.planned k.arrived (leads (plan_for policy a p) refl) to out))
   where
     l : Leaving
     l = phase_leaving v atn Phase.Command
@@ -91,15 +99,6 @@ whole_turn s a p v atn policy history failure phase st h struck task planned his
     shown : (event : Event) → queue_event s history p.id ≡ event → Turns s a p (with_reply p.id failure phase (event ∷ [])) l phase → Turns s a p (command_shown s history p.id failure true phase) l phase
     shown event e t = subst (λ (x : Event). Turns s a p (with_reply p.id failure phase (x ∷ [])) l phase) (sym e) t
 
-    go : (x : Option Array) → Steps.step s (Event.Accept p.id) a ≡ x → Turns s a p (command_shown s history p.id failure true phase) l phase
-    go (Some b) e =
-        let k = accepts s a b p policy st.seats st.sound st.within st.process_is h e in
-        shown (Event.Accept p.id) (queue_is (Some b) e) (arrived_turn s a b p policy failure l phase (plan_for policy a p) st k.passes e k.planned k.arrived (leads (plan_for policy a p) refl) to out)
-    go None e =
-        let is : Phase.Status ≡ phase = same_Some Phase.Status phase (sym (leads Arrival.Refused (refusal_planned s a p policy st.process_is e)) ∙ to) in
-        shown (Event.Refuse p.id) (queue_is None e)
-        (subst (λ (x : Phase). Turns s a p (with_reply p.id failure x (Event.Refuse p.id ∷ [])) l x) is (refused_so s a p st.seats st.sound st.within st.process_is h e))
-
 -- What is asked as COMMAND is left.
 pub record IsCommandLeft (s : ScenarioValue) (a : Array) (p : Process) (v : Serving) (history : List Event) (failure : Option ℕ) (whole : Bool) : Type 0 where
   pub policy : Policy
@@ -110,12 +109,11 @@ pub record IsCommandLeft (s : ScenarioValue) (a : Array) (p : Process) (v : Serv
   pub code : v.plan.struck ≡ true → is_some failure ≡ true
 
 pub command_turns : (s : ScenarioValue) (a : Array) (p : Process) (v : Serving) (atn : Bool) (history : List Event) (failure : Option ℕ) (whole : Bool) (phase : Phase) → Standing s a p → IsUntouched a p.id → IsCommandLeft s a p v history failure whole → (phase_leaving v atn Phase.Command).to ≡ Some phase → (phase ≡ Phase.MessageOut → ⊥) → Turns s a p (command_shown s history p.id failure whole phase) (phase_leaving v atn Phase.Command) phase
-command_turns s a p v atn history failure whole phase st h left to out = go v.plan.struck refl
-  where
-    go : (q : Bool) → v.plan.struck ≡ q → Turns s a p (command_shown s history p.id failure whole phase) (phase_leaving v atn Phase.Command) phase
-    go true e =
-        subst (λ (x : Bool). Turns s a p (command_shown s history p.id failure x phase) (phase_leaving v atn Phase.Command) phase) (sym (left.whole_is ∙ ap not e))
-        (struck_turn s a p v atn history failure phase st h e (left.code e) to)
-    go false e =
-        subst (λ (x : Bool). Turns s a p (command_shown s history p.id failure x phase) (phase_leaving v atn Phase.Command) phase) (sym (left.whole_is ∙ ap not e))
-        (whole_turn s a p v atn left.policy history failure phase st h e left.task left.planned left.history_is to out)
+command_turns s a p v atn history failure whole phase st h left to out =
+    by_bool v.plan.struck
+    (λ e.
+    subst (λ (x : Bool). Turns s a p (command_shown s history p.id failure x phase) (phase_leaving v atn Phase.Command) phase) (sym (left.whole_is ∙ ap not e))
+    (struck_turn s a p v atn history failure phase st h e (left.code e) to))
+    (λ e.
+    subst (λ (x : Bool). Turns s a p (command_shown s history p.id failure x phase) (phase_leaving v atn Phase.Command) phase) (sym (left.whole_is ∙ ap not e))
+    (whole_turn s a p v atn left.policy history failure phase st h e left.task left.planned left.history_is to out))

@@ -4,11 +4,10 @@ use proofs.Names.{inl, inr, ◌≡◌, ◌⊎◌, ◌<◌, Bool, true, false, �
 use proofs.Names.{is_some, if◌then◌else◌, wrong, ProcId, LineSet, connection, bus, Row, Change, Connection}
 use proofs.Names.{ScenarioValue, Obeys, RowReading, row_reading, process, Link, complete, disconnect, policy_of}
 use proofs.Names.{Serving, phase_of, phase_entry, with_task, next_data_phase, phase_leaving, message_out_leaving}
-use proofs.Names.{after_messages, leaving_by, Cause, Leaving, Next, Phase, Task, run_state_plain, IsPrompt, IsPlain}
-use proofs.Names.{AreOfDevices, RunState, bus_of, item_of, process_item, run_state, serving_of, leaving, task_of}
-use proofs.Names.{reading_is, Knows, Ends, change_plain, least_is, PlaceFacts, Tells, LastIn, TellsAsLeft}
-use proofs.{Common.Impossible.{some_none}, Lines.{Connections.{connection_row}, Crossings.{RowFacts, stays, ends_here}}}
-use proofs.{Lines.Joint.{Stood}, Places.TurnRows.{no_task}, Tells.Ends.{naming_goes_on}}
+use proofs.Names.{after_messages, leaving_by, Cause, Leaving, Next, Phase, Task, IsPrompt, RunState, bus_of, item_of}
+use proofs.Names.{process_item, run_state, serving_of, leaving, task_of, reading_is, Knows, Ends, change_plain}
+use proofs.Names.{least_is, some_none, connection_row, RowFacts, stays, ends_here, Stood, PlaceFacts, Tells, LastIn}
+use proofs.{Names.{TellsAsLeft, naming_goes_on}, Places.TurnRows.{no_task}}
 
 pub record EndTold (k : RunState) (l : Link) : Type 0 where
   pub named : (id : ProcId) → k.served ≡ Some (process id) → l.item ≡ Some (process id)
@@ -39,26 +38,20 @@ end_told s p row n l o prompt was h left g calm link = record { named = named; n
     v : Serving
     v = serving_of s k n.target
 
-    dv : AreOfDevices p
-    dv = was.standing.devices
-
     lt : row.dev < 8
     lt = (least_is s p row prompt.1).inside
 
-    pl : IsPlain s p k
-    pl = run_state_plain s p dv
-
     con : connection p ≡ Some n
-    con = sym pl.connection ∙ g.connection_is
+    con = sym was.plain.connection ∙ g.connection_is
 
     off : (bus p).rst ≡ false
-    off = sym (ap (λ (x : LineSet). x.rst) pl.bus) ∙ g.calm
+    off = sym (ap (λ (x : LineSet). x.rst) was.plain.bus) ∙ g.calm
 
     off_after : (bus (row ∷ p)).rst ≡ false
-    off_after = sym (ap (λ (x : Change). x.after.rst) (change_plain s row p dv lt)) ∙ calm
+    off_after = sym (ap (λ (x : Change). x.after.rst) (change_plain s row p was.standing.devices lt)) ∙ calm
 
     freed : RowFacts s p row n → (k.exchange.begun ≡ true) × ((leaving s k n.target).to ≡ None)
-    freed (ends_here f) = (pl.begun ∙ f.begun_is, f.whereto)
+    freed (ends_here f) = (was.plain.begun ∙ f.begun_is, f.whereto)
     freed (stays f) =
         let some : (row_reading k.story.bus_state row).next ≡ Some n = ap (λ (x : RowReading). x.next) (reading_is k row n f.change _ f.row_is refl) in
         some_none n (sym some ∙ g.next_is)
@@ -102,19 +95,13 @@ end_told s p row n l o prompt was h left g calm link = record { named = named; n
 
 -- A phase has begun then.
 pub end_begun : (s : ScenarioValue) (p : List Row) (row : Row) (n : Connection) → Obeys s → IsPrompt s (row ∷ p) → Stood s p → Ends s (run_state s p) row n → (row_reading (run_state s p).story.bus_state row).change.after.rst ≡ false → (run_state s p).exchange.begun ≡ true
-end_begun s p row n o prompt was g calm = freed (connection_row s p row n o prompt was (sym pl.connection ∙ g.connection_is) (sym (ap (λ (x : LineSet). x.rst) pl.bus) ∙ g.calm) (sym (ap (λ (x : Change). x.after.rst) (change_plain s row p dv (least_is s p row prompt.1).inside)) ∙ calm)).facts
+end_begun s p row n o prompt was g calm = freed (connection_row s p row n o prompt was (sym was.plain.connection ∙ g.connection_is) (sym (ap (λ (x : LineSet). x.rst) was.plain.bus) ∙ g.calm) (sym (ap (λ (x : Change). x.after.rst) (change_plain s row p was.standing.devices (least_is s p row prompt.1).inside)) ∙ calm)).facts
   where
     k : RunState
     k = run_state s p
 
-    dv : AreOfDevices p
-    dv = was.standing.devices
-
-    pl : IsPlain s p k
-    pl = run_state_plain s p dv
-
     freed : RowFacts s p row n → k.exchange.begun ≡ true
-    freed (ends_here f) = pl.begun ∙ f.begun_is
+    freed (ends_here f) = was.plain.begun ∙ f.begun_is
     freed (stays f) =
         let some : (row_reading k.story.bus_state row).next ≡ Some n = ap (λ (x : RowReading). x.next) (reading_is k row n f.change _ f.row_is refl) in
         some_none n (sym some ∙ g.next_is)

@@ -7,10 +7,10 @@ use proofs.Names.{RowReading, row_reading, item_loss_events, abort_line_at, abor
 use proofs.Names.{bus_free_events, connection_events, link_events, row_events_by, Item, process, abort, Link}
 use proofs.Names.{LastMessage, plain, complete, disconnect, abortive, one_message, phase_of, Cause, Messages, Next}
 use proofs.Names.{Phase, Plan, RunState, bus_of, process_item, process_served, array_after_events, is_command_phase}
-use proofs.Names.{id_is as ids_are, self_id, is_served_by, is_out_phase, AreWithin, IsUntouched, IsAtRest, Closes}
-use proofs.Names.{completes, disconnects, PlacedBefore, PlacedAsked, PlacedIn, PlacedIf, HasPlaces}
-use proofs.{Common.PhaseLines.{is_status, is_data_phase}, Events.{Answered.{lost_is, leaves}, Others.{rests_after}}}
-use proofs.{Events.Others.{untouched_after}, Places.{Events.{Passes, passes_same, passes_step}, Turned.{other_id}}}
+use proofs.Names.{id_is as ids_are, self_id, is_served_by, is_out_phase, is_status, is_data_phase, by_bool, lost_is}
+use proofs.Names.{leaves, rests_after, untouched_after, AreWithin, IsUntouched, IsAtRest, Closes, completes}
+use proofs.{Names.{disconnects, PlacedBefore, PlacedAsked, PlacedIn, PlacedIf, HasPlaces}, Places.Events.{Passes}}
+use proofs.Places.{Events.{passes_same, passes_step}, Turned.{other_id}}
 use Rattle.bus_due.specs.disk_array.proofs.SoundArrays.{id_is}
 use Rattle.bus_due.specs.disk_array.specs.Steps
 
@@ -52,25 +52,21 @@ open_before a p m Next.FreeBus (completes e h) = h.open_is
 open_before a p m Next.FreeBus (disconnects e h o q) = o
 
 open_asked : (a : Array) (p : Process) (plan : Plan) (cause : Cause) → PlacedAsked a p plan cause → has_ended a p.id ≡ false
-open_asked a p plan Cause.Selected h = h.open_is
 open_asked a p plan Cause.InMessage h = open_before a p plan.messages plan.next h
-open_asked a p plan Cause.InData h = h.open_is
-open_asked a p plan Cause.InStatus h = h.open_is
+open_asked a p plan _ h = h.open_is
 
 -- Whether or not it is known, by its number.
 all_rest : (s : ScenarioValue) (a b : Array) (id : ProcId) → Passes s a b id → ((other : ProcId) → same_id id other ≡ false → IsAtRest a other) → IsAtRest b id → (other : ProcId) → IsAtRest b other
-all_rest s a b id passes rests own other = go (same_id id other) refl
-  where
-    go : (q : Bool) → same_id id other ≡ q → IsAtRest b other
-    go true e = subst (λ (x : ProcId). IsAtRest b x) (ids_are id other e) own
-    go false e = passes.rests other e (rests other e)
+all_rest s a b id passes rests own other =
+    by_bool (same_id id other)
+    (λ e. subst (λ (x : ProcId). IsAtRest b x) (ids_are id other e) own)
+    (λ e. passes.rests other e (rests other e))
 
 served_other : (x id : ProcId) → same_id x id ≡ false → is_served_by (Some (process x)) id ≡ false
-served_other x id e = go (is_served_by (Some (process x)) id) refl
-  where
-    go : (q : Bool) → is_served_by (Some (process x)) id ≡ q → is_served_by (Some (process x)) id ≡ false
-    go false z = z
-    go true z = wrong (sym (ap (λ (y : ProcId). same_id x y) (ids_are id x z) ∙ self_id x) ∙ e)
+served_other x id e =
+    by_bool (is_served_by (Some (process x)) id)
+    (λ z. wrong (sym (ap (λ (y : ProcId). same_id x y) (ids_are id x z) ∙ self_id x) ∙ e))
+    (λ z. z)
 
 -- Nothing is shown, or an abort.
 data IsQuietOrAbort (xs : List Event) : Type 0 where
@@ -180,14 +176,10 @@ end_row s k row n l h seats con off begun calm none link item asked = by_served 
         drops (Some (abort m)) g = line (abort_line_at s.aborts m)
 
     alone_item : (x : Option Item) → k.served ≡ x → ((id : ProcId) → x ≡ Some (process id) → ⊥) → (id : ProcId) → l.item ≡ Some (process id) → ⊥
-    alone_item x e f id z = by item
+    alone_item x e f id z = elim item [ inl y ↦ f id (sym e ∙ sym y ∙ z) | inr y ↦ some_none (sym z ∙ y) ]
       where
         some_none : Some (process id) ≡ (let o : Option Item = None in o) → ⊥
         some_none y = cc
-
-        by : (l.item ≡ k.served) ⊎ (l.item ≡ None) → ⊥
-        by (inl y) = f id (sym e ∙ sym y ∙ z)
-        by (inr y) = some_none (sym z ∙ y)
 
     of_none : (x : Option Item) → k.served ≡ x → process_served s k ≡ None → ((id : ProcId) → is_served_by x id ≡ false) → ((id : ProcId) → x ≡ Some (process id) → ⊥) → HasFreed s k row a
     of_none x e none_here alone f =

@@ -2,17 +2,17 @@
 -- then (6.1.6, 7.3, 7.8).
 use Rattle.trace_laws.proofs
 use proofs.Names.{inl, inr, ℕ, suc, ◌≡◌, Bool, true, false, not, ◌&&◌, ◌||◌, ◌∙◌, List, [], ◌∷◌, length, Option, Some}
-use proofs.Names.{None, refl, sym, ap, subst, arith, ◌==◌, eqb-true, list_any, if◌then◌else◌, nat_lt, wrong, Event}
-use proofs.Names.{ProcId, LineSet, command_of, ScenarioValue, Policy, step_sound, is_request_sense, aborted_reply}
-use proofs.Names.{Process, process_of, same_id, IsSound, HasSeats, process_count, has_ended, UnitState, Array}
-use proofs.Names.{unit_state_at, is_held, has_no_current, settled_array, CarriedBytes, is_whole_block, queue_event}
-use proofs.Names.{queue_events, is_refuse, status_event, status_events, Story, arrival_by, is_never, phase_of, Arrival}
-use proofs.Names.{Phase, array_after_events, is_idle_unit, room_of, is_command_phase, is_refusal, AreWithin}
-use proofs.{Names.{IsUntouched, IsAtRest, IsOutside, RunsOpen, AnsweredOpen, is_queued}, Common.Impossible.{some_none}}
-use proofs.{Common.PhaseLines.{is_status}, Events.Answered.{run_is, run_answers, fail_is, fail_answers}}
-use proofs.Events.Arriving.{queued, queued_rests, guest_may_run, at_once_may_run, guest_answered, Arrives, as_guest}
-use proofs.Events.{Arriving.{in_queue, arrives, refused_array, refuses, fails_new}, Depths.{within_after}}
-use proofs.Events.{Others.{is_of, untouched_after, rests_after, executed}, Queues.{queued_stands}}
+use proofs.Names.{None, refl, sym, ap, subst, arith, ◌==◌, eqb-true, list_any, if◌then◌else◌, nat_lt, wrong, and_second}
+use proofs.Names.{Event, ProcId, LineSet, command_of, ScenarioValue, Policy, step_sound, is_request_sense}
+use proofs.Names.{aborted_reply, Process, process_of, same_id, IsSound, HasSeats, process_count, has_ended, UnitState}
+use proofs.Names.{Array, unit_state_at, is_held, has_no_current, settled_array, CarriedBytes, is_whole_block}
+use proofs.Names.{queue_event, queue_events, is_refuse, status_event, status_events, Story, arrival_by, is_never}
+use proofs.Names.{phase_of, Arrival, Phase, array_after_events, is_idle_unit, room_of, is_command_phase, is_refusal}
+use proofs.Names.{some_none, is_status, by_bool, run_is, run_answers, fail_is, fail_answers, queued, queued_rests}
+use proofs.Names.{guest_may_run, at_once_may_run, guest_answered, as_guest, in_queue, arrives, refused_array, fails_new}
+use proofs.Names.{within_after, is_of, untouched_after, rests_after, executed, queued_stands, AreWithin, IsUntouched}
+use proofs.Names.{IsAtRest, IsOutside, RunsOpen, AnsweredOpen, is_queued}
+use Rattle.story_laws.specs.row_laws.proofs.Events.Arriving.{Arrives, refuses}
 use Rattle.bus_due.specs.disk_array.specs.Steps
 
 -- ---- what events of one process leave of the array
@@ -147,24 +147,19 @@ accepts s a b p policy seats sound within e h f = go (arrives s a b p e f)
     go (as_guest out z) =
         made Arrival.Guest (guest_planned policy a p out) refl
         (subst (λ (x : Array). RunsOpen x p) (sym z) (record { runs = guest_may_run a p out h; open_is = h.open_is }))
-    go (in_queue u at senses room z) = by (is_never policy && is_idle_unit a u) refl
+    go (in_queue u at senses room z) =
+        by_bool (is_never policy && is_idle_unit a u)
+        (λ w.
+        let i = idle_is a u (and_second (is_never policy) (is_idle_unit a u) w) in
+        made Arrival.AtOnce (planned ∙ ap (λ (q : Bool). if q then Arrival.AtOnce else Arrival.Queued) w) refl
+        (subst (λ (x : Array). RunsOpen x p × IsAtRest x p.id) (sym z) (record { runs = at_once_may_run a p u at i.none_waits i.none_runs i.free h; open_is = h.open_is }, queued_rests a p u at h)))
+        (λ w.
+        made Arrival.Queued (planned ∙ ap (λ (q : Bool). if q then Arrival.AtOnce else Arrival.Queued) w) refl
+        (subst (λ (x : Array). IsAtRest x p.id × (has_ended x p.id ≡ false) × (is_queued x.units p.id ≡ true)) (sym z)
+        (queued_rests a p u at h, h.open_is, queued_stands a p u at)))
       where
         planned : plan_for policy a p ≡ (if is_never policy && is_idle_unit a u then Arrival.AtOnce else Arrival.Queued)
         planned = in_queue_planned policy a p u true at senses room
-
-        idle : (x y : Bool) → (x && y) ≡ true → y ≡ true
-        idle true y k = k
-        idle false y k = wrong (sym k)
-
-        by : (q : Bool) → (is_never policy && is_idle_unit a u) ≡ q → Accepted s a p policy b
-        by true w =
-            let i = idle_is a u (idle (is_never policy) (is_idle_unit a u) w) in
-            made Arrival.AtOnce (planned ∙ ap (λ (q : Bool). if q then Arrival.AtOnce else Arrival.Queued) w) refl
-            (subst (λ (x : Array). RunsOpen x p × IsAtRest x p.id) (sym z) (record { runs = at_once_may_run a p u at i.none_waits i.none_runs i.free h; open_is = h.open_is }, queued_rests a p u at h))
-        by false w =
-            made Arrival.Queued (planned ∙ ap (λ (q : Bool). if q then Arrival.AtOnce else Arrival.Queued) w) refl
-            (subst (λ (x : Array). IsAtRest x p.id × (has_ended x p.id ≡ false) × (is_queued x.units p.id ≡ true)) (sym z)
-            (queued_rests a p u at h, h.open_is, queued_stands a p u at))
 
 -- It is refused, and planned so.
 pub refusal_planned : (s : ScenarioValue) (a : Array) (p : Process) (policy : Policy) → process_of s p.id ≡ Some p → Steps.step s (Event.Accept p.id) a ≡ None → plan_for policy a p ≡ Arrival.Refused

@@ -8,14 +8,12 @@ use proofs.Names.{row_reading, RowReading, is_complete, is_completion, process, 
 use proofs.Names.{phase_leaving, message_out_leaving, after_messages, leaving_by, Cause, Leaving, Phase}
 use proofs.Names.{run_state_plain, IsPrompt, IsPlain, AreOfDevices, RunState, bus_of, item_of, process_item}
 use proofs.Names.{carried_here, or_start, run_state, serving_of, leaving, is_command_phase, reading_is, Knows, GoesOn}
-use proofs.Names.{Ends, change_plain, least_is, fault_change, change_to, no_rise, CloseFacts, PlaceFacts, TellFacts}
-use proofs.{Names.{AreRepliesShown, code_if, FailsIn, Tells, TellsAsLeft}, Closes.Asks.{CompletesAsGiven, stay_asked}}
-use proofs.{Closes.Ends.{taken_in, lost_in, lost_by}, Common.{Impossible.{none_some}, PhaseLines.{out_phase}}}
-use proofs.{Common.PhaseLines.{is_status}, Lines.Connections.{connection_row, stage_of_connection}}
-use proofs.Lines.{Crossings.{RowFacts, stays, ends_here}, Joint.{Stood, NextStood, link_unbegun}}
-use proofs.Places.{Asks.{places_asked}, EndTells.{end_told, end_begun}, Ends.{IsEndAsked}, Joins.{PlaceLeft}}
-use proofs.Places.{Joins.{places_owed}, Leavings.{Repeats, commands, again, leaves, from_refusal}, Rows.{places_next}}
-use proofs.{Places.TurnRows.{TellsOf}, Tells.Events.{whole_block}}
+use proofs.Names.{Ends, change_plain, fault_change, least_is, change_to, no_rise, none_some, out_phase, is_status}
+use proofs.Names.{connection_row, stage_of_connection, RowFacts, stays, ends_here, Stood, NextStood, link_unbegun}
+use proofs.Names.{PlaceFacts, AreRepliesShown, code_if, FailsIn, Tells, TellsAsLeft, whole_block, TellFacts, CloseFacts}
+use proofs.{Closes.{Asks.{CompletesAsGiven, stay_asked}, Ends.{taken_in, lost_in, lost_by}}, Places.Asks.{places_asked}}
+use proofs.Places.{EndTells.{end_told, end_begun}, Ends.{IsEndAsked}, Joins.{PlaceLeft, places_owed}}
+use proofs.Places.{Leavings.{Repeats, commands, again, leaves, from_refusal}, Rows.{places_next}, TurnRows.{TellsOf}}
 use Rattle.bus_due.specs.disk_array.proofs.SoundArrays.{id_is}
 
 coded : (q : Bool) (failure : Option ℕ) → failure ≡ code_if q PARITY_ERROR → q ≡ true → is_some failure ≡ true
@@ -32,20 +30,14 @@ turn_tells s p row n c id lt was h shown left g ep begun served = record {
     k : RunState
     k = run_state s p
 
-    dv : AreOfDevices p
-    dv = was.standing.devices
-
-    pl : IsPlain s p k
-    pl = run_state_plain s p dv
-
     turning : changes_phase (row_reading k.story.bus_state row).change ≡ true
     turning = ap changes_phase g.row_is.change_is ∙ ep
 
     tells : Tells s k n
     tells = left n (record {
-      stands = sym pl.connection ∙ g.row_is.connection_is;
-      calm = sym (ap (λ (x : LineSet). x.rst) pl.bus) ∙ g.calm;
-      calm_after = sym (ap (λ (x : Change). x.after.rst) (change_plain s row p dv lt)) ∙ ap (λ (x : Change). x.after.rst) g.row_is.change_is ∙ g.row_is.calm;
+      stands = sym was.plain.connection ∙ g.row_is.connection_is;
+      calm = sym (ap (λ (x : LineSet). x.rst) was.plain.bus) ∙ g.calm;
+      calm_after = sym (ap (λ (x : Change). x.after.rst) (change_plain s row p was.standing.devices lt)) ∙ ap (λ (x : Change). x.after.rst) g.row_is.change_is ∙ g.row_is.calm;
       begun = begun;
       leaves = inl turning;
     })
@@ -113,26 +105,20 @@ unnamed_turn s p row n c l o prompt was next left g ep link none = by_begun k.ex
     v : Serving
     v = serving_of s k n.target
 
-    dv : AreOfDevices p
-    dv = was.standing.devices
-
     lt : row.dev < 8
     lt = (least_is s p row prompt.1).inside
 
-    pl : IsPlain s p k
-    pl = run_state_plain s p dv
-
     pl2 : IsPlain s (row ∷ p) (run_state s (row ∷ p))
-    pl2 = run_state_plain s (row ∷ p) (lt, dv)
+    pl2 = run_state_plain s (row ∷ p) (lt, was.standing.devices)
 
     con : connection p ≡ Some n
-    con = sym pl.connection ∙ g.row_is.connection_is
+    con = sym was.plain.connection ∙ g.row_is.connection_is
 
     off : (bus p).rst ≡ false
-    off = sym (ap (λ (x : LineSet). x.rst) pl.bus) ∙ g.calm
+    off = sym (ap (λ (x : LineSet). x.rst) was.plain.bus) ∙ g.calm
 
     calm : (bus (row ∷ p)).rst ≡ false
-    calm = sym (ap (λ (x : Change). x.after.rst) (change_plain s row p dv lt)) ∙ ap (λ (x : Change). x.after.rst) g.row_is.change_is ∙ g.row_is.calm
+    calm = sym (ap (λ (x : Change). x.after.rst) (change_plain s row p was.standing.devices lt)) ∙ ap (λ (x : Change). x.after.rst) g.row_is.change_is ∙ g.row_is.calm
 
     before : phase_of c.before ≡ phase_of (bus_of k)
     before = ap phase_of (sym g.row_is.bus_is)
@@ -140,7 +126,7 @@ unnamed_turn s p row n c l o prompt was next left g ep link none = by_begun k.ex
     whereto : k.exchange.begun ≡ true → RowFacts s p row n → (leaving s k n.target).to ≡ Some (phase_of c.after)
     whereto b (stays f) =
         let is : f.change ≡ c = sym f.row_is.change_is ∙ g.row_is.change_is in
-        f.whereto (ap changes_phase is ∙ ep) (sym pl.begun ∙ b) ∙ ap (λ (x : Change). Some (phase_of x.after)) is
+        f.whereto (ap changes_phase is ∙ ep) (sym was.plain.begun ∙ b) ∙ ap (λ (x : Change). Some (phase_of x.after)) is
     whereto b (ends_here f) =
         let some : (row_reading k.story.bus_state row).next ≡ Some n = ap (λ (x : RowReading). x.next) (reading_is k row n c _ g.row_is refl) in
         none_some n (sym f.stopped ∙ sym pl2.connection ∙ some)
@@ -168,7 +154,7 @@ unnamed_turn s p row n c l o prompt was next left g ep link none = by_begun k.ex
         to = ap (λ (q : Bool). (leaving_by v q (bus_of k)).to) (sym b) ∙ whereto b (connection_row s p row n o prompt was con off calm).facts
     by_begun false b =
         let m : is_message_out c.after ≡ true = ap (λ (x : Change). is_message_out x.after) (sym g.row_is.change_is) ∙ g.first (ap changes_phase g.row_is.change_is ∙ ep) b in
-        (ap is_status (out_phase c.after m), ap (λ (x : LineSet). is_command_phase (phase_of x)) (sym g.row_is.bus_is ∙ pl.bus ∙ link_unbegun s p n (stage_of_connection s p n was con off) (sym pl.begun ∙ b)))
+        (ap is_status (out_phase c.after m), ap (λ (x : LineSet). is_command_phase (phase_of x)) (sym g.row_is.bus_is ∙ was.plain.bus ∙ link_unbegun s p n (stage_of_connection s p n was con off) (sym was.plain.begun ∙ b)))
 
 -- ---- After a row of a prompt trace the process that a target serves stands in the plain disk array where the phase says.
 

@@ -7,12 +7,10 @@ use proofs.Names.{Story, story_after_events, aim_of, story_with_restored, story_
 use proofs.Names.{story_on_bus, story_by_change, Exchange, no_messages, phase_of, first_plan, Ready, Next, Phase}
 use proofs.Names.{RunState, or_start, bus_of, process_item, process_served, run_state_after, array_after_events}
 use proofs.Names.{first_exchange, may_negotiate, item_if, messages_if, ready_of, ready_among, seek_of, self_id}
-use proofs.Names.{is_served_by, IsItem, is_process, IsFirstRow, Begins, IsUntouched, IsAtRest, RunsOpen, PlacedBefore}
-use proofs.{Names.{PlacedIn, PlacedIf, HasPlaces}, Common.{Impossible.{some_none, none_some}, PhaseLines.{in_phase}}}
-use proofs.{Events.Arriving.{not_running}, Items.Sent.{less_has}, Named.First.{first_sent}, Places.Next.{apart_shown}}
-use proofs.{Places.Ready.{MayBeReady, ready_runs}, Pointers.Begins.{first_served, first_made}}
+use proofs.Names.{is_served_by, IsItem, is_process, is_abort, IsFirstRow, Begins, some_none, none_some, in_phase}
+use proofs.Names.{not_running, IsUntouched, IsAtRest, RunsOpen, PlacedBefore, PlacedIn, PlacedIf, HasPlaces, less_has}
+use proofs.{Names.{first_sent, first_served, first_made}, Places.{Next.{apart_shown}, Ready.{MayBeReady, ready_runs}}}
 use Rattle.bus_due.specs.disk_array.proofs.SoundArrays.{id_is}
-use Rattle.bus_books.specs.Items.{is_abort}
 
 -- What a selection is for: an item of the scenario that was not sent.
 pub record IsSelectedFor (s : ScenarioValue) (k : RunState) (n : Connection) : Type 0 where

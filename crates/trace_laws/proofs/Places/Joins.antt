@@ -5,14 +5,13 @@ use proofs.Names.{ap, if◌then◌else◌, is_some, wrong, wrong', ProcId, chang
 use proofs.Names.{is_message_out, call, connection, connection_after, connection_of, is_fault, bus, Row, Change}
 use proofs.Names.{Connection, ScenarioValue, Obeys, Array, events_sent, RowReading, row_reading, is_completion}
 use proofs.Names.{row_events_by, Sent, process, Link, Story, story_in_connection, story_on_bus, story_by_change}
-use proofs.Names.{phase_of, Cause, Next, Phase, Said, run_state_plain, IsPrompt, IsPlain, AreOfDevices, RunState}
-use proofs.Names.{bus_of, run_state, is_command_phase, aims_are, is_out_phase, Speaks, GoesOn, Begins, Ends}
-use proofs.Names.{change_plain, least_is, ItemFacts, OfferFacts, Offers, IsHeardOut, opens, repeats, answers_it}
-use proofs.{Names.{detects, is_detected}, Common.{Impossible.{some_none}, PhaseLines.{is_status}}}
-use proofs.{Items.{Facts.{rst_raised}, Fresh.{items_fresh}, Row.{inside_sent}, Sent.{free_keeps}}, Lines.Joint.{Stood}}
-use proofs.{Lines.Plans.{is_in_message}, Offers.Leavings.{parity_said, all_said}, Places.Asks.{PlaceOwed}}
-use proofs.Places.{Ends.{IsEndAsked}, First.{IsSelectedFor}, Next.{SendsNone, IsResetAsked}, Stays.{IsStayAsked}}
-use proofs.Places.TurnRows.{TellsOf}
+use proofs.Names.{phase_of, Cause, Next, Phase, IsPrompt, RunState, bus_of, run_state, is_command_phase, aims_are}
+use proofs.Names.{is_out_phase, Speaks, GoesOn, Begins, Ends, change_plain, least_is, some_none, is_status, Stood}
+use proofs.Names.{is_in_message, ItemFacts, OfferFacts, Offers, IsHeardOut, opens, repeats, answers_it, detects}
+use proofs.Names.{is_detected, rst_raised, items_fresh, inside_sent, free_keeps, parity_said, all_said}
+use proofs.Places.{Asks.{PlaceOwed}, Ends.{IsEndAsked}, First.{IsSelectedFor}, Next.{SendsNone, IsResetAsked}}
+use proofs.Places.{Stays.{IsStayAsked}, TurnRows.{TellsOf}}
+use Rattle.bus_due.specs.bus_dialogue.specs.declared.exchange.Said.{Said}
 
 -- ---- what is sent
 
@@ -91,24 +90,18 @@ places_owed s p row a o prompt was items offers left = record {
     q : List Row
     q = row ∷ p
 
-    dv : AreOfDevices p
-    dv = was.standing.devices
-
     lt : row.dev < 8
     lt = (least_is s p row prompt.1).inside
 
-    pl : IsPlain s p k
-    pl = run_state_plain s p dv
-
     c : d.change ≡ change_of p row
-    c = change_plain s row p dv lt
+    c = change_plain s row p was.standing.devices lt
 
     reads : d.next ≡ connection q
-    reads = λ i. connection_after (pl.connection i) (pl.call i) (c i) row
+    reads = λ i. connection_after (was.plain.connection i) (was.plain.call i) (c i) row
 
     selects : (n : Connection) → Begins s k row n → n.reselected ≡ false → IsSelectedFor s k n
     selects n b e =
-        let fresh = items_fresh s p row n o prompt was items (sym pl.connection ∙ b.first.connection_is) (sym reads ∙ b.first.next_is) e in
+        let fresh = items_fresh s p row n o prompt was items (sym was.plain.connection ∙ b.first.connection_is) (sym reads ∙ b.first.next_is) e in
         record { item = fresh.item; aim_is = fresh.aim_is; unsent = fresh.unsent; item_is = aims_are s p n.initiator fresh.item fresh.aim_is }
 
     asked : (n : Connection) (x : Change) → GoesOn s k row n x → changes_phase x ≡ true → phase_of (bus_of k) ≡ Phase.MessageOut → k.exchange.plan.cause ≡ Cause.InMessage → is_some k.exchange.plan.said.offer ≡ true → k.exchange.plan.next ≡ Next.Command
@@ -116,7 +109,7 @@ places_owed s p row a o prompt was items offers left = record {
         let lines = out_lines (bus_of k).msg (bus_of k).cd (bus_of k).io (λ z. (g.phase z).0) (ap is_out_phase ph) in
         let con = g.row_is.connection_is in
         answers_at k s n (was.books.speaks n con g.calm) (g.phase lines.0).1 lines.1 ((g.leaves (ap changes_phase g.row_is.change_is ∙ e)).out ph)
-        (offers n (sym pl.connection ∙ con) (sym (ap (λ (y : LineSet). y.rst) pl.bus) ∙ g.calm)) cause some
+        (offers n (sym was.plain.connection ∙ con) (sym (ap (λ (y : LineSet). y.rst) was.plain.bus) ∙ g.calm)) cause some
 
     -- under RST
     no_beginning : (bus q).rst ≡ true → connection p ≡ None → connection q ≡ None
@@ -128,11 +121,11 @@ places_owed s p row a o prompt was items offers left = record {
         off false y = refl
 
     resets : d.change.after.rst ≡ true → IsResetAsked k row
-    resets on = record { was = λ e. by e (bus p).rst refl; none_begins = λ none. reads ∙ no_beginning rst (sym pl.connection ∙ none) }
+    resets on = record { was = λ e. by e (bus p).rst refl; none_begins = λ none. reads ∙ no_beginning rst (sym was.plain.connection ∙ none) }
       where
         rst : (bus q).rst ≡ true
         rst = ap (λ (x : Change). x.after.rst) (sym c) ∙ on
 
         by : rises d.change.own.rst d.change.next.rst ≡ false → (r : Bool) → (bus p).rst ≡ r → (bus_of k).rst ≡ true
-        by e true z = ap (λ (y : LineSet). y.rst) pl.bus ∙ z
+        by e true z = ap (λ (y : LineSet). y.rst) was.plain.bus ∙ z
         by e false z = wrong (sym (rst_raised p row lt z rst) ∙ ap (λ (x : Change). rises x.own.rst x.next.rst) (sym c) ∙ e)

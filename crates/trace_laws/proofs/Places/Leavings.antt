@@ -6,7 +6,7 @@ use proofs.Names.{Serving, bus_free, phase_entry, with_task, recovery, recovery_
 use proofs.Names.{next_data_phase, request_or_command, after_offer, message_repetition, message_out_leaving}
 use proofs.Names.{after_messages, after_arrival, phase_leaving, request_by, is_naming, Arrival, Cause, Leaving}
 use proofs.Names.{Messages, Next, Phase, Task, TellNoEnd}
-use Rattle.link_laws.proofs.LeavingWays as ways
+use Rattle.story_laws.specs.link_laws.proofs.LeavingWays as ways
 
 -- ---- of a process that runs
 
@@ -53,9 +53,7 @@ LeadsAnswered l = AnsweredTo l.to l.messages l.next
 
 abbrev pub NewSays : Next → Type 0
 NewSays Next.Command = ⊤
-NewSays Next.Status = ⊥
-NewSays Next.GoOn = ⊥
-NewSays Next.FreeBus = ⊥
+NewSays _ = ⊥
 
 abbrev pub NewTo : Option Phase → Next → Type 0
 NewTo None next = ⊤
@@ -155,13 +153,9 @@ from_command_next v false = tt
 pub from_opening : (v : Serving) → LeadsNew (message_out_leaving v Cause.Selected)
 from_opening v = go (is_some v.plan.said.aborts) v.plan.said.offer v.plan.negotiates
   where
-    asks : (m : Option MsgIn) → LeadsNew (request_or_command m)
-    asks None = tt
-    asks (Some m) = tt
-
     offers : (o : Option Agreement) (n : Bool) → LeadsNew (after_offer v.def n o)
     offers (Some offer) n = tt
-    offers None true = asks (request_by v.def)
+    offers None true = elim (request_by v.def) as (λ m. LeadsNew (request_or_command m)) [ None ↦ tt | Some m ↦ tt ]
     offers None false = tt
 
     go : (q : Bool) (o : Option Agreement) (n : Bool) → LeadsNew (if q then bus_free else after_offer v.def n o)

@@ -6,10 +6,10 @@ use proofs.Names.{wrong, Event, ProcId, rises, LineSet, Row, Change, Connection,
 use proofs.Names.{IsSound, HasSeats, RunningProcess, UnitState, Array, settled_array, RowReading, row_reading}
 use proofs.Names.{link_events, row_events_by, Item, process, abort, has_item, RunState, bus_of, process_item}
 use proofs.Names.{run_state_after, array_after_events, served_after, InConnection, id_is as ids_are, is_served_by}
-use proofs.Names.{AreWithin, Waits, Runs, OnUnits, OnGuests, IsAway, IsUntouched, IsAtRest, HasPlaces}
-use proofs.{Common.Impossible.{some_none, none_some}, Events.Others.{away_rests, untouched_after}}
-use proofs.{Events.Processes.{each_settled, each_same, attended_same}, Places.{Ends.{HasFreed}, Events.{passes_step}}}
-use proofs.Places.TurnRows.{RowPlaced}
+use proofs.Names.{some_none, none_some, by_bool, away_rests, untouched_after, each_same, attended_same, AreWithin}
+use proofs.{Names.{Waits, Runs, OnUnits, OnGuests, IsAway, IsUntouched, IsAtRest, HasPlaces}, Places.Ends.{HasFreed}}
+use proofs.Places.{Events.{passes_step}, TurnRows.{RowPlaced}}
+use Rattle.story_laws.specs.row_laws.proofs.Events.Processes.{each_settled}
 use Rattle.bus_due.specs.disk_array.specs.Steps
 
 -- ---- what was sent
@@ -25,11 +25,10 @@ served_is (Some (abort m)) id e = wrong (sym e)
 
 -- What was not sent is not served.
 unsent_other : (s : ScenarioValue) (k : RunState) → HasPlaces s k → (id : ProcId) → has_item k.story.sent.sent (process id) ≡ false → is_served_by k.served id ≡ false
-unsent_other s k h id e = go (is_served_by k.served id) refl
-  where
-    go : (q : Bool) → is_served_by k.served id ≡ q → is_served_by k.served id ≡ false
-    go false z = z
-    go true z = wrong (sym (h.sent id (served_is k.served id z)) ∙ e)
+unsent_other s k h id e =
+    by_bool (is_served_by k.served id)
+    (λ z. wrong (sym (h.sent id (served_is k.served id z)) ∙ e))
+    (λ z. z)
 
 unsent_before : (s : ScenarioValue) (k : RunState) (row : Row) → SendsNone s k row → (id : ProcId) → has_item (run_state_after s k row).story.sent.sent (process id) ≡ false → has_item k.story.sent.sent (process id) ≡ false
 unsent_before s k row same id e = ap (λ (x : List Item). has_item x (process id)) (sym same) ∙ e

@@ -5,8 +5,8 @@ use proofs.Names.{sym, ap, subst, ◌==◌, same_Some, if◌then◌else◌, is_s
 use proofs.Names.{current_process, reply_in, Process, process_of, same_id, current_of, IsOwn, IsOwnRunning, IsOwnUnit}
 use proofs.Names.{IsSound, running_if, running_in, has_ended, RunningProcess, UnitState, Array, unit_state_at, guest_at}
 use proofs.Names.{is_held, without_reply, Ready, ready_in, is_ready_before, first_ready, since_of, ready_at}
-use proofs.Names.{ready_among, running_is, self_id, id_is, or_ready, Runs, OnUnits, IsUnanswered, IsAtRest, RunsOpen}
-use proofs.{Common.Impossible.{none_some}, Events.Arriving.{no_guest, IsFoundAt, found_at}}
+use proofs.Names.{ready_among, running_is, self_id, id_is, or_ready, none_some, no_guest, IsFoundAt, found_at, Runs}
+use proofs.Names.{OnUnits, IsUnanswered, IsAtRest, RunsOpen}
 
 -- ---- what is ready is current
 
@@ -37,11 +37,8 @@ ready_current a times seek t n r e = go (unit_state_at a.units t n) refl e
 first_current : (a : Array) (t : ℕ) (x y : Option Ready) → IfCurrent a t x → IfCurrent a t y → IfCurrent a t (first_ready x y)
 first_current a t None y h g = g
 first_current a t (Some x) None h g = h
-first_current a t (Some x) (Some y) h g = go (is_ready_before y x)
-  where
-    go : (q : Bool) → IfCurrent a t (if q then Some y else Some x)
-    go true = g
-    go false = h
+first_current a t (Some x) (Some y) h g =
+    elim (is_ready_before y x) as (λ q. IfCurrent a t (if q then Some y else Some x)) [ true ↦ g | false ↦ h ]
 
 among_current : (a : Array) (times : List ℕ) (seek t : ℕ) → IfCurrent a t (ready_among a times seek t)
 among_current a times seek t =

@@ -5,16 +5,15 @@ use proofs.Names.{inl, inr, ℕ, ◌≡◌, ◌⊎◌, ◌<◌, Bool, true, fals
 use proofs.Names.{is_some, ProcId, LineSet, changes_phase, connection, receiver_in, is_fault, bus, Row, Change}
 use proofs.Names.{Connection, ScenarioValue, Obeys, start_sound, HasSeats, Array, settled_array, starting_array}
 use proofs.Names.{RowReading, row_reading, is_completion, process, Link, phase_of, run_state_plain, is_allowed}
-use proofs.Names.{IsPrompt, IsPlain, AreOfDevices, RunState, bus_of, run_state, leaving, obeys_fits, seats_are}
-use proofs.Names.{in_connection, reading_is, Knows, IsRowIn, RowKind, still, strikes, crosses, turns, GoesOn, Begins}
-use proofs.Names.{Ends, RowOf, row_apart, begins, goes_on, row_ends as ends, under_reset, change_plain, least_is}
-use proofs.{Names.{AnyStage, apart, linked, IsAtRest, PlaceFacts}, Common.Impossible.{some_none, none_some}}
-use proofs.{Events.{Depths.{within_at_start}, Others.{untouched_at_start, untouched_rests}}, Lines.Called.{link_none}}
-use proofs.Lines.{Connections.{ConnectionRow, connection_row, stage_of_connection}, Crossings.{RowFacts, stays}}
-use proofs.Lines.{Crossings.{ends_here}, Joint.{Stood, NextStood, link_connection, link_phase}}
-use proofs.Places.{Ends.{IsEndAsked, end_row}, First.{IsSelectedFor, selected_on, reselected_on}, Next.{SendsNone}}
-use proofs.Places.{Next.{placed_on, freed_on, apart_on, IsResetAsked, reset_on}, Stays.{IsStayAsked, stay_row}}
-use proofs.Places.{TurnRows.{IsTurnAsked}, Turned.{turn_row}}
+use proofs.Names.{IsPrompt, IsPlain, RunState, bus_of, run_state, leaving, obeys_fits, seats_are, in_connection}
+use proofs.Names.{reading_is, Knows, IsRowIn, RowKind, still, strikes, crosses, turns, GoesOn, Begins, Ends, RowOf}
+use proofs.Names.{apart as row_apart, begins, goes_on, ends, under_reset, change_plain, least_is, AnyStage, linked}
+use proofs.Names.{some_none, none_some, within_at_start, untouched_at_start, untouched_rests, link_none, ConnectionRow}
+use proofs.Names.{connection_row, stage_of_connection, RowFacts, stays, ends_here, Stood, NextStood, link_connection}
+use proofs.{Names.{link_phase, IsAtRest, PlaceFacts}, Places.{Ends.{IsEndAsked, end_row}, First.{IsSelectedFor}}}
+use proofs.Places.{First.{selected_on, reselected_on}, Next.{SendsNone, placed_on, freed_on, apart_on, IsResetAsked}}
+use proofs.Places.{Next.{reset_on}, Stays.{IsStayAsked, stay_row}, TurnRows.{IsTurnAsked}, Turned.{turn_row}}
+use Rattle.story_laws.specs.link_laws.specs.LinkStages.{apart}
 
 -- ---- what is asked of a row
 
@@ -65,20 +64,14 @@ places_next s p row o prompt was next h asked = go next.row_is
     seats : HasSeats s
     seats = seats_are s (obeys_fits s o)
 
-    dv : AreOfDevices p
-    dv = was.standing.devices
-
     lt : row.dev < 8
     lt = (least_is s p row prompt.1).inside
 
-    pl : IsPlain s p k
-    pl = run_state_plain s p dv
-
     pl2 : IsPlain s q (run_state s q)
-    pl2 = run_state_plain s q (lt, dv)
+    pl2 = run_state_plain s q (lt, was.standing.devices)
 
     after_rst : d.change.after.rst ≡ (bus q).rst
-    after_rst = ap (λ (x : Change). x.after.rst) (change_plain s row p dv lt)
+    after_rst = ap (λ (x : Change). x.after.rst) (change_plain s row p was.standing.devices lt)
 
     under : d.change.after.rst ≡ true → PlaceFacts s q
     under e = reset_on s k row h seats e (asked.reset e) (asked.sends (inr e))
@@ -92,21 +85,17 @@ places_next s p row o prompt was next h asked = go next.row_is
 
     alone : k.story.bus_state.connection ≡ None → d.next ≡ None → (r : Bool) → d.change.after.rst ≡ r → PlaceFacts s q
     alone con none true e = under e
-    alone con none false e = apart_on s k row h con none (no_link (sym pl.connection ∙ con)) e (asked.sends (inl (λ z. none)))
+    alone con none false e = apart_on s k row h con none (no_link (sym was.plain.connection ∙ con)) e (asked.sends (inl (λ z. none)))
 
     first : (n : Connection) → Begins s k row n → (r : Bool) → n.reselected ≡ r → PlaceFacts s q
-    first n b true e = reselected_on s k row n h b (no_link (sym pl.connection ∙ b.first.connection_is)) e
-    first n b false e = selected_on s k row n h b (no_link (sym pl.connection ∙ b.first.connection_is)) e (asked.selects n b e)
+    first n b true e = reselected_on s k row n h b (no_link (sym was.plain.connection ∙ b.first.connection_is)) e
+    first n b false e = selected_on s k row n h b (no_link (sym was.plain.connection ∙ b.first.connection_is)) e (asked.selects n b e)
 
     item_of : (n : Connection) (w : Knows s k n) → (w.link.item ≡ k.served) ⊎ (w.link.item ≡ None)
-    item_of n w = by w.item_is
-      where
-        by : (w.link.item ≡ k.served) ⊎ ((n.reselected ≡ true) × (w.link.item ≡ None)) → (w.link.item ≡ k.served) ⊎ (w.link.item ≡ None)
-        by (inl z) = inl z
-        by (inr z) = inr z.1
+    item_of n w = elim w.item_is [ inl z ↦ inl z | inr z ↦ inr z.1 ]
 
     facts : (n : Connection) → k.story.bus_state.connection ≡ Some n → (bus_of k).rst ≡ false → d.change.after.rst ≡ false → ConnectionRow s p row n
-    facts n con off calm = connection_row s p row n o prompt was (sym pl.connection ∙ con) (sym (ap (λ (l : LineSet). l.rst) pl.bus) ∙ off) (sym after_rst ∙ calm)
+    facts n con off calm = connection_row s p row n o prompt was (sym was.plain.connection ∙ con) (sym (ap (λ (l : LineSet). l.rst) was.plain.bus) ∙ off) (sym after_rst ∙ calm)
 
     on : (n : Connection) (c : Change) → GoesOn s k row n c → PlaceFacts s q
     on n c g = by_kind r.kind
@@ -129,7 +118,7 @@ places_next s p row o prompt was next h asked = go next.row_is
         whereto : changes_phase c ≡ true → k.exchange.begun ≡ true → (run_state s q).story.bus_state.connection ≡ Some n → RowFacts s p row n → (leaving s k n.target).to ≡ Some (phase_of c.after)
         whereto ep b con (stays f) =
             let is : f.change ≡ c = sym f.row_is.change_is ∙ r.change_is in
-            f.whereto (ap changes_phase is ∙ ep) (sym pl.begun ∙ b) ∙ ap (λ (x : Change). Some (phase_of x.after)) is
+            f.whereto (ap changes_phase is ∙ ep) (sym was.plain.begun ∙ b) ∙ ap (λ (x : Change). Some (phase_of x.after)) is
         whereto ep b con (ends_here f) = some_none n (sym con ∙ pl2.connection ∙ f.stopped)
 
         there : (run_state s q).story.bus_state.connection ≡ Some n → (run_state s q).story.bus_state.bus ≡ c.after → c.after.msg ≡ true → c.after.cd ≡ true
@@ -161,7 +150,7 @@ places_next s p row o prompt was next h asked = go next.row_is
         (end_row s k row n w.link h seats g.connection_is g.calm (begun (facts n g.connection_is g.calm e).facts) e g.next_is w.link_is (item_of n w) (asked.ends n w.link g e w.link_is))
       where
         begun : RowFacts s p row n → k.exchange.begun ≡ true
-        begun (ends_here f) = pl.begun ∙ f.begun_is
+        begun (ends_here f) = was.plain.begun ∙ f.begun_is
         begun (stays f) =
             let some : d.next ≡ Some n = ap (λ (x : RowReading). x.next) (reading_is k row n f.change (is_some (receiver_in n f.change)) f.row_is refl) in
             some_none n (sym some ∙ g.next_is)

@@ -11,10 +11,10 @@ use proofs.Names.{abort, Link, Exchange, one_message, plan_after_message, plan_a
 use proofs.Names.{plan_with_byte, Cause, Hearing, Leaving, Messages, Next, Phase, Plan, RunState, array_of, or_start}
 use proofs.Names.{bus_of, process_item, process_served, carried_here, run_state_after, hearing_of, leaving}
 use proofs.Names.{InConnection, in_connection, reading_is, same_phase_is, is_in_phase, IsRowIn, reading_in, GoesOn}
-use proofs.Names.{counted_some, is_complete_in, AnsweredOpen, Closes, completes, disconnects, PlacedBefore, IsTaken}
-use proofs.{Names.{PlacedAsked, PlacedIn, PlacedIf, HasPlaces}, Commands.Stays.{phase_same}}
-use proofs.{Common.PhaseLines.{in_phase}, Events.Answered.{end_is, leaves}, Places.Events.{turned_none, passes_step}}
-use proofs.Places.{TurnRows.{RowPlaced}, Turned.{row_turned, row_none}}
+use proofs.Names.{counted_some, in_phase, end_is, leaves, is_complete_in, AnsweredOpen, Closes, completes, disconnects}
+use proofs.{Names.{PlacedBefore, IsTaken, PlacedAsked, PlacedIn, PlacedIf, HasPlaces}, Places.Events.{turned_none}}
+use proofs.Places.{Events.{passes_step}, TurnRows.{RowPlaced}, Turned.{row_turned, row_none}}
+use Rattle.story_laws.proofs.Commands.Stays.{phase_same}
 use Rattle.bus_due.specs.disk_array.proofs.SoundArrays.{id_is}
 use Rattle.bus_due.specs.disk_array.specs.Steps
 
@@ -62,11 +62,8 @@ same_plan w l p false fault = go (fault && not w.change.before.io)
 
 -- How often ACK rose.
 answers_after : (fault : Bool) (n : Connection) (c : Change) (t : ℕ) (h : Handshakes) → changes_phase c ≡ false → (handshakes_after fault (Some n) c t h).answers ≡ (if not fault && rises c.before.ack c.after.ack then counted_on h.answers else h.answers)
-answers_after true n c t h e = go c.before.io
-  where
-    go : (q : Bool) → (strikes_if q h).answers ≡ h.answers
-    go true = refl
-    go false = refl
+answers_after true n c t h e =
+    elim c.before.io as (λ q. (strikes_if q h).answers ≡ h.answers) [ true ↦ refl | false ↦ refl ]
 answers_after false n c t h e = (λ i. (if e i then no_handshakes else answered_if (rises c.before.ack c.after.ack) t (asked_if (rises c.before.req c.after.req) t h)).answers) ∙ go (rises c.before.ack c.after.ack) (rises c.before.req c.after.req)
   where
     go : (q r : Bool) → (answered_if q t (asked_if r t h)).answers ≡ (if q then counted_on h.answers else h.answers)
@@ -85,10 +82,8 @@ before_same : (a : Array) (p : Process) (x y : Plan) → SamePlan x y → Placed
 before_same a p x y e h = subst (λ (m : Messages). PlacedBefore a p m y.next) (sym e.messages) (subst (λ (m : Next). PlacedBefore a p x.messages m) (sym e.next) h)
 
 asked_same : (a : Array) (p : Process) (x y : Plan) (cause : Cause) → SamePlan x y → PlacedAsked a p x cause → PlacedAsked a p y cause
-asked_same a p x y Cause.Selected e h = h
 asked_same a p x y Cause.InMessage e h = before_same a p x y e h
-asked_same a p x y Cause.InData e h = h
-asked_same a p x y Cause.InStatus e h = h
+asked_same a p x y _ e h = h
 
 in_same : (a : Array) (p : Process) (x y : Plan) (h g : Handshakes) (atn atn' : Bool) (phase : Phase) → SamePlan x y → ((h.answers == 0) ≡ false → (g.answers == 0) ≡ false) → (phase ≡ Phase.MessageIn → x.messages ≡ one_message MsgIn.CommandComplete → (h.answers == 0) ≡ false → atn ≡ false → atn' ≡ false) → PlacedIn a p x h atn phase → PlacedIn a p y g atn' phase
 in_same a p x y h g atn atn' Phase.MessageOut e f t z = subst (λ (c : Cause). PlacedAsked a p y c) (sym e.cause) (asked_same a p x y x.cause e z)
@@ -121,9 +116,6 @@ stay_row s k row n c l now fault h seats g ep en ef drives link item asked = by_
 
     plan : Plan
     plan = if now then plan_with_byte w k.exchange.plan else if fault && not w.change.before.io then struck_plan k.exchange.plan else k.exchange.plan
-
-    array_here : array_of s k ≡ a
-    array_here = ap (or_start s) h.array_is
 
     same_phase : phase_of c.after ≡ phase_of (bus_of k)
     same_phase = phase_same c.before c.after (same_phase_is c ep) ∙ ap phase_of (sym r.bus_is)
@@ -207,7 +199,7 @@ stay_row s k row n c l now fault h seats g ep en ef drives link item asked = by_
 
         answered : AnsweredOpen a p.id → RowPlaced s k row a
         answered o =
-            let right : (o.answered.reply.status == status) ≡ true = asked.status done p.id o.answered.reply e (ap (λ (x : Array). reply_in x.replies p.id) array_here ∙ o.answered.given) in
+            let right : (o.answered.reply.status == status) ≡ true = asked.status done p.id o.answered.reply e (ap (λ (x : Array). reply_in x.replies p.id) (ap (or_start s) h.array_is) ∙ o.answered.given) in
             let gone : Array = Steps.array_without (Steps.after_status a o.answered.running.process o.answered.reply) p.id in
             let is = end_is s a p.id status o.answered right in
             let has = leaves (Steps.after_status a o.answered.running.process o.answered.reply) p.id in

@@ -11,11 +11,11 @@ use proofs.Names.{one_message, from_byte, Serving, phase_of, phase_leaving, leav
 use proofs.Names.{plan_in_message_out, Cause, Hearing, Leaving, Next, Phase, Plan, Task, target_def_of, RunState}
 use proofs.Names.{array_of, or_start, bus_of, process_item, process_served, carried_here, run_state_after}
 use proofs.Names.{array_after_events, serving_of, arrival_at, leaving, task_of, task_if, arrival_if, is_command_phase}
-use proofs.Names.{reading_is, is_served_by, is_out_phase, IsRowIn, reading_in, AreWithin, IsUntouched, IsAtRest}
-use proofs.{Names.{IsOutside, PlacedBefore, PlacedAsked, PlacedIn, PlacedIf, HasPlaces}, Common.Impossible.{none_some}}
-use proofs.{Common.PhaseLines.{is_status}, Places.{Commands.{command_shown, command_turns}, Events.{Turned}}}
-use proofs.Places.{Events.{status_events_are, queue_events_are}, Leavings.{HasOneRun}, Turns.{OutOf, PlacedNext}}
-use proofs.Places.Turns.{Standing, IsLeft, reply_shown, turns, command_not_out}
+use proofs.Names.{reading_is, is_served_by, is_out_phase, IsRowIn, reading_in, none_some, is_status, AreWithin}
+use proofs.Names.{IsUntouched, IsAtRest, IsOutside, PlacedBefore, PlacedAsked, PlacedIn, PlacedIf, HasPlaces}
+use proofs.Places.{Commands.{command_shown, command_turns}, Events.{Turned, status_events_are, queue_events_are}}
+use proofs.Places.{Leavings.{HasOneRun}, Turns.{OutOf, PlacedNext, Standing, IsLeft, reply_shown, turns}}
+use proofs.Places.Turns.{command_not_out}
 use Rattle.bus_due.specs.disk_array.proofs.SoundArrays.{id_is}
 
 -- ---- what a row shows where another phase begins
@@ -95,10 +95,7 @@ pub enters : (b : Array) (p : Process) (w : Hearing) (l : Leaving) (plan : Plan)
 enters b p w l plan h atn Phase.MessageOut m asked out g = asked refl
 enters b p w l plan h atn Phase.MessageIn m asked out g =
     inl (subst (λ (q : Bool). PlacedBefore b p (if not q then record (plan_anew plan) { messages = l.messages; next = l.next } else if w.begun then plan_in_message_out w plan else plan_anew plan).messages (if not q then record (plan_anew plan) { messages = l.messages; next = l.next } else if w.begun then plan_in_message_out w plan else plan_anew plan).next) (sym m) g)
-enters b p w l plan h atn Phase.Command m asked out g = g
-enters b p w l plan h atn Phase.Status m asked out g = g
-enters b p w l plan h atn Phase.DataIn m asked out g = g
-enters b p w l plan h atn Phase.DataOut m asked out g = g
+enters b p w l plan h atn _ m asked out g = g
 
 -- ---- the row
 

@@ -7,19 +7,18 @@ use proofs.Names.{same_id, HasSeats, Array, row_reading, carried_if, phase_event
 use proofs.Names.{Link, Exchange, plan_anew, phase_of, plan_in_phase, plan_in_message_out, Cause, Hearing, Leaving}
 use proofs.Names.{Phase, Plan, RunState, bus_of, process_item, process_served, carried_here, run_state_after}
 use proofs.Names.{array_after_events, hearing_of, leaving, InConnection, in_connection, self_id, id_is as ids_are}
-use proofs.Names.{is_served_by, is_out_phase, IsRowIn, reading_in, GoesOn, IsUntouched, PlacedAsked, PlacedIn, PlacedIf}
-use proofs.{Names.{HasPlaces}, Common.{Impossible.{none_some}, PhaseLines.{out_phase}}, Places.Events.{Turned}}
-use proofs.Places.{Events.{turned_none}, TurnRows.{IsTurnAsked, RowPlaced, asked_by, enters, process_turn, other_shown}}
-use proofs.Places.{TurnRows.{shown_is}, Turns.{OutOf, PlacedNext, reply_shown}}
+use proofs.Names.{is_served_by, is_out_phase, IsRowIn, reading_in, GoesOn, none_some, out_phase, by_bool, IsUntouched}
+use proofs.{Names.{PlacedAsked, PlacedIn, PlacedIf, HasPlaces}, Places.Events.{Turned, turned_none}}
+use proofs.Places.TurnRows.{IsTurnAsked, RowPlaced, asked_by, enters, process_turn, other_shown, shown_is}
+use proofs.Places.Turns.{OutOf, PlacedNext, reply_shown}
 use Rattle.bus_due.specs.disk_array.proofs.SoundArrays.{id_is}
 
 -- Another process than the one that is served.
 pub other_id : (x id : ProcId) → is_served_by (Some (process x)) id ≡ false → same_id x id ≡ false
-other_id x id e = go (same_id x id) refl
-  where
-    go : (q : Bool) → same_id x id ≡ q → same_id x id ≡ false
-    go false z = z
-    go true z = wrong (sym (ap (λ (y : ProcId). is_served_by (Some (process y)) id) (ids_are x id z) ∙ self_id id) ∙ e)
+other_id x id e =
+    by_bool (same_id x id)
+    (λ z. wrong (sym (ap (λ (y : ProcId). is_served_by (Some (process y)) id) (ids_are x id z) ∙ self_id id) ∙ e))
+    (λ z. z)
 
 -- What a turn leaves, as what a row leaves.
 pub row_turned : (s : ScenarioValue) (k : RunState) (row : Row) (a : Array) (p : Process) (shown : List Event) (q : Array → Type 0) → k.array ≡ Some a → k.served ≡ Some (process p.id) → process_served s k ≡ Some p → row_events_by s k.story (row_reading k.story.bus_state row) row ≡ shown → Turned s a p.id shown q

@@ -5,15 +5,14 @@ use proofs.Names.{inl, inr, ℕ, ◌≡◌, ◌⊎◌, Bool, true, false, not, �
 use proofs.Names.{refl, sym, ap, subst, true≢false, same_Some, ◌-◌, if◌then◌else◌, is_some, nat_lt, wrong, wrong'}
 use proofs.Names.{Event, ProcId, Handshakes, MsgIn, ScenarioValue, reply_in, Process, process_of, IsSound, HasSeats}
 use proofs.Names.{Array, status_event, from_byte, message_bytes, one_message, Serving, phase_entry, message_out_leaving}
-use proofs.Names.{after_messages, phase_leaving, Cause, Leaving, Messages, Next, Phase, Plan, AreWithin, IsUntouched}
-use proofs.Names.{IsAtRest, IsOutside, RunsOpen, AnsweredOpen, TellNoEnd, Closes, completes, disconnects, PlacedBefore}
-use proofs.{Names.{PlacedAsked, PlacedIn}, Common.{Impossible.{none_some}, PhaseLines.{is_out_next, is_status}}}
-use proofs.{Complaints.Turns.{attended}, Events.Queues.{rests_in_queue}, Places.Events.{Turned, turned_none}}
-use proofs.Places.{Events.{turned_reply}, Leavings.{RunningSays, RunningTo, LeadsRunning, AnsweredSays, AnsweredTo}}
-use proofs.Places.Leavings.{LeadsAnswered, NewSays, NewTo, LeadsNew, HasOneRun, from_data_in, from_data_out}
-use proofs.Places.Leavings.{from_status, from_go_on, from_status_next, from_command_next, from_opening, from_detected}
-use proofs.Places.Leavings.{from_status_detected, Repeats, commands, again, leaves, from_refusal}
-use Rattle.link_laws.proofs.LeavingWays as ways
+use proofs.Names.{after_messages, phase_leaving, Cause, Leaving, Messages, Next, Phase, Plan, none_some, is_out_next}
+use proofs.Names.{is_status, rests_in_queue, AreWithin, IsUntouched, IsAtRest, IsOutside, RunsOpen, AnsweredOpen}
+use proofs.Names.{TellNoEnd, Closes, completes, disconnects, PlacedBefore, PlacedAsked, PlacedIn, attended}
+use proofs.Places.{Events.{Turned, turned_none, turned_reply}, Leavings.{RunningSays, RunningTo, LeadsRunning}}
+use proofs.Places.Leavings.{AnsweredSays, AnsweredTo, LeadsAnswered, NewSays, NewTo, LeadsNew, HasOneRun, from_data_in}
+use proofs.Places.Leavings.{from_data_out, from_status, from_go_on, from_status_next, from_command_next, from_opening}
+use proofs.Places.Leavings.{from_detected, from_status_detected, Repeats, commands, again, leaves, from_refusal}
+use Rattle.story_laws.specs.link_laws.proofs.LeavingWays as ways
 
 -- ---- where it stands as the next phase begins
 
@@ -104,9 +103,7 @@ answered_turn s a p failure marked l out phase st h lead to mark asked = go phas
 
 says_new : (a : Array) (p : Process) (m : Messages) (next : Next) → IsUntouched a p.id → NewSays next → PlacedBefore a p m next
 says_new a p m Next.Command h k = h
-says_new a p m Next.Status h k = absurd k
-says_new a p m Next.FreeBus h k = absurd k
-says_new a p m Next.GoOn h k = absurd k
+says_new a p m _ h k = absurd k
 
 new_turn : (s : ScenarioValue) (a : Array) (p : Process) (failure : Option ℕ) (marked : Bool) (l : Leaving) (out : Array → Type 0) (phase : Phase) → Standing s a p → IsUntouched a p.id → LeadsNew l → l.to ≡ Some phase → (phase ≡ Phase.MessageOut → out a) → Turns s a p failure marked l out phase
 new_turn s a p failure marked l out phase st h lead to asked = go phase to asked

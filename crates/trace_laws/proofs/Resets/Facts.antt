@@ -1,18 +1,17 @@
 -- A connection of a prompt trace that still stands under RST.
 use Rattle.trace_laws.proofs
-use proofs.Names.{inr, ◌≡◌, Bool, true, false, not, ◌&&◌, ◌||◌, ◌∙◌, List, [], ◌∷◌, Option, Some, None, refl, sym, ap}
+use proofs.Names.{inr, ◌≡◌, Bool, true, false, not, ◌&&◌, ◌||◌, ◌∙◌, List, [], ◌∷◌, Some, None, refl, sym, ap}
 use proofs.Names.{if◌then◌else◌, wrong, wrong', same_self, change_of, falls, same_phase, LineSet, same, changes_phase}
 use proofs.Names.{is_data, call, connection, connection_of, connection_after, bus, Row, Change, Connection}
 use proofs.Names.{ScenarioValue, Obeys, RowReading, row_reading, phase_of, Phase, run_state_plain, IsLeast, due}
 use proofs.Names.{IsPrompt, IsPlain, RunState, bus_of, process_item, process_served, run_state, exchange_after}
 use proofs.Names.{served_after, leaving_of, is_writing, obeys_fits, seats_are, is_data_in, change_plain, least_is}
-use proofs.Names.{by_calm, reset_or_calm, link_calm, AnyStage, apart, linked, LinkStage, OfTarget, ResetFacts}
-use proofs.{Names.{ReadsUnderRst}, Bytes.{Blocks.{commands_are}, Facts.{byte_values}}, Common.Impossible.{none_some}}
-use proofs.Lines.{Connections.{stage_of_connection}, Crossings.{RowFacts, row_facts, stays, ends_here}}
-use proofs.Lines.{First.{under_rst}, Joint.{Stood, NextStood, values_of}, Plans.{is_directed, writes_of}}
-use proofs.{Lines.Rows.{LinkRow, link_row}, Resets.Rows.{IsReleasing, PhaseIs, releasing, of_stage, of_target_next}}
-use proofs.{Resets.Rows.{data_kept}, Writes.Rows.{in_lines}}
-use Rattle.link_laws.specs.bus_laws.proofs.Together.{by_reset}
+use proofs.Names.{by_calm, reset_or_calm, by_reset, link_calm, AnyStage, linked, LinkStage, commands_are, byte_values}
+use proofs.Names.{none_some, by_bool, by_option, stage_of_connection, RowFacts, row_facts, stays, ends_here, under_rst}
+use proofs.Names.{Stood, NextStood, values_of, is_directed, writes_of, LinkRow, link_row, ReadsUnderRst, OfTarget}
+use proofs.{Names.{ResetFacts}, Resets.Rows.{IsReleasing, PhaseIs, releasing, of_stage, of_target_next, data_kept}}
+use proofs.Writes.Rows.{in_lines}
+use Rattle.story_laws.specs.link_laws.specs.LinkStages.{apart}
 
 pub resets_start : (s : ScenarioValue) → ResetFacts s []
 resets_start s = record { lines = λ n e. none_some n e; reads = λ n p e. none_some n e }
@@ -25,7 +24,11 @@ record Lasts (s : ScenarioValue) (p : List Row) (row : Row) (n : Connection) : T
   lines : OfTarget p n
 
 stood_before : (p : List Row) (row : Row) (n : Connection) → (bus (row ∷ p)).rst ≡ true → connection (row ∷ p) ≡ Some n → connection p ≡ Some n
-stood_before p row n on e = go (connection p) refl
+stood_before p row n on e =
+    by_option (connection p)
+    (λ f.
+    none_some n (sym ((λ i. connection_after (f i) (call p) (change_of p row) row) ∙ (λ i. if falls (bus p).sel (bus (row ∷ p)).sel && (bus (row ∷ p)).bsy && not (on i) then connection_of (call p) row.time else None) ∙ off (falls (bus p).sel (bus (row ∷ p)).sel) (bus (row ∷ p)).bsy) ∙ e))
+    (λ m f. f ∙ kept m (bus (row ∷ p)).bsy (sym (λ i. connection_after (f i) (call p) (change_of p row) row) ∙ e))
   where
     off : (a b : Bool) → (if a && b && false then connection_of (call p) row.time else None) ≡ None
     off true true = refl
@@ -36,13 +39,8 @@ stood_before p row n on e = go (connection p) refl
     kept m true z = z
     kept m false z = none_some n z
 
-    go : (o : Option Connection) → connection p ≡ o → connection p ≡ Some n
-    go None f =
-        none_some n (sym ((λ i. connection_after (f i) (call p) (change_of p row) row) ∙ (λ i. if falls (bus p).sel (bus (row ∷ p)).sel && (bus (row ∷ p)).bsy && not (on i) then connection_of (call p) row.time else None) ∙ off (falls (bus p).sel (bus (row ∷ p)).sel) (bus (row ∷ p)).bsy) ∙ e)
-    go (Some m) f = f ∙ kept m (bus (row ∷ p)).bsy (sym (λ i. connection_after (f i) (call p) (change_of p row) row) ∙ e)
-
 lasts : (s : ScenarioValue) (p : List Row) (row : Row) (n : Connection) → Obeys s → IsPrompt s (row ∷ p) → Stood s p → ResetFacts s p → connection (row ∷ p) ≡ Some n → (bus (row ∷ p)).rst ≡ true → Lasts s p row n
-lasts s p row n o prompt was h after on = go (bus p).rst refl
+lasts s p row n o prompt was h after on = by_bool (bus p).rst (λ e. under e was.here) (λ e. calm e)
   where
     m : IsLeast (due s p) 8 row
     m = least_is s p row prompt.1
@@ -70,10 +68,6 @@ lasts s p row n o prompt was h after on = go (bus p).rst refl
         goes (ends_here f) = none_some n (sym f.stopped ∙ after)
         goes (stays f) = wrong (sym on ∙ ap (λ (c : Change). c.after.rst) (sym (change_plain s row p was.standing.devices m.inside)) ∙ ap (λ (c : Change). c.after.rst) f.row_is.change_is ∙ f.row_is.calm)
 
-    go : (q : Bool) → (bus p).rst ≡ q → Lasts s p row n
-    go true e = under e was.here
-    go false e = calm e
-
 -- ---- whose data come
 
 same_of : (b a : LineSet) → PhaseIs b a → same_phase a b ≡ true
@@ -93,9 +87,6 @@ reads_next s p row o prompt was nx h n x after on begun phase served = go (bus p
     d : RowReading
     d = row_reading k.story.bus_state row
 
-    pl : IsPlain s p k
-    pl = run_state_plain s p was.standing.devices
-
     ql : IsPlain s (row ∷ p) j
     ql = run_state_plain s (row ∷ p) nx.stood.standing.devices
 
@@ -110,12 +101,12 @@ reads_next s p row o prompt was nx h n x after on begun phase served = go (bus p
 
     before : phase_of (bus_of k) ≡ Phase.DataIn
     before =
-        ap phase_of pl.bus
+        ap phase_of was.plain.bus
         ∙ (λ i. if sym same_lines.msg i then (if sym same_lines.io i then Phase.MessageIn else Phase.MessageOut) else if sym same_lines.cd i then (if sym same_lines.io i then Phase.Status else Phase.Command) else if sym same_lines.io i then Phase.DataIn else Phase.DataOut)
         ∙ ap phase_of (sym ql.bus) ∙ phase
 
     here : k.story.bus_state.connection ≡ Some n
-    here = pl.connection ∙ w.before
+    here = was.plain.connection ∙ w.before
 
     next : d.next ≡ Some n
     next = ql.connection ∙ after
@@ -132,14 +123,13 @@ reads_next s p row o prompt was nx h n x after on begun phase served = go (bus p
 
     go : (q : Bool) → (bus p).rst ≡ q → is_writing x ≡ false
     go true e = h.reads n x w.before e begun_before before served_before
-    go false e = at (is_writing x) refl
+    go false e =
+        by_bool (is_writing x)
+        (λ f. wrong' (sym (λ i. not (f i)) ∙ sym (λ i. is_directed (lines.1 i) (writes_of (served_before i))) ∙ (was.planned n w.before e).serves begun_before lines.0))
+        (λ f. f)
       where
         lines : (is_data (bus_of k) ≡ true) × ((bus_of k).io ≡ true)
         lines = in_lines (bus_of k) (ap is_data_in before)
-
-        at : (q : Bool) → is_writing x ≡ q → is_writing x ≡ false
-        at false f = f
-        at true f = wrong' (sym (λ i. not (f i)) ∙ sym (λ i. is_directed (lines.1 i) (writes_of (served_before i))) ∙ (was.planned n w.before e).serves begun_before lines.0)
 
 -- ---- any row
 

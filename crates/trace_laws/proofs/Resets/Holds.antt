@@ -6,19 +6,18 @@ use proofs.Names.{Some, None, refl, sym, ap, cases_eq, same_Some, if◌then◌el
 use proofs.Names.{drives-fault, same_self, change_of, falls, LineSet, none, same, same_set, union, changes_phase}
 use proofs.Names.{is_message_in, call, connection, connection_after, connection_of, bus, drives, last_time, line_times}
 use proofs.Names.{Drives, Row, Change, Connection, only_rst, ScenarioValue, Obeys, bus_clear, due_at, earlier_due, Due}
-use proofs.Names.{IsLeast, due, IsPrompt, own_of, AreOfDevices, obeys_fits, seats_are, change_plain, due_in_reset}
-use proofs.Names.{is_at, row_is, least_is, due_calm, due_holding, due_there, one_of, own_reset_is, drives_other}
-use proofs.Names.{drives_own, fault_change, by_calm, reset_or_calm, BeginsConnection, EndLines, Linked, by_reselection}
-use proofs.Names.{by_selection, connected_bus, target_side, device_with, own_time, reset_due, row_of_fault}
-use proofs.Names.{row_of_lines, UnderRst, phase_same, target_moves, link_calm, AnyStage, LinkStage, apart, linked}
-use proofs.Names.{when_offering, when_pulsing, when_selected, when_settling, when_shaking, when_turning, ends}
-use proofs.{Names.{HasNoPhase}, Bytes.{Blocks.{commands_are}, Facts.{byte_values}}, Common.Impossible.{none_some}}
-use proofs.Lines.Connections.{ConnectionRow, RowKindOf, begins_now, connection_row, goes_now, row_kind}
-use proofs.Lines.{Connections.{stage_of_connection}, Crossings.{RowFacts, ends_here, row_facts, stays}}
-use proofs.Lines.{First.{under_rst}, Joint.{NextStood, Stood, values_of}, Rows.{LinkRow, link_row}}
-use proofs.Lines.UnderRst.{bsy_stands}
-use Rattle.link_laws.specs.bus_laws.proofs.Together.{by_reset}
-use Rattle.trace_laws.proofs.Lines.Rows as rows
+use proofs.Names.{IsLeast, due, IsPrompt, own_of, AreOfDevices, obeys_fits, seats_are, change_plain, drives_other}
+use proofs.Names.{drives_own, fault_change, due_calm, due_holding, due_there, one_of, own_reset_is, due_in_reset, is_at}
+use proofs.Names.{least_is, row_is, by_calm, reset_or_calm, by_reset, BeginsConnection, EndLines, Linked}
+use proofs.Names.{by_reselection, by_selection, connected_bus, target_side, device_with, own_time, reset_due}
+use proofs.Names.{row_of_fault, row_of_lines, UnderRst, phase_same, target_moves, link_calm, AnyStage, LinkStage}
+use proofs.Names.{linked, when_offering, when_pulsing, when_selected, when_settling, when_shaking, when_turning}
+use proofs.Names.{commands_are, byte_values, none_some, by_bool, ConnectionRow, RowKindOf, begins_now, connection_row}
+use proofs.Names.{goes_now, row_kind, stage_of_connection, RowFacts, ends_here, row_facts, stays, under_rst, NextStood}
+use proofs.Names.{Stood, values_of, LinkRow, link_row, bsy_stands, HasNoPhase}
+use Rattle.story_laws.specs.link_laws.specs.LinkStages.{apart}
+use Rattle.story_laws.specs.link_laws.specs.Phases.{ends}
+use Rattle.story_laws.specs.row_laws.proofs.Lines.Rows as rows
 
 -- ---- a row before or after which RST is true
 
@@ -35,23 +34,22 @@ clear_kind d lat time own last x e = go (same_set own none) e
     go false z = (is_at (time + lat) none x z).kind_is
 
 in_reset : (s : ScenarioValue) (p : List Row) (row : Row) → AreOfDevices p → UnderRst s p → IsLeast (due s p) 8 row → LetsGo row
-in_reset s p row dv rs m = go (drives p row.dev).rst refl
+in_reset s p row dv rs m =
+    by_bool (drives p row.dev).rst
+    (λ on.
+    let l = due_there s p row.dev x m.is_due in
+    let z = is_at ((own_of p row.dev).rst + 25000 + l.latency) none x (sym (due_holding s p row.dev l.latency dv m.inside l.latency_is on) ∙ m.is_due) in
+    all_lines (row_is row none z.kind_is))
+    (λ off.
+    let l = due_there s p row.dev x m.is_due in
+    let calm = due_calm s p row.dev dv m.inside off ∙ ap (earlier_due (reset_due s p row.dev)) (due_in_reset s p row.dev l.latency (drives p row.dev) dv m.inside l.latency_is rs.reset refl) in
+    elim (one_of (reset_due s p row.dev) (bus_clear (device_with row.dev l.latency (drives p row.dev) (own_time p row.dev)) (line_times p).rst) x (sym calm ∙ m.is_due)) [
+      | inl r ↦ for_rst (row_is row only_rst (own_reset_is s p row.dev x r).kind_is)
+      | inr c ↦ all_lines (row_is row none (clear_kind row.dev l.latency (line_times p).rst (drives p row.dev) (own_time p row.dev) x c))
+    ])
   where
     x : Due
     x = record { time = row.time; kind = row.kind }
-
-    go : (q : Bool) → (drives p row.dev).rst ≡ q → LetsGo row
-    go true on =
-        let l = due_there s p row.dev x m.is_due in
-        let z = is_at ((own_of p row.dev).rst + 25000 + l.latency) none x (sym (due_holding s p row.dev l.latency dv m.inside l.latency_is on) ∙ m.is_due) in
-        all_lines (row_is row none z.kind_is)
-    go false off =
-        let l = due_there s p row.dev x m.is_due in
-        let calm = due_calm s p row.dev dv m.inside off ∙ ap (earlier_due (reset_due s p row.dev)) (due_in_reset s p row.dev l.latency (drives p row.dev) dv m.inside l.latency_is rs.reset refl) in
-        elim (one_of (reset_due s p row.dev) (bus_clear (device_with row.dev l.latency (drives p row.dev) (own_time p row.dev)) (line_times p).rst) x (sym calm ∙ m.is_due)) [
-          | inl r ↦ for_rst (row_is row only_rst (own_reset_is s p row.dev x r).kind_is)
-          | inr c ↦ all_lines (row_is row none (clear_kind row.dev l.latency (line_times p).rst (drives p row.dev) (own_time p row.dev) x c))
-        ]
 
 abbrev IsCut : List Row → Row → Type 0
 IsCut p row = ((bus p).rst ≡ true) ⊎ ((bus (row ∷ p)).rst ≡ true)
@@ -287,7 +285,10 @@ pub holds_start : HoldFacts []
 holds_start n e = none_some n e
 
 pub holds_next : (s : ScenarioValue) (p : List Row) (row : Row) → Obeys s → IsPrompt s (row ∷ p) → Stood s p → NextStood s p row → HoldFacts p → HoldFacts (row ∷ p)
-holds_next s p row o prompt was nx facts n after = go (bus (row ∷ p)).rst refl
+holds_next s p row o prompt was nx facts n after =
+    by_bool (bus (row ∷ p)).rst
+    (λ on. cut on (connection p) refl)
+    (λ off. calm off)
   where
     q : List Row
     q = row ∷ p
@@ -331,10 +332,6 @@ holds_next s p row o prompt was nx facts n after = go (bus (row ∷ p)).rst refl
               | inl m ↦ ap is_message_in v.linked_is.stands.bus_is ∙ ap is_message_in (sym v.linked_is.target) ∙ m
               | inr m ↦ wrong (sym m.0 ∙ quiet)
             ]
-
-    go : (r : Bool) → (bus q).rst ≡ r → EndsHold q n
-    go true on = cut on (connection p) refl
-    go false off = calm off
 
 -- ---- a phase is left under RST
 

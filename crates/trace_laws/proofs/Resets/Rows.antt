@@ -4,11 +4,10 @@ use Rattle.trace_laws.proofs
 use proofs.Names.{inl, inr, ℕ, ◌≡◌, ◌≢◌, ◌+◌, ◌⊎◌, Bool, true, false, ◌∙◌, List, ◌∷◌, Some, None, refl, sym, ap, subst}
 use proofs.Names.{cases_eq, none-some, if◌then◌else◌, wrong, LineSet, none, same, same_set, bus, drives, line_times}
 use proofs.Names.{Row, Connection, only_rst, ScenarioValue, bus_clear, due_at, earlier_due, Due, IsLeast, due, own_of}
-use proofs.Names.{is_at, due_in_reset, row_is, one_of, due_calm, due_holding, due_there, own_reset_is, drives_own}
-use proofs.Names.{drives_other, EndLines, Linked, own_time, device_with, reset_due, row_of_lines, HoldsReset}
-use proofs.Names.{IsUnderRst, quiet, holds, lingers, UnderRst, Standing, LinkStage, when_selected, when_settling}
-use proofs.Names.{when_turning, when_offering, when_shaking, when_pulsing, HasNoPhase, OfTarget}
-use proofs.Resets.Holds.{one_drives}
+use proofs.Names.{drives_own, drives_other, one_of, due_calm, due_holding, due_there, own_reset_is, is_at, due_in_reset}
+use proofs.Names.{row_is, EndLines, Linked, own_time, device_with, reset_due, row_of_lines, HoldsReset, IsUnderRst}
+use proofs.Names.{quiet, holds, lingers, UnderRst, Standing, LinkStage, when_selected, when_settling, when_turning}
+use proofs.{Names.{when_offering, when_shaking, when_pulsing, HasNoPhase, OfTarget}, Resets.Holds.{one_drives}}
 
 -- ---- a row under RST
 

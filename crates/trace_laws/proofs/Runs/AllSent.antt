@@ -1,38 +1,33 @@
 -- A process that runs with a row of a prompt trace, and would end GOOD, has sent all that it sends.
 use Rattle.trace_laws.proofs
 use proofs.Names.{ℕ, ◌≡◌, ◌⊎◌, inl, inr, ◌<◌, ◌≤◌, ◌+◌, ◌*◌, ◌/◌, Bool, true, false, not, ◌==◌, ◌∙◌, List, ◌∷◌, length}
-use proofs.Names.{Option, Some, None, refl, sym, ap, subst, arith, lt-div-mul-add, ltb-false, nat_tests, same_Some, ◌-◌}
+use proofs.Names.{Option, Some, None, refl, sym, ap, subst, arith, lt-div-mul-add, ltb-false, same_Some, ◌-◌}
 use proofs.Names.{if◌then◌else◌, is_some, nat_le, nat_lt, wrong, wrong', zero_of, change_of, LineSet, changes_phase}
 use proofs.Names.{is_data, call, connection, connection_after, bus, Row, Change, Connection, command_of, GOOD}
 use proofs.Names.{ScenarioValue, Obeys, Policy, array_after, reply_in, shows_run, Reply, count_in, range_in, Process}
 use proofs.Names.{process_of, Array, RowReading, row_reading, Story, policy_of, runs_in, runs_in_all, is_status_next}
-use proofs.Names.{phase_leaving, phase_of, Leaving, Next, Phase, Task, run_state_plain, target_def_of, progress_in}
-use proofs.Names.{IsLeast, due, IsPrompt, IsPlain, RunState, array_of, bus_of, or_start, process_served, run_state}
-use proofs.Names.{events_of_row, serving_of, is_writing, reply_now, task_if, is_true_telling, none_is, writers}
-use proofs.Names.{is_data_in, policy_for, change_plain, least_is, CommandFacts, InstructedFacts, frees_bus}
-use proofs.Names.{AnsweredOpen, IsTaken, PlaceFacts, PlacedBefore, PlacedIf, PlacedIn, RunFacts, HasRunLeft, RunsLeft}
-use proofs.Names.{run_total, IsWhole, RunsWhole, ends_badly, sends_none, sends_all, TellFacts, AreRepliesShown}
-use proofs.{Names.{FailsAsLeft, HasSentAll, RunsBlocks, WriteFacts, WritesAsked}, Lines.Connections.{IsGoing, going}}
-use proofs.{Lines.{Joint.{NextStood, Stood}, Plans.{is_directed, writes_of}}, Runs.Events.{RunsFrom, RunsInPhase}}
-use proofs.Runs.{Events.{answered, moved_all, reads, run_turn, runs_from, writes, reads_send_none}, Facts.{task_here}}
-use proofs.Runs.{Fits.{FitsRuns, blocks_named, fits_runs}, Parts.{HasMost}, Rows.{served_id}, Whole.{whole_run}}
-use proofs.{Tells.{Facts.{left_tells}, Traces.{tells_row}}, Writes.{Facts.{write_row}, Rows.{in_lines}}}
-use proofs.Writes.Written.{left_by}
+use proofs.Names.{phase_leaving, phase_of, Leaving, Next, Phase, Task, target_def_of, progress_in, IsPrompt, RunState}
+use proofs.Names.{array_of, bus_of, or_start, process_served, run_state, events_of_row, serving_of, is_writing}
+use proofs.Names.{reply_now, task_if, is_true_telling, none_is, writers, is_data_in, policy_for, change_plain, least_is}
+use proofs.Names.{by_bool, some_count, IsGoing, going, NextStood, Stood, is_directed, writes_of, frees_bus}
+use proofs.Names.{AnsweredOpen, IsTaken, PlaceFacts, PlacedBefore, PlacedIf, PlacedIn, AreRepliesShown, FailsAsLeft}
+use proofs.Names.{WriteFacts, WritesAsked, left_tells, CommandFacts, InstructedFacts, RunFacts, IsWhole, RunsWhole}
+use proofs.Names.{ends_badly, sends_none, sends_all, TellFacts, HasSentAll, RunsBlocks, HasRunLeft, RunsLeft, run_total}
+use proofs.{Attended.Told.{tells_row}, Runs.Events.{RunsFrom, RunsInPhase, answered, moved_all, reads, run_turn}}
+use proofs.Runs.{Events.{runs_from, writes, reads_send_none}, Facts.{task_here}, Fits.{FitsRuns, blocks_named}}
+use proofs.{Runs.{Fits.{fits_runs}, Parts.{HasMost}, Rows.{served_id}, Whole.{whole_run}}, Writes.Facts.{write_row}}
+use proofs.Writes.{Rows.{in_lines}, Written.{left_by}}
 
 -- ---- blocks are moved in one run at least
 
 pub zero_blocks : (blocks size moved : ℕ) → (moved == 0) ≡ false → moved ≡ blocks * size → 1 ≤ blocks
-zero_blocks blocks size moved some e = go (blocks == 0) refl
+zero_blocks blocks size moved some e =
+    by_bool (blocks == 0)
+    (λ f. wrong (sym (ap (λ (x : ℕ). x == 0) (e ∙ ap (λ (x : ℕ). x * size) (zero_of blocks f) ∙ none size)) ∙ some))
+    (λ f. some_count blocks f)
   where
-    some_of : (n : ℕ) → (n == 0) ≡ false → 1 ≤ n
-    some_of n f = grind (arith, nat_tests)
-
     none : (n : ℕ) → 0 * n ≡ 0
     none n = omega arith
-
-    go : (q : Bool) → (blocks == 0) ≡ q → 1 ≤ blocks
-    go false f = some_of blocks f
-    go true f = wrong (sym (ap (λ (x : ℕ). x == 0) (e ∙ ap (λ (x : ℕ). x * size) (zero_of blocks f) ∙ none size)) ∙ some)
 
 pub some_run : (policy : Policy) (blocks : ℕ) → HasMost policy → 1 ≤ blocks → 1 ≤ runs_in policy (Some blocks)
 some_run Policy.Never blocks m h = omega arith
@@ -40,28 +35,19 @@ some_run Policy.Command blocks m h = omega arith
 some_run (Policy.Burst most) blocks m h = least ((blocks + (most - 1)) / most) most blocks m h (lt-div-mul-add m)
   where
     least : (q d b : ℕ) → 1 ≤ d → 1 ≤ b → b + (d - 1) < q * d + d → 1 ≤ q
-    least q d b k l e = go (q == 0) refl
+    least q d b k l e =
+        by_bool (q == 0)
+        (λ f. let zero : q * d ≡ 0 = ap (λ (x : ℕ). x * d) (zero_of q f) ∙ none d in absurd omega (arith, zero, k, l, e))
+        (λ f. some_count q f)
       where
-        some_of : (n : ℕ) → (n == 0) ≡ false → 1 ≤ n
-        some_of n f = grind (arith, nat_tests)
-
         none : (n : ℕ) → 0 * n ≡ 0
         none n = omega arith
-
-        go : (z : Bool) → (q == 0) ≡ z → 1 ≤ q
-        go false f = some_of q f
-        go true f = let zero : q * d ≡ 0 = ap (λ (x : ℕ). x * d) (zero_of q f) ∙ none d in absurd omega (arith, zero, k, l, e)
-some_run (Policy.NoSave most) blocks m h = go (nat_le blocks most)
-  where
-    go : (q : Bool) → 1 ≤ (if q then 1 else 2)
-    go true = omega arith
-    go false = omega arith
+some_run (Policy.NoSave most) blocks m h =
+    elim (nat_le blocks most) as (λ q. 1 ≤ (if q then 1 else 2)) [ true ↦ omega arith | false ↦ omega arith ]
 
 pub runs_blocks : (policy : Policy) → HasMost policy → RunsBlocks policy
-runs_blocks Policy.Never m = tt
-runs_blocks Policy.Command m = tt
 runs_blocks (Policy.Burst most) m = m
-runs_blocks (Policy.NoSave most) m = tt
+runs_blocks _ m = tt
 
 -- ---- replies
 
@@ -107,20 +93,14 @@ sent_all s p row n q h = by (runs_from (serving_of s k n.target) (bus_of k).atn 
     d : RowReading
     d = row_reading k.story.bus_state row
 
-    m : IsLeast (due s p) 8 row
-    m = least_is s p row h.prompt.1
-
-    pl : IsPlain s p k
-    pl = run_state_plain s p h.was.standing.devices
-
     change : d.change ≡ change_of p row
-    change = change_plain s row p h.was.standing.devices m.inside
+    change = change_plain s row p h.was.standing.devices (least_is s p row h.prompt.1).inside
 
     con : k.story.bus_state.connection ≡ Some n
-    con = pl.connection ∙ h.stands
+    con = h.was.plain.connection ∙ h.stands
 
     quiet : (bus_of k).rst ≡ false
-    quiet = ap (λ (l : LineSet). l.rst) pl.bus ∙ h.calm
+    quiet = ap (λ (l : LineSet). l.rst) h.was.plain.bus ∙ h.calm
 
     off : d.change.after.rst ≡ false
     off = ap (λ (x : Change). x.after.rst) change ∙ h.calm_after
@@ -145,7 +125,7 @@ sent_all s p row n q h = by (runs_from (serving_of s k n.target) (bus_of k).atn 
     target = (h.pointers.served n q con quiet h.served h.writes).target_is
 
     fits : FitsRuns s k q t
-    fits = fits_runs s k q h.obeys (pl.array ∙ ap (λ (x : Story). array_after s x.history) (sym pl.story)) own h.writes
+    fits = fits_runs s k q h.obeys (h.was.plain.array ∙ ap (λ (x : Story). array_after s x.history) (sym h.was.plain.story)) own h.writes
 
     moved : t.moved ≡ length q.sent
     moved = (λ i. if h.good i then (if h.writes i then length q.sent else length (reply_now (array_of s k) q).bytes) else 0)
@@ -210,7 +190,7 @@ sent_all s p row n q h = by (runs_from (serving_of s k n.target) (bus_of k).atn 
         h.served target (record { blocks = count; blocks_are = named; moved = blocks; runs = runs_blocks (policy_for s q) fits.fit.most })
       where
         next : d.next ≡ connection (row ∷ p)
-        next = λ i. connection_after (pl.connection i) (pl.call i) (change i) row
+        next = λ i. connection_after (h.was.plain.connection i) (h.was.plain.call i) (change i) row
 
         goes : (o : Option Connection) → connection (row ∷ p) ≡ o → d.next ≡ Some n
         goes None e = wrong' (sym (ap (λ (x : Option Connection). is_some x) (next ∙ e)) ∙ r.stands)
@@ -235,7 +215,10 @@ sent_all s p row n q h = by (runs_from (serving_of s k n.target) (bus_of k).atn 
 -- ---- any row
 
 pub runs_whole : (s : ScenarioValue) (p : List Row) (row : Row) → Obeys s → IsPrompt s (row ∷ p) → Stood s p → NextStood s p row → CommandFacts s p → InstructedFacts s p → WritesAsked s p row → WriteFacts s p → RunFacts s p → PlaceFacts s p → RunsLeft s p → is_true_telling s (run_state s p) row (row_reading (run_state s p).story.bus_state row) ≡ true → RunsWhole s p row
-runs_whole s p row o prompt was nx commands told asked facts pointers places left telling n q con calm off runs served = go (is_writing q) refl
+runs_whole s p row o prompt was nx commands told asked facts pointers places left telling n q con calm off runs served =
+    by_bool (is_writing q)
+    (λ w. by w ((reply_now (array_of s k) q).status == GOOD) refl (length q.sent == 0) refl)
+    (λ w. sends_none (reads_send_none s q o (served_id s k.served q served).1 w))
   where
     k : RunState
     k = run_state s p
@@ -269,10 +252,6 @@ runs_whole s p row o prompt was nx commands told asked facts pointers places lef
     by w false e y f = ends_badly e
     by w true e true f = sends_none (zero_of (length q.sent) f)
     by w true e false f = sends_all (all w e f)
-
-    go : (w : Bool) → is_writing q ≡ w → IsWhole s k (writers s p) q
-    go false w = sends_none (reads_send_none s q o (served_id s k.served q served).1 w)
-    go true w = by w ((reply_now (array_of s k) q).status == GOOD) refl (length q.sent == 0) refl
 
 -- By what the rows tell.
 pub whole_as_left : (s : ScenarioValue) (p : List Row) (row : Row) → Obeys s → IsPrompt s (row ∷ p) → Stood s p → NextStood s p row → TellFacts s p → CommandFacts s p → InstructedFacts s p → WritesAsked s p row → WriteFacts s p → RunFacts s p → PlaceFacts s p → RunsLeft s p → AreRepliesShown s (run_state s p) → FailsAsLeft s p row → RunsWhole s p row

@@ -7,22 +7,21 @@ use proofs.Names.{same_self, change_of, rises, LineSet, changes_phase, is_data, 
 use proofs.Names.{receiver_of, drives, last_time, line_times, phase_time, bus, Row, Change, Connection, Handshakes}
 use proofs.Names.{handshakes, GOOD, dialogue, is_of_device, only_rst, ScenarioValue, Obeys, Reply, Process, row_reading}
 use proofs.Names.{due_at, policy_of, run_at, run_length, is_pulsed_phase, begun, phase_of, run_length_if, follows_in}
-use proofs.Names.{Phase, Task, run_state_plain, target_def_of, IsLeast, due, IsPrompt, IsPlain, AreOfDevices, RunState}
-use proofs.Names.{bus_of, process_here, process_served, carried_here, run_state, serving_of, offering_of, is_writing}
-use proofs.Names.{task_if, moved_count, reply_now, IsOver, change_plain, least_is, fault_change, drives_own, by_calm}
-use proofs.Names.{reset_or_calm, EndLines, initiator_side, target_side, connected_bus, Linked, unreset_due}
-use proofs.Names.{row_of_lines, row_of_fault, never, due_of, Mover, by_fault, by_initiator, by_target, target_plain}
-use proofs.Names.{initiator_plain, offering_with, mover_is, initiator_moves, target_moves, phase_same, no_rise}
-use proofs.Names.{pulsed_target_out, pulsed_initiator_out, pulse_time, leaving_time, ack_pulse_end_time, answer_time}
-use proofs.Names.{release_time, byte_driven_time, given_bits, settling_target, settling_initiator, handing_initiator}
-use proofs.Names.{LinkStage, when_selected, when_settling, when_turning, when_offering, when_shaking, when_pulsing}
-use proofs.Names.{ends, Settling, Pulsing, times_here, offset_here, run_count, pulses_here, AreCounted, CountFacts}
-use proofs.{Names.{RunFacts}, Common.Tests.{risen}, Lines.Connections.{connection_row, stage_of_connection}}
-use proofs.Lines.{Crossings.{RowFacts, stays, ends_here}, Joint.{Stood, here_served}, Kept.{turn}, Plans.{is_directed}}
-use proofs.{Lines.{Plans.{writes_of, writes_out}, Rows.{row_at, link_row}}, Pointers.Rows.{phase_by}}
-use proofs.Runs.{Facts.{AnswersAll, run_active, crossing_begun}, Parts.{byte_within}, Steps.{OutStep, by_initiator_row}}
-use proofs.Runs.Steps.{by_target_row, struck_row, left_row, link_step, pulsed_as, no_in}
-use Rattle.link_laws.specs.bus_laws.proofs.Together.{by_reset}
+use proofs.Names.{Phase, Task, target_def_of, IsLeast, due, IsPrompt, AreOfDevices, RunState, bus_of, process_here}
+use proofs.Names.{process_served, carried_here, run_state, serving_of, offering_of, is_writing, task_if, moved_count}
+use proofs.Names.{reply_now, IsOver, change_plain, fault_change, drives_own, least_is, by_calm, reset_or_calm, by_reset}
+use proofs.Names.{EndLines, initiator_side, target_side, connected_bus, Linked, unreset_due, row_of_lines, row_of_fault}
+use proofs.Names.{due_of, Mover, by_fault, by_initiator, by_target, target_plain, initiator_plain, offering_with}
+use proofs.Names.{mover_is, never, settling_target, settling_initiator, handing_initiator, initiator_moves}
+use proofs.Names.{target_moves, phase_same, no_rise, pulsed_target_out, pulsed_initiator_out, pulse_time, leaving_time}
+use proofs.Names.{ack_pulse_end_time, answer_time, release_time, byte_driven_time, given_bits, LinkStage, when_selected}
+use proofs.Names.{when_settling, when_turning, when_offering, when_shaking, when_pulsing, Settling, Pulsing, times_here}
+use proofs.Names.{offset_here, run_count, risen, connection_row, stage_of_connection, RowFacts, stays, ends_here, Stood}
+use proofs.Names.{here_served, turn, is_directed, writes_of, writes_out, row_at, link_row, phase_by, pulses_here}
+use proofs.{Names.{AreCounted, CountFacts, RunFacts}, Runs.Facts.{AnswersAll, run_active, crossing_begun}}
+use proofs.Runs.{Parts.{byte_within}, Steps.{OutStep, by_initiator_row, by_target_row, struck_row, left_row, link_step}}
+use proofs.Runs.Steps.{pulsed_as, no_in}
+use Rattle.story_laws.specs.link_laws.specs.Phases.{ends}
 
 -- With it by pulses all requests are answered as the phase is left.
 pub record PulseStep (s : ScenarioValue) (p : List Row) (n : Connection) (c : Change) : Type 0 where
@@ -194,11 +193,8 @@ answers_all s p row n o prompt was facts con calm off after b ep q t served task
     k : RunState
     k = run_state s p
 
-    pl : IsPlain s p k
-    pl = run_state_plain s p was.standing.devices
-
     here : phase_of (bus p) ≡ Phase.DataOut
-    here = ap phase_of (sym pl.bus) ∙ phase
+    here = ap phase_of (sym was.plain.bus) ∙ phase
 
     counts : AreCounted (handshakes p) (bus p) (pulses_here p) (run_count s p n)
     counts = facts.counts n con calm b here
@@ -207,11 +203,11 @@ answers_all s p row n o prompt was facts con calm off after b ep q t served task
     run = ap (run_length_if (policy_of (target_def_of s n.target))) task
 
     answered : (handshakes p).answers ≡ run_count s p n → k.handshakes.answers ≡ run_length (policy_of (target_def_of s n.target)) t
-    answered e = ap (λ (h : Handshakes). h.answers) pl.handshakes ∙ e ∙ run
+    answered e = ap (λ (h : Handshakes). h.answers) was.plain.handshakes ∙ e ∙ run
 
     -- whether a byte follows
     follows : (offering_of s k n.target).follows ≡ (if pulses_here p then nat_lt (handshakes p).requests (run_count s p n) else nat_lt (handshakes p).answers (run_count s p n))
-    follows = λ i. if is_pulsed_phase ((pl.begun ∙ b) i) (pl.bus i) (pl.dialogue i).heard.now.agreement then nat_lt (pl.handshakes i).requests (run_count s p n) else follows_in (serving_of s k n.target) (pl.handshakes i) (bus_of k).atn (phase i)
+    follows = λ i. if is_pulsed_phase ((was.plain.begun ∙ b) i) (was.plain.bus i) (was.plain.dialogue i).heard.now.agreement then nat_lt (was.plain.handshakes i).requests (run_count s p n) else follows_in (serving_of s k n.target) (was.plain.handshakes i) (bus_of k).atn (phase i)
 
     over : IsOver s k n → (q : Bool) → pulses_here p ≡ q → (handshakes p).answers ≡ run_count s p n
     over v true u =
@@ -269,35 +265,29 @@ run_moved s p row n o prompt was facts counted con calm off after q known crosse
     k : RunState
     k = run_state s p
 
-    dv : AreOfDevices p
-    dv = was.standing.devices
-
     lt : row.dev < 8
     lt = (least_is s p row prompt.1).inside
-
-    pl : IsPlain s p k
-    pl = run_state_plain s p dv
 
     b : begun p ≡ true
     b = crossing_begun s p row n o prompt was con calm off lt crosses
 
     served : process_served s k ≡ Some q
-    served = here_served s k n q (was.books.knows n (pl.connection ∙ con) (ap (λ (l : LineSet). l.rst) pl.bus ∙ calm)) known
+    served = here_served s k n q (was.books.knows n (was.plain.connection ∙ con) (ap (λ (l : LineSet). l.rst) was.plain.bus ∙ calm)) known
 
     io : (bus_of k).io ≡ false
-    io = writes_out (bus_of k).io q (sym (ap (λ (x : Option Process). is_directed (bus_of k).io (writes_of x)) served) ∙ (was.planned n con calm).serves (pl.begun ∙ b) data_phase) w
+    io = writes_out (bus_of k).io q (sym (ap (λ (x : Option Process). is_directed (bus_of k).io (writes_of x)) served) ∙ (was.planned n con calm).serves (was.plain.begun ∙ b) data_phase) w
 
     phase : phase_of (bus_of k) ≡ Phase.DataOut
     phase = out_phase (bus_of k) data_phase io
 
     here : phase_of (bus p) ≡ Phase.DataOut
-    here = ap phase_of (sym pl.bus) ∙ phase
+    here = ap phase_of (sym was.plain.bus) ∙ phase
 
     task : Task
     task = Rattle.bus_due.specs.Tasks.task_with (Rattle.bus_due.specs.RunState.array_of s k) (Rattle.bus_due.specs.LastingState.progress_in k.progress q.id) q (carried_here k q.id) (reply_now (Rattle.bus_due.specs.RunState.array_of s k) q) (Rattle.bus_due.specs.disk_array.specs.ArrayHistory.reply_in (Rattle.bus_due.specs.RunState.array_of s k).replies q.id)
 
     target : q.target ≡ n.target
-    target = (facts.served n q (pl.connection ∙ con) (ap (λ (l : LineSet). l.rst) pl.bus ∙ calm) served w).target_is
+    target = (facts.served n q (was.plain.connection ∙ con) (ap (λ (l : LineSet). l.rst) was.plain.bus ∙ calm) served w).target_is
 
     run : run_count s p n ≡ run_length (policy_of (target_def_of s q.target)) task
     run = ap (run_length_if (policy_of (target_def_of s n.target))) (ap (task_if s k) served) ∙ ap (λ (x : ℕ). run_length (policy_of (target_def_of s x)) task) (sym target)
@@ -306,7 +296,7 @@ run_moved s p row n o prompt was facts counted con calm off after q known crosse
     counts = counted.counts n con calm b here
 
     rose : rises (change_of p row).before.ack (change_of p row).after.ack ≡ true
-    rose = rise_of n (change_of p row) (ap (λ (l : LineSet). l.io) (sym pl.bus) ∙ io) ((λ i. is_some (receiver_of (sym (pl.connection ∙ con) i) (sym (change_plain s row p dv lt) i))) ∙ crosses)
+    rose = rise_of n (change_of p row) (ap (λ (l : LineSet). l.io) (sym was.plain.bus) ∙ io) ((λ i. is_some (receiver_of (sym (was.plain.connection ∙ con) i) (sym (change_plain s row p was.standing.devices lt) i))) ∙ crosses)
 
     answered_p : (v : Bool) → pulses_here p ≡ v → (handshakes p).answers < run_count s p n
     answered_p true u =
@@ -316,7 +306,7 @@ run_moved s p row n o prompt was facts counted con calm off after q known crosse
     answered_p false u = (counts.waits u (((out_step s p row n prompt was con calm off b here after).step.answers rose).0 u) (risen (bus p).ack (bus (row ∷ p)).ack rose)).0
 
     answered : k.handshakes.answers < run_count s p n
-    answered = subst (λ (h : Handshakes). h.answers < run_count s p n) (sym pl.handshakes) (answered_p (pulses_here p) refl)
+    answered = subst (λ (h : Handshakes). h.answers < run_count s p n) (sym was.plain.handshakes) (answered_p (pulses_here p) refl)
 
     less : (a start place moved sent : ℕ) → a ≡ start + place → start + place < moved → moved ≤ sent → a < sent
     less a start place moved sent e h m = omega (arith, e, h, m)

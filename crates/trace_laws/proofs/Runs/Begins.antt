@@ -1,8 +1,8 @@
 -- As a command enters the queue of its unit the reply that it would have stays (7.8).
 use Rattle.trace_laws.proofs
 use proofs.Names.{ℕ, ◌≡◌, Bool, true, false, not, ◌&&◌, ◌==◌, ◌∙◌, List, [], ◌∷◌, Option, Some, None, refl, sym, ap}
-use proofs.Names.{◌⊎◌, inl, inr, subst, arith, ◌++◌, not-false, nat_tests, same_Some, list_any, if◌then◌else◌, nat_lt}
-use proofs.Names.{is_some, ◌-◌, eq_self, wrong', Event, rises, LineSet, changes_phase, is_command, Row, Connection}
+use proofs.Names.{◌⊎◌, inl, inr, subst, ◌++◌, not-false, same_Some, list_any, if◌then◌else◌, nat_lt, is_some, ◌-◌}
+use proofs.Names.{eq_self, wrong', nothing_below, Event, rises, LineSet, changes_phase, is_command, Row, Connection}
 use proofs.Names.{command_of, ScenarioValue, Policy, found_target, found_unit, choice_target, choice_unit, array_after}
 use proofs.Names.{array_step, Contents, CommandContext, execution, is_request_sense, choice, count_in, range_in}
 use proofs.Names.{Process, process_of, context_at, step, settled_array_if, accept_step, accept_step_at, queue_step}
@@ -14,9 +14,9 @@ use proofs.Names.{end_events, carried_if, Link, Story, policy_of, is_never, arri
 use proofs.Names.{Serving, phase_leaving, phase_of, leaving_by, Arrival, Leaving, Phase, Room, Task, target_def_of}
 use proofs.Names.{progress_in, RunState, or_start, array_of, bus_of, process_served, array_after_events, leaving}
 use proofs.Names.{serving_of, moved_count, reply_now, size_of, is_writing, task_of, task_if, room_of, is_idle_unit}
-use proofs.{Common.Impossible.{none_some}, Pointers.Rows.{run_lines}, Runs.Facts.{task_here, none_in_all}}
-use proofs.Runs.{Facts.{write_no_sense}, Fits.{blocks_named}, Parts.{RunsFit}}
-use Rattle.link_laws.proofs.LeavingWays as ways
+use proofs.{Names.{none_some, run_lines}, Runs.{Facts.{task_here, none_in_all, write_no_sense}, Fits.{blocks_named}}}
+use proofs.Runs.Parts.{RunsFit}
+use Rattle.story_laws.specs.link_laws.proofs.LeavingWays as ways
 
 -- ---- the unit
 
@@ -248,10 +248,7 @@ arrives s k q policy own w is fit more arrival = go k.array refl
         by : (x : Option UnitState) → unit_state_at a.units q.target q.unit ≡ x → SameRun (array_of s k) (or_start s (array_after_events s k.array (queue_event s k.story.history q.id ∷ []))) q
         by None z =
             let size : (task_here s k q).size ≡ 0 = ap (λ (b : Array). size_of (unit_state_at b.units q.target q.unit)) here ∙ no_units (unit_state_at a.units q.target q.unit) z in
-            wrong' (sym (ap (λ (m : ℕ). nat_lt (task_here s k q).runs m) (none_in_all policy (task_here s k q) (count_in (range_in (command_of q.cdb))) fit (blocks_named (command_of q.cdb) w) size) ∙ never (task_here s k q).runs) ∙ more)
-          where
-            never : (m : ℕ) → nat_lt m 0 ≡ false
-            never m = grind (arith, nat_tests)
+            wrong' (sym (ap (λ (m : ℕ). nat_lt (task_here s k q).runs m) (none_in_all policy (task_here s k q) (count_in (range_in (command_of q.cdb))) fit (blocks_named (command_of q.cdb) w) size) ∙ nothing_below (task_here s k q).runs) ∙ more)
         by (Some u) z =
             let arrived : (arrival_by policy false (room_of a (Some u)) ≡ Arrival.Guest) ⊎ (arrival_by policy false (room_of a (Some u)) ≡ Arrival.AtOnce) =
             subst (λ (b : Array). (arrival_by policy false (room_of b (Some u)) ≡ Arrival.Guest) ⊎ (arrival_by policy false (room_of b (Some u)) ≡ Arrival.AtOnce)) here

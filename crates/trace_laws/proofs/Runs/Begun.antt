@@ -1,17 +1,16 @@
 -- Of a prompt trace: a run that is begun has a byte, from MESSAGE IN and from COMMAND.
 use Rattle.trace_laws.proofs
 use proofs.Names.{ℕ, ◌≡◌, ◌⊎◌, inl, inr, ◌+◌, ◌≤◌, Bool, true, false, not, ◌&&◌, ◌∙◌, List, [], ◌∷◌, Option, Some, None}
-use proofs.Names.{refl, sym, ap, subst, arith, if◌then◌else◌, nat_lt, wrong', Event, change_of, LineSet, changes_phase}
-use proofs.Names.{is_command, is_message_out, connection, connection_after, bus, Row, Change, Connection, ScenarioValue}
-use proofs.Names.{Obeys, Policy, array_after, Process, process_of, carried_id, RowReading, row_reading, CarriedBytes}
-use proofs.Names.{carried_of, is_whole_block, row_events_by, queue_event, queue_events, carried_if, Item, process, Link}
-use proofs.Names.{Story, policy_of, run_length, runs_in_all, begun, phase_of, run_length_if, one_if, Arrival, Phase}
-use proofs.Names.{run_state_plain, target_def_of, ProcessProgress, progress_in, IsPrompt, IsPlain, AreOfDevices}
-use proofs.Names.{RunState, or_start, array_of, bus_of, process_item, process_served, run_state, array_after_events}
-use proofs.Names.{served_after, progress_after, progress_by_leaving, leaving_of, leaving, serving_of, arrival_at}
-use proofs.Names.{is_writing, task_if, arrival_if, arrival_of, Knows, change_plain, run_count, RunFacts, IsServedWell}
-use proofs.{Common.Impossible.{none_some}, Lines.{Connections.{connection_row}, Crossings.{RowFacts, stays, ends_here}}}
-use proofs.{Lines.Joint.{Stood, NextStood}, Pointers.{Rows.{run_lines, phase_by}, Turns.{runs_more}}}
+use proofs.Names.{refl, sym, ap, subst, if◌then◌else◌, nat_lt, wrong', plus_none, Event, change_of, LineSet}
+use proofs.Names.{changes_phase, is_command, is_message_out, connection, connection_after, bus, Row, Change, Connection}
+use proofs.Names.{ScenarioValue, Obeys, Policy, array_after, Process, process_of, carried_id, RowReading, row_reading}
+use proofs.Names.{CarriedBytes, carried_of, is_whole_block, row_events_by, queue_event, queue_events, carried_if, Item}
+use proofs.Names.{process, Link, Story, policy_of, run_length, runs_in_all, begun, phase_of, run_length_if, one_if}
+use proofs.Names.{Arrival, Phase, target_def_of, ProcessProgress, progress_in, IsPrompt, RunState, or_start, array_of}
+use proofs.Names.{bus_of, process_item, process_served, run_state, array_after_events, served_after, progress_after}
+use proofs.Names.{progress_by_leaving, leaving_of, leaving, serving_of, arrival_at, is_writing, task_if, arrival_if}
+use proofs.Names.{arrival_of, Knows, change_plain, run_count, none_some, by_bool, connection_row, RowFacts, stays}
+use proofs.Names.{ends_here, Stood, NextStood, run_lines, phase_by, runs_more, RunFacts, IsServedWell}
 use proofs.Runs.Begins.{SameRun, BeginsRun, begins_run, status_none, queued, row_queues, none_queued, arrives, run_kept}
 use proofs.Runs.{Begins.{IsRunEntry}, Facts.{task_here}, Fits.{FitsRuns, fits_runs}, Parts.{RunsFit, has_byte}}
 use proofs.Runs.Rows.{served_id}
@@ -32,17 +31,16 @@ no_command b e = go b.msg b.cd b.io e
 
 -- What the row tells at most.
 told : (s : ScenarioValue) (k : RunState) (q : Process) (l : Link) (before : LineSet) → l.item ≡ Some (process q.id) → (queue_events s k.story (carried_if k.story l.item) before ≡ []) ⊎ (queue_events s k.story (carried_if k.story l.item) before ≡ queue_event s k.story.history q.id ∷ [])
-told s k q l before e = go (is_command before && is_whole_block c) refl
+told s k q l before e =
+    by_bool (is_command before && is_whole_block c)
+    (λ f. inr (is ∙ (λ i. if f i then queue_event s k.story.history (carried_id k.story.carried q.id i) ∷ [] else [])))
+    (λ f. inl (is ∙ ap (λ (b : Bool). if b then queue_event s k.story.history c.id ∷ [] else []) f))
   where
     c : CarriedBytes
     c = carried_of k.story.carried q.id
 
     is : queue_events s k.story (carried_if k.story l.item) before ≡ (if is_command before && is_whole_block c then queue_event s k.story.history c.id ∷ [] else [])
     is = ap (λ (x : Option Item). queue_events s k.story (carried_if k.story x) before) e
-
-    go : (b : Bool) → (is_command before && is_whole_block c) ≡ b → (queue_events s k.story (carried_if k.story l.item) before ≡ []) ⊎ (queue_events s k.story (carried_if k.story l.item) before ≡ queue_event s k.story.history q.id ∷ [])
-    go true f = inr (is ∙ (λ i. if f i then queue_event s k.story.history (carried_id k.story.carried q.id i) ∷ [] else []))
-    go false f = inl (is ∙ ap (λ (b : Bool). if b then queue_event s k.story.history c.id ∷ [] else []) f)
 
 kept_array : (s : ScenarioValue) (k : RunState) (q : Process) (all : List Event) → all ≡ [] → SameRun (array_of s k) (or_start s (array_after_events s k.array all)) q
 kept_array s k q all e = subst (λ (x : List Event). SameRun (array_of s k) (or_start s (array_after_events s k.array x)) q) (sym e) (record { size = refl; moved = refl })
@@ -78,10 +76,7 @@ entry_array s k n q w served writes is fit more entry before same = by entry
 -- ---- the run
 
 pub no_more : (m : ℕ) (b : Bool) → b ≡ false → m + one_if b ≡ m
-no_more m b e = ap (λ (x : Bool). m + one_if x) e ∙ none m
-  where
-    none : (m : ℕ) → m + 0 ≡ m
-    none m = omega arith
+no_more m b e = ap (λ (x : Bool). m + one_if x) e ∙ plus_none m
 
 pub run_begun : (s : ScenarioValue) (p : List Row) (row : Row) (n : Connection) → Obeys s → IsPrompt s (row ∷ p) → Stood s p → NextStood s p row → RunFacts s p → connection p ≡ Some n → (bus p).rst ≡ false → (bus (row ∷ p)).rst ≡ false → connection (row ∷ p) ≡ Some n → changes_phase (change_of p row) ≡ true → phase_of (bus (row ∷ p)) ≡ Phase.DataOut → 1 ≤ run_count s (row ∷ p) n
 run_begun s p row n o prompt was nx facts con calm off after ep phase = by (connection_row s p row n o prompt was con calm off).facts
@@ -95,26 +90,20 @@ run_begun s p row n o prompt was nx facts con calm off after ep phase = by (conn
     policy : Policy
     policy = policy_of (target_def_of s n.target)
 
-    dv : AreOfDevices p
-    dv = was.standing.devices
-
-    pl : IsPlain s p k
-    pl = run_state_plain s p dv
-
     d : RowReading
     d = row_reading k.story.bus_state row
 
     change : d.change ≡ change_of p row
-    change = change_plain s row p dv (nx.stood.standing.devices).0
+    change = change_plain s row p was.standing.devices (nx.stood.standing.devices).0
 
     con_k : k.story.bus_state.connection ≡ Some n
-    con_k = pl.connection ∙ con
+    con_k = was.plain.connection ∙ con
 
     calm_k : (bus_of k).rst ≡ false
-    calm_k = ap (λ (l : LineSet). l.rst) pl.bus ∙ calm
+    calm_k = ap (λ (l : LineSet). l.rst) was.plain.bus ∙ calm
 
     next : d.next ≡ Some n
-    next = (λ i. connection_after (pl.connection i) (pl.call i) (change i) row) ∙ after
+    next = (λ i. connection_after (was.plain.connection i) (was.plain.call i) (change i) row) ∙ after
 
     run : (r : BeginsRun s k n) → k.exchange.begun ≡ true → 1 ≤ run_count s (row ∷ p) n
     run r b = subst (λ (x : ℕ). 1 ≤ x) (sym (count ∙ run_kept s k j policy q array runs)) (has_byte policy (task_here s k q) fit r.more)
@@ -126,7 +115,7 @@ run_begun s p row n o prompt was nx facts con calm off after ep phase = by (conn
         well = facts.served n q con_k calm_k r.served_is r.writes
 
         is : k.array ≡ array_after s k.story.history
-        is = pl.array ∙ ap (λ (x : Story). array_after s x.history) (sym pl.story)
+        is = was.plain.array ∙ ap (λ (x : Story). array_after s x.history) (sym was.plain.story)
 
         f : FitsRuns s k q (task_here s k q)
         f = fits_runs s k q o is (served_id s k.served q r.served_is).1 r.writes
@@ -139,7 +128,7 @@ run_begun s p row n o prompt was nx facts con calm off after ep phase = by (conn
 
         array : SameRun (array_of s k) (array_of s j) q
         array = subst (λ (x : List Event). SameRun (array_of s k) (or_start s (array_after_events s k.array x)) q) (sym events)
-            (entry_array s k n q (was.books.knows n con_k calm_k) r.served_is r.writes is fit r.more r.from d.change.before (ap (λ (x : Change). x.before) change ∙ sym pl.bus))
+            (entry_array s k n q (was.books.knows n con_k calm_k) r.served_is r.writes is fit r.more r.from d.change.before (ap (λ (x : Change). x.before) change ∙ sym was.plain.bus))
 
         progress : j.progress ≡ progress_by_leaving k (Some q) (leaving s k n.target)
         progress =
@@ -154,7 +143,10 @@ run_begun s p row n o prompt was nx facts con calm off after ep phase = by (conn
 
     by : RowFacts s p row n → 1 ≤ run_count s (row ∷ p) n
     by (ends_here g) = none_some n (sym g.stopped ∙ after)
-    by (stays g) = go (begun p) refl
+    by (stays g) =
+        by_bool (begun p)
+        (λ e. run (begins_run s k n (was.plain.begun ∙ e) (g.whereto turns e ∙ ap (λ (x : Phase). Some x) to)) (was.plain.begun ∙ e))
+        (λ e. wrong' (sym none_out ∙ g.first turns e))
       where
         same : g.change ≡ change_of p row
         same = sym g.row_is.change_is ∙ change
@@ -167,7 +159,3 @@ run_begun s p row n o prompt was nx facts con calm off after ep phase = by (conn
 
         none_out : is_message_out g.change.after ≡ false
         none_out = let l = run_lines g.change.after to in λ i. l.0 i && g.change.after.cd && not g.change.after.io
-
-        go : (q : Bool) → begun p ≡ q → 1 ≤ run_count s (row ∷ p) n
-        go false e = wrong' (sym none_out ∙ g.first turns e)
-        go true e = run (begins_run s k n (pl.begun ∙ e) (g.whereto turns e ∙ ap (λ (x : Phase). Some x) to)) (pl.begun ∙ e)

@@ -8,7 +8,7 @@ use proofs.Names.{handshakes_after, asked_if, answered_if, strikes_if, dialogue,
 use proofs.Names.{byte_crosses, Dialogue, ScenarioValue, phase_of, Phase, run_state_plain, IsPlain, AreOfDevices}
 use proofs.Names.{RunState, run_state, InConnection, in_connection, dialogue_by, SamePhase, same_phase_is, RowKind}
 use proofs.Names.{still, strikes, crosses, turns, IsRowIn, fault_change, row_of_fault, no_rise, count_more, run_count}
-use proofs.{Names.{AreCounted, pulses_here}, Pointers.Rows.{run_lines}, Runs.Steps.{OutStep}}
+use proofs.{Names.{run_lines, AreCounted, pulses_here}, Runs.Steps.{OutStep}}
 
 -- ---- counts
 
@@ -61,11 +61,8 @@ counts_by s p n c t pulsed u on short f k = go (rises c.before.ack c.after.ack) 
     asked : rises c.before.req c.after.req ≡ true → (pulses_here p ≡ true → h.requests + 1 ≤ run) × (pulses_here p ≡ false → h.answers < run)
     asked e = by (f.asks e).1
       where
-        some : 1 ≤ run
-        some = k.some
-
         by : ((h.requests == 0) ≡ true) ⊎ ((pulses_here p ≡ false → h.answers < run) × (pulses_here p ≡ true → h.requests < run)) → (pulses_here p ≡ true → h.requests + 1 ≤ run) × (pulses_here p ≡ false → h.answers < run)
-        by (inl z) = let none = zero_of h.requests z in let few = k.asked in (λ v. omega (arith, none, some), λ v. omega (arith, none, few, some))
+        by (inl z) = let none = zero_of h.requests z in let few = k.asked in (λ v. omega (arith, none, k.some), λ v. omega (arith, none, few, k.some))
         by (inr z) = (λ v. let m = z.1 v in omega (arith, m), z.0)
 
     go : (a : Bool) → rises c.before.ack c.after.ack ≡ a → (r : Bool) → rises c.before.req c.after.req ≡ r → AreCounted (answered_if a t (asked_if r t h)) c.after pulsed run

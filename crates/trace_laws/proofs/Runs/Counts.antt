@@ -7,11 +7,10 @@ use proofs.Names.{Handshakes, handshakes, no_handshakes, handshakes_after, asked
 use proofs.Names.{begun, begun_after, phase_of, Phase, IsPrompt, AreOfDevices, run_state, obeys_fits, SamePhase}
 use proofs.Names.{same_phase_is, IsRowIn, fault_change, BeginsConnection, by_selection, by_reselection, row_of_fault}
 use proofs.Names.{count_stays, runs_are_short, LinkStage, when_selected, when_settling, when_turning, when_offering}
-use proofs.Names.{when_shaking, when_pulsing, run_count, AreCounted, pulses_here, CountFacts, RunFacts}
-use proofs.Lines.Connections.{RowKindOf, begins_now, goes_now, row_kind, GoingRow, going_row, connection_row}
-use proofs.Lines.{Connections.{stage_of_connection}, First.{IsFirst}, Joint.{Stood, NextStood}}
-use proofs.{Pointers.Rows.{run_lines, phase_by}, Runs.{Asks.{out_step}, Begun.{run_begun}, CountRows.{pulses_stay}}}
-use proofs.Runs.{CountRows.{counts_stay}, Steps.{no_in}}
+use proofs.Names.{when_shaking, when_pulsing, run_count, RowKindOf, begins_now, goes_now, row_kind, GoingRow, going_row}
+use proofs.Names.{connection_row, stage_of_connection, IsFirst, Stood, NextStood, run_lines, phase_by, AreCounted}
+use proofs.{Names.{pulses_here, CountFacts, RunFacts}, Runs.{Asks.{out_step}, Begun.{run_begun}}}
+use proofs.Runs.{CountRows.{pulses_stay, counts_stay}, Steps.{no_in}}
 
 pub counts_start : (s : ScenarioValue) → CountFacts s []
 counts_start s = record { counts = λ n e. absurd cc }

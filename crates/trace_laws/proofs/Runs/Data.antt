@@ -2,11 +2,10 @@
 use Rattle.trace_laws.proofs
 use proofs.Names.{◌≡◌, Bool, true, false, ◌∙◌, List, [], ◌∷◌, Some, None, sym, ap, true≢false, if◌then◌else◌, is_some}
 use proofs.Names.{change_of, call, connection, connection_after, receiver_of, bus, Row, Connection, ScenarioValue}
-use proofs.Names.{Obeys, row_reading, run_state_plain, IsPrompt, IsPlain, AreOfDevices, run_state, change_plain}
-use proofs.{Names.{least_is, DataFacts, DataPremises, DataAsked, OfferFacts}, Lines.Connections.{connection_row}}
-use proofs.{Lines.{Crossings.{RowFacts, stays, ends_here}, Joint.{Stood, NextStood}}, Runs.Asks.{answers_all}}
-use proofs.Runs.{Asks.{run_moved}, Counts.{counts_start, counts_next, answers_few}, Facts.{runs_start, runs_next}}
-use proofs.Runs.Facts.{run_active, crossing_begun}
+use proofs.Names.{Obeys, row_reading, IsPrompt, run_state, change_plain, least_is, connection_row, RowFacts, stays}
+use proofs.Names.{ends_here, Stood, NextStood, OfferFacts, DataFacts, DataPremises, DataAsked}
+use proofs.Runs.{Asks.{answers_all, run_moved}, Counts.{counts_start, counts_next, answers_few}, Facts.{runs_start}}
+use proofs.Runs.Facts.{runs_next, run_active, crossing_begun}
 
 pub data_start : (s : ScenarioValue) → DataFacts s []
 data_start s = record { runs = runs_start s; counts = counts_start s }
@@ -28,18 +27,12 @@ data_next s p row o prompt was nx offers asked facts = record {
 pub crossing_stands : (s : ScenarioValue) (p : List Row) (row : Row) (n : Connection) → Obeys s → IsPrompt s (row ∷ p) → Stood s p → connection p ≡ Some n → (bus p).rst ≡ false → (bus (row ∷ p)).rst ≡ false → (row_reading (run_state s p).story.bus_state row).crosses ≡ true → connection (row ∷ p) ≡ Some n
 crossing_stands s p row n o prompt was con calm off crosses = by (connection_row s p row n o prompt was con calm off).facts
   where
-    dv : AreOfDevices p
-    dv = was.standing.devices
-
-    pl : IsPlain s p (run_state s p)
-    pl = run_state_plain s p dv
-
     change : (row_reading (run_state s p).story.bus_state row).change ≡ change_of p row
-    change = change_plain s row p dv (least_is s p row prompt.1).inside
+    change = change_plain s row p was.standing.devices (least_is s p row prompt.1).inside
 
     by : RowFacts s p row n → connection (row ∷ p) ≡ Some n
     by (stays g) = (λ i. connection_after (con i) (call p) ((sym change ∙ g.row_is.change_is) i) row) ∙ ap (λ (b : Bool). if b then Some n else None) g.row_is.stands
-    by (ends_here g) = absurd (true≢false (sym crosses ∙ (λ i. is_some (receiver_of ((pl.connection ∙ con) i) (change i))) ∙ g.carries))
+    by (ends_here g) = absurd (true≢false (sym crosses ∙ (λ i. is_some (receiver_of ((was.plain.connection ∙ con) i) (change i))) ∙ g.carries))
 
 pub data_asks : (s : ScenarioValue) (p : List Row) (row : Row) (n : Connection) → Obeys s → IsPrompt s (row ∷ p) → Stood s p → DataFacts s p → connection p ≡ Some n → (bus p).rst ≡ false → (bus (row ∷ p)).rst ≡ false → DataAsked s p row
 data_asks s p row n o prompt was facts con calm off = record {

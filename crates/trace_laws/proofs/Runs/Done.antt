@@ -3,7 +3,7 @@ use Rattle.trace_laws.proofs
 use proofs.Names.{◌≡◌, ◌+◌, Bool, true, false, ◌||◌, ◌∙◌, List, ◌∷◌, refl, sym, ap, ◌⊎◌, inl, inr, Some, if◌then◌else◌}
 use proofs.Names.{is_some, plus_none, wrong', ProcId, same_id, Serving, phase_leaving, data_out_leaving, one_if}
 use proofs.Names.{Leaving, Phase, Task, ProcessProgress, progress_in, progress_with, id_is}
-use Rattle.link_laws.proofs.LeavingWays as ways
+use Rattle.story_laws.specs.link_laws.proofs.LeavingWays as ways
 
 pub counted_runs : (made : List ProcessProgress) (id : ProcId) (runs recovers : Bool) (other : ProcId) → (other ≡ id → ⊥) → (progress_in (progress_with made id runs recovers) other).runs ≡ (progress_in made other).runs
 counted_runs made id runs recovers other ne = by (runs || recovers)

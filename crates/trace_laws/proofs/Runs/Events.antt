@@ -10,8 +10,8 @@ use proofs.Names.{arrival_run_events, connection_end_events, detected_events, ha
 use proofs.Names.{newest_with, reply_events, turn_events, turn_events_if, Serving, phase_leaving, phase_of, Arrival}
 use proofs.Names.{Cause, Leaving, Next, Phase, Plan, Task, RunState, bus_of, serving_of, is_writing, events_of_ends}
 use proofs.Names.{events_of_ends_in, id_of, initiator_events, is_true_telling, same_event, same_events, target_events}
-use proofs.{Names.{obeys_fits, command_fits, IsCommandLine}, Common.Impossible.{none_some}}
-use Rattle.link_laws.proofs.LeavingWays as ways
+use proofs.Names.{obeys_fits, command_fits, IsCommandLine, none_some}
+use Rattle.story_laws.specs.link_laws.proofs.LeavingWays as ways
 
 none_to_send : (s : ScenarioValue) (c : CmdDef) → is_write (command_of c.cdb) ≡ false → sent_of s c ≡ 0
 unfolding sent_of
@@ -43,20 +43,8 @@ same_run e (Event.Run b) s r = go e s
   where
     go : (x : Event) → same_event x (Event.Run b) ≡ true → is_run x ≡ true
     go (Event.Run a) z = refl
-    go (Event.Accept a) z = wrong' z
-    go (Event.Refuse a) z = wrong' z
-    go (Event.Fail a code) z = wrong' z
-    go (Event.End a status) z = wrong' z
-    go (Event.Lost a) z = wrong' z
-    go (Event.Aborted host target unit what) z = wrong' z
-    go (Event.Reset dev) z = wrong' z
-same_run e (Event.Accept b) s r = wrong' r
-same_run e (Event.Refuse b) s r = wrong' r
-same_run e (Event.Fail b code) s r = wrong' r
-same_run e (Event.End b status) s r = wrong' r
-same_run e (Event.Lost b) s r = wrong' r
-same_run e (Event.Aborted host target unit what) s r = wrong' r
-same_run e (Event.Reset dev) s r = wrong' r
+    go _ z = wrong' z
+same_run e _ s r = wrong' r
 
 same_runs : (shown others : List Event) → same_events shown others ≡ true → shows_run others ≡ true → shows_run shown ≡ true
 same_runs [] [] s r = r
@@ -78,14 +66,8 @@ no_arrival_run id plan arrival Phase.Command = go plan.struck arrival
     go : (q : Bool) (a : Arrival) → shows_run (if q then [] else arrival_event id a ∷ []) ≡ false
     go true a = refl
     go false Arrival.Refused = refl
-    go false Arrival.Guest = refl
-    go false Arrival.AtOnce = refl
-    go false Arrival.Queued = refl
-no_arrival_run id plan arrival Phase.MessageOut = refl
-no_arrival_run id plan arrival Phase.MessageIn = refl
-no_arrival_run id plan arrival Phase.Status = refl
-no_arrival_run id plan arrival Phase.DataIn = refl
-no_arrival_run id plan arrival Phase.DataOut = refl
+    go false _ = refl
+no_arrival_run id plan arrival _ = refl
 
 newest_run : (after before : List Event) → shows_run before ≡ false → shows_run (newest_with after before) ≡ true → shows_run after ≡ true
 newest_run [] before none r = wrong' (sym none ∙ r)
@@ -142,10 +124,7 @@ no_end_run n plan Phase.MessageOut id = go plan.said.aborts
     go None = no_loss_run id
     go (Some what) = refl
 no_end_run n plan Phase.MessageIn id = refl
-no_end_run n plan Phase.Command id = no_loss_run id
-no_end_run n plan Phase.Status id = no_loss_run id
-no_end_run n plan Phase.DataIn id = no_loss_run id
-no_end_run n plan Phase.DataOut id = no_loss_run id
+no_end_run n plan _ id = no_loss_run id
 
 no_initiator_run : (k : RunState) (o : Option Link) (d : RowReading) → shows_run (initiator_events k o d) ≡ false
 no_initiator_run k None d = refl

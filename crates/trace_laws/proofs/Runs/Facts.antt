@@ -2,23 +2,22 @@
 use Rattle.trace_laws.proofs
 use proofs.Names.{ℕ, ◌≡◌, ◌⊎◌, inl, inr, ◌+◌, ◌*◌, ◌<◌, ◌^◌, Bool, true, false, not, ◌&&◌, ◌∙◌, List, [], ◌∷◌, Option}
 use proofs.Names.{Some, None, Result, Ok, Err, refl, sym, ap, subst, arith, true≢false, ◌≢◌, ◌==◌, nat_tests, same_Some}
-use proofs.Names.{if◌then◌else◌, is_some, nat_lt, eq_self, wrong', ProcId, bus_off, drives-other, change_of, rises}
-use proofs.Names.{LineSet, changes_phase, is_data, call, connection, connection_after, receiver_of, bus, drives}
-use proofs.Names.{driven_after, Row, Change, Connection, Handshakes, handshakes, command_of, CdbFault, Command}
-use proofs.Names.{is_write, ScenarioValue, Obeys, Policy, array_after, reply_in, is_request_sense, range_in, Process}
-use proofs.Names.{process_of, Array, UnitState, unit_state_at, row_reading, process, has_item, Link, Story, policy_of}
-use proofs.Names.{is_never, arrival_by, run_at, run_length, runs_in_all, runs_in, begun, phase_of, Arrival, Phase, Room}
-use proofs.Names.{Task, run_state_plain, target_def_of, progress_in, IsPrompt, IsPlain, AreOfDevices, RunState, bus_of}
-use proofs.Names.{array_of, process_served, carried_here, run_state, arrival_at, leaving, blocks_in, is_writing}
-use proofs.Names.{task_of, task_if, task_with, reply_now, arrival_of, arrival_if, room_of, size_of, out_lines}
-use proofs.Names.{policy_for, IsRowIn, change_plain, off_at, policy_by, run_policy, run_start, run_step, PointersIf}
-use proofs.Names.{PointersOf, ServedPointers, unnamed, named, IsServedAnew, OfferFacts, IsWriter, RunsBy, RunFacts}
-use proofs.Common.{Impossible.{none_some, some_none}, PhaseLines.{data_in_lines, is_data_phase}, Tests.{zero_times}}
-use proofs.Lines.{Connections.{connection_row, stage_of_connection}, Crossings.{RowFacts, stays, ends_here}}
-use proofs.Lines.{Joint.{Stood, NextStood, link_phase}, Plans.{is_directed, writes_of, writes_there}}
-use proofs.{Offers.Facts.{refuses_later}, Pointers.{Ends.{rst_over}, Leavings.{MoreRuns}, Turns.{TurnsBy}}}
-use proofs.Runs.{Fits.{FitsRuns, fits_runs}, Parts.{RunsFit, start_is, more_cut, more_runs}, Rows.{runs_first}}
-use proofs.Runs.Rows.{runs_row, served_id}
+use proofs.Names.{if◌then◌else◌, is_some, nat_lt, eq_self, wrong', none_number, ProcId, bus_off, drives-other}
+use proofs.Names.{change_of, rises, LineSet, changes_phase, is_data, call, connection, connection_after, receiver_of}
+use proofs.Names.{bus, drives, driven_after, Row, Change, Connection, Handshakes, handshakes, command_of, CdbFault}
+use proofs.Names.{Command, is_write, ScenarioValue, Obeys, Policy, array_after, reply_in, is_request_sense, range_in}
+use proofs.Names.{Process, process_of, Array, UnitState, unit_state_at, row_reading, process, has_item, Link, Story}
+use proofs.Names.{policy_of, is_never, arrival_by, run_at, run_length, runs_in_all, runs_in, begun, phase_of, Arrival}
+use proofs.Names.{Phase, Room, Task, run_state_plain, target_def_of, progress_in, IsPrompt, AreOfDevices, RunState}
+use proofs.Names.{bus_of, array_of, process_served, carried_here, run_state, arrival_at, leaving, blocks_in, is_writing}
+use proofs.Names.{task_of, task_if, task_with, reply_now, arrival_of, arrival_if, room_of, size_of, policy_for, IsRowIn}
+use proofs.Names.{change_plain, off_at, none_some, some_none, data_in_lines, is_data_phase, zero_times, by_option}
+use proofs.Names.{connection_row, stage_of_connection, RowFacts, stays, ends_here, Stood, NextStood, link_phase}
+use proofs.Names.{is_directed, writes_of, writes_there, policy_by, run_policy, run_start, run_step, PointersIf}
+use proofs.Names.{PointersOf, ServedPointers, unnamed, named, IsServedAnew, OfferFacts, refuses_later, rst_over}
+use proofs.{Names.{MoreRuns, TurnsBy, IsWriter, RunsBy, RunFacts}, Runs.{Fits.{FitsRuns, fits_runs}, Parts.{RunsFit}}}
+use proofs.Runs.{Parts.{start_is, more_cut, more_runs}, Rows.{runs_first, runs_row, served_id}}
+use Rattle.story_laws.specs.bus_books.proofs.Reactions.{out_lines}
 
 -- ---- before any row
 
@@ -88,10 +87,7 @@ never_by policy (Some blocks) e = e
 sense_no_blocks : (r : Result Command CdbFault) (blocks : ℕ) → is_request_sense r ≡ true → blocks_in (range_in r) ≡ Some blocks → ⊥
 sense_no_blocks (Err fault) blocks e f = wrong' e
 sense_no_blocks (Ok Command.TestUnitReady) blocks e f = wrong' e
-sense_no_blocks (Ok (Command.RequestSense room)) blocks e f = none_some blocks f
-  where
-    none_some : (b : ℕ) → (let o : Option ℕ = None in o) ≡ Some b → ⊥
-    none_some b z = cc
+sense_no_blocks (Ok (Command.RequestSense room)) blocks e f = none_number blocks f
 sense_no_blocks (Ok (Command.Read6 lba count)) blocks e f = wrong' e
 sense_no_blocks (Ok (Command.Write6 lba count)) blocks e f = wrong' e
 sense_no_blocks (Ok (Command.Inquiry room)) blocks e f = wrong' e
@@ -134,35 +130,26 @@ turns_by s k n q f served to sent given = record {
 
     once : (x : Phase) → arrival_at s k n.target x ≡ Arrival.AtOnce → is_never (run_policy s q) ≡ true
     once Phase.Command e = never (at_once_never policy (is_request_sense (command_of q.cdb)) (room_of (array_of s k) (unit_state_at (array_of s k).units q.target q.unit)) (sym arrives ∙ e))
-    once Phase.DataOut e = let bad : Arrival.Queued ≡ Arrival.AtOnce = e in absurd cc
-    once Phase.DataIn e = let bad : Arrival.Queued ≡ Arrival.AtOnce = e in absurd cc
-    once Phase.Status e = let bad : Arrival.Queued ≡ Arrival.AtOnce = e in absurd cc
-    once Phase.MessageIn e = let bad : Arrival.Queued ≡ Arrival.AtOnce = e in absurd cc
-    once Phase.MessageOut e = let bad : Arrival.Queued ≡ Arrival.AtOnce = e in absurd cc
+    once _ e = let bad : Arrival.Queued ≡ Arrival.AtOnce = e in absurd cc
 
     outside : arrival_of s k policy ≡ Arrival.Guest → (is_never (run_policy s q) ≡ true) ⊎ (runs_in_all policy (task_here s k q) ≡ 0)
-    outside e = at (blocks_in (range_in (command_of q.cdb))) refl
+    outside e =
+        by_option (blocks_in (range_in (command_of q.cdb)))
+        (λ is. inl (ap (λ (x : Option ℕ). is_never (policy_by (policy_for s q) x)) is))
+        (λ blocks is. inr (by blocks is (guest_none policy (is_request_sense (command_of q.cdb)) (room_of (array_of s k) (unit_state_at (array_of s k).units q.target q.unit)) (sym arrives ∙ e))))
       where
         by : (blocks : ℕ) → blocks_in (range_in (command_of q.cdb)) ≡ Some blocks → (is_request_sense (command_of q.cdb) ≡ true) ⊎ (room_of (array_of s k) (unit_state_at (array_of s k).units q.target q.unit) ≡ None) → runs_in_all policy (task_here s k q) ≡ 0
         by blocks is (inl z) = absurd (sense_no_blocks (command_of q.cdb) blocks z is)
         by blocks is (inr z) = none_in_all policy (task_here s k q) blocks fit is (no_room (array_of s k) (unit_state_at (array_of s k).units q.target q.unit) z)
 
-        at : (o : Option ℕ) → blocks_in (range_in (command_of q.cdb)) ≡ o → (is_never (run_policy s q) ≡ true) ⊎ (runs_in_all policy (task_here s k q) ≡ 0)
-        at None is = inl (ap (λ (x : Option ℕ). is_never (policy_by (policy_for s q) x)) is)
-        at (Some blocks) is = inr (by blocks is (guest_none policy (is_request_sense (command_of q.cdb)) (room_of (array_of s k) (unit_state_at (array_of s k).units q.target q.unit)) (sym arrives ∙ e)))
-
     guest : (x : Phase) → arrival_at s k n.target x ≡ Arrival.Guest → (is_never (run_policy s q) ≡ true) ⊎ (runs_in_all policy (task_here s k q) ≡ 0)
     guest Phase.Command e = outside e
-    guest Phase.DataOut e = let bad : Arrival.Queued ≡ Arrival.Guest = e in absurd cc
-    guest Phase.DataIn e = let bad : Arrival.Queued ≡ Arrival.Guest = e in absurd cc
-    guest Phase.Status e = let bad : Arrival.Queued ≡ Arrival.Guest = e in absurd cc
-    guest Phase.MessageIn e = let bad : Arrival.Queued ≡ Arrival.Guest = e in absurd cc
-    guest Phase.MessageOut e = let bad : Arrival.Queued ≡ Arrival.Guest = e in absurd cc
+    guest _ e = let bad : Arrival.Queued ≡ Arrival.Guest = e in absurd cc
 
     more : (count : ℕ) → count ≡ run_length policy (task_here s k q) → nat_lt ((task_here s k q).runs + 1) (runs_in_all policy (task_here s k q)) ≡ true → MoreRuns policy (task_here s k q).runs (run_step s q) count
     more count all e =
         subst (λ (x : ℕ). MoreRuns policy (task_here s k q).runs (run_step s q) x) (sym all)
-        (subst (λ (x : ℕ). MoreRuns policy (task_here s k q).runs x (run_length policy (task_here s k q))) (ap (λ (x : Policy). Rattle.trace_laws.specs.DataPointers.step_in x (task_here s k q).blocks (task_here s k q).size) (sym same) ∙ f.step)
+        (subst (λ (x : ℕ). MoreRuns policy (task_here s k q).runs x (run_length policy (task_here s k q))) (ap (λ (x : Policy). Rattle.story_laws.specs.row_laws.specs.DataPointers.step_in x (task_here s k q).blocks (task_here s k q).size) (sym same) ∙ f.step)
         (more_runs policy (task_here s k q) fit e))
 
 -- ---- the next row
@@ -188,14 +175,11 @@ pub record RunPremises (s : ScenarioValue) (p : List Row) (row : Row) : Type 0 w
 pub raised_rst : (p : List Row) (row : Row) → row.dev < 8 → (bus p).rst ≡ false → (bus (row ∷ p)).rst ≡ true → rises (change_of p row).own.rst (change_of p row).next.rst ≡ true
 raised_rst p row lt off on = go (drives (row ∷ p) row.dev).rst refl
   where
-    own : (drives p row.dev).rst ≡ false
-    own = off_at p off row.dev lt
-
     next : drives (row ∷ p) row.dev ≡ (change_of p row).next
     next = λ i. if eq_self row.dev i then driven_after row.kind (drives p row.dev) else drives p row.dev
 
     go : (q : Bool) → (drives (row ∷ p) row.dev).rst ≡ q → rises (change_of p row).own.rst (change_of p row).next.rst ≡ true
-    go true e = λ i. rises (own i) ((ap (λ (l : LineSet). l.rst) (sym next) ∙ e) i)
+    go true e = λ i. rises ((off_at p off row.dev lt) i) ((ap (λ (l : LineSet). l.rst) (sym next) ∙ e) i)
     go false e = absurd (true≢false (sym on ∙ bus_off (λ y. y.rst) (λ _ _. refl) refl (row ∷ p) (λ d below. each d below (d == row.dev) refl)))
       where
         each : (d : ℕ) → d < 8 → (q : Bool) → (d == row.dev) ≡ q → (drives (row ∷ p) d).rst ≡ false
@@ -237,19 +221,19 @@ kind_next kind s p row o prompt was nx offers asked facts =
       speaks = was.books.speaks;
       gives = was.books.gives;
       knows = was.books.knows;
-      anew = λ n con next. asked.anew n (sym pl.connection ∙ con) ((λ i. connection_after (sym pl.connection i) (sym pl.call i) (sym c i) row) ∙ next);
-      stops = λ q own w served on calm. asked.stops q own w served (ap (λ (l : LineSet). l.rst) (sym pl.bus) ∙ calm) (ap (λ (x : Change). x.after.rst) (sym c) ∙ on);
+      anew = λ n con next. asked.anew n (sym was.plain.connection ∙ con) ((λ i. connection_after (sym was.plain.connection i) (sym was.plain.call i) (sym c i) row) ∙ next);
+      stops = λ q own w served on calm. asked.stops q own w served (ap (λ (l : LineSet). l.rst) (sym was.plain.bus) ∙ calm) (ap (λ (x : Change). x.after.rst) (sym c) ∙ on);
       refuses = λ n con calm b e cause.
-          let phase = link_phase s p n (stage_of_connection s p n was (sym pl.connection ∙ con) (ap (λ (l : LineSet). l.rst) (sym pl.bus) ∙ calm)) in
+          let phase = link_phase s p n (stage_of_connection s p n was (sym was.plain.connection ∙ con) (ap (λ (l : LineSet). l.rst) (sym was.plain.bus) ∙ calm)) in
           let lines = out_lines (bus_of k) e in
-          refuses_later s p n offers (sym pl.connection ∙ con) (ap (λ (l : LineSet). l.rst) (sym pl.bus) ∙ calm) b (λ i. lines.0 i && ((ap (λ (l : LineSet). l.cd) pl.bus ∙ (phase (ap (λ (l : LineSet). l.msg) (sym pl.bus) ∙ lines.0)).0)) i && not (lines.1 i)) cause;
+          refuses_later s p n offers (sym was.plain.connection ∙ con) (ap (λ (l : LineSet). l.rst) (sym was.plain.bus) ∙ calm) b (λ i. lines.0 i && ((ap (λ (l : LineSet). l.cd) was.plain.bus ∙ (phase (ap (λ (l : LineSet). l.msg) (sym was.plain.bus) ∙ lines.0)).0)) i && not (lines.1 i)) cause;
       short = λ n q con calm served w b phase.
-          let few = asked.few n q (sym pl.connection ∙ con) (ap (λ (l : LineSet). l.rst) (sym pl.bus) ∙ calm) served w (sym pl.begun ∙ b) (ap phase_of (sym pl.bus) ∙ phase) in
-          let is : k.handshakes.answers ≡ (handshakes p).answers = ap (λ (h : Handshakes). h.answers) pl.handshakes in
+          let few = asked.few n q (sym was.plain.connection ∙ con) (ap (λ (l : LineSet). l.rst) (sym was.plain.bus) ∙ calm) served w (sym was.plain.begun ∙ b) (ap phase_of (sym was.plain.bus) ∙ phase) in
+          let is : k.handshakes.answers ≡ (handshakes p).answers = ap (λ (h : Handshakes). h.answers) was.plain.handshakes in
           omega (arith, few, is);
       short_asked = λ n q con calm served w b phase.
-          let few = asked.few_asked n q (sym pl.connection ∙ con) (ap (λ (l : LineSet). l.rst) (sym pl.bus) ∙ calm) served w (sym pl.begun ∙ b) (ap phase_of (sym pl.bus) ∙ phase) in
-          let is : k.handshakes.requests ≡ (handshakes p).requests = ap (λ (h : Handshakes). h.requests) pl.handshakes in
+          let few = asked.few_asked n q (sym was.plain.connection ∙ con) (ap (λ (l : LineSet). l.rst) (sym was.plain.bus) ∙ calm) served w (sym was.plain.begun ∙ b) (ap phase_of (sym was.plain.bus) ∙ phase) in
+          let is : k.handshakes.requests ≡ (handshakes p).requests = ap (λ (h : Handshakes). h.requests) was.plain.handshakes in
           omega (arith, few, is);
       known = λ x n r calm z. known x n r calm z;
       whereto = λ x n r calm ep b. whereto x n r calm ep b;
@@ -264,9 +248,6 @@ kind_next kind s p row o prompt was nx offers asked facts =
 
     lt : row.dev < 8
     lt = (nx.stood.standing.devices).0
-
-    pl : IsPlain s p k
-    pl = run_state_plain s p dv
 
     c : (row_reading k.story.bus_state row).change ≡ change_of p row
     c = change_plain s row p dv lt
@@ -286,13 +267,13 @@ kind_next kind s p row o prompt was nx offers asked facts =
         by : RowFacts s p row n → (leaving s k n.target).to ≡ Some (phase_of x.after)
         by (stays g) =
             let same : g.change ≡ x = sym g.row_is.change_is ∙ r.change_is in
-            g.whereto (ap changes_phase same ∙ ep) (sym pl.begun ∙ b) ∙ ap (λ (y : Change). Some (phase_of y.after)) same
+            g.whereto (ap changes_phase same ∙ ep) (sym was.plain.begun ∙ b) ∙ ap (λ (y : Change). Some (phase_of y.after)) same
         by (ends_here g) = none_some n (sym g.stopped ∙ l.after)
 
     turns : (x : Change) (n : Connection) (q : Process) → IsRowIn k row n x → (bus_of k).rst ≡ false → changes_phase x ≡ true → process_served s k ≡ Some q → kind q → k.exchange.begun ≡ true → TurnsBy s k n q
     turns x n q r calm ep served w b =
         let l = lines_of s p row n x dv lt calm r in
-        asked.turns n q l.con l.calm l.off l.after (sym pl.begun ∙ b) (ap changes_phase l.change ∙ ep) served w (facts.served n q r.connection_is calm served w).target_is
+        asked.turns n q l.con l.calm l.off l.after (sym was.plain.begun ∙ b) (ap changes_phase l.change ∙ ep) served w (facts.served n q r.connection_is calm served w).target_is
 
 -- A process that writes has no DATA IN.
 pub writes_none_in : {A : Type 0} (s : ScenarioValue) (p : List Row) (n : Connection) (q : Process) → Stood s p → connection p ≡ Some n → (bus p).rst ≡ false → (run_state s p).exchange.begun ≡ true → process_served s (run_state s p) ≡ Some q → is_writing q ≡ true → phase_of (bus_of (run_state s p)) ≡ Phase.DataIn → A
@@ -308,11 +289,11 @@ runs_next s p row o prompt was nx offers asked facts =
       anew = asked.anew;
       stops = λ q own w served calm on. rst_over s k row q own w (asked.sent q.id served) (ap (λ (x : Change). x.after.rst) c ∙ on) (ap (λ (x : Change). rises x.own.rst x.next.rst) c ∙ raised_rst p row lt calm on);
       turns = λ n q con calm off after b ep served w to.
-          turns_by s k n q (fits_runs s k q o (pl.array ∙ ap (λ (x : Story). array_after s x.history) (sym pl.story)) (served_id s k.served q served).1 w) served to
+          turns_by s k n q (fits_runs s k q o (was.plain.array ∙ ap (λ (x : Story). array_after s x.history) (sym was.plain.story)) (served_id s k.served q served).1 w) served to
           (λ e struck. asked.answers n con calm off after b ep q (task_here s k q) served (ap (task_if s k) served) e)
-          (λ e. writes_none_in s p n q was con calm (pl.begun ∙ b) served w e);
+          (λ e. writes_none_in s p n q was con calm (was.plain.begun ∙ b) served w e);
       few = λ n q con calm served w b phase. asked.few n con calm b phase;
-      few_asked = λ n q con calm served w b phase. writes_none_in s p n q was con calm (pl.begun ∙ b) served w (ap phase_of pl.bus ∙ phase);
+      few_asked = λ n q con calm served w b phase. writes_none_in s p n q was con calm (was.plain.begun ∙ b) served w (ap phase_of was.plain.bus ∙ phase);
     }) facts
   where
     k : RunState
@@ -320,9 +301,6 @@ runs_next s p row o prompt was nx offers asked facts =
 
     lt : row.dev < 8
     lt = (nx.stood.standing.devices).0
-
-    pl : IsPlain s p k
-    pl = run_state_plain s p was.standing.devices
 
     c : (row_reading k.story.bus_state row).change ≡ change_of p row
     c = change_plain s row p was.standing.devices lt
@@ -355,25 +333,19 @@ active_is s k q t count f served task {phase} is on b there h = go h
 pub run_active : (s : ScenarioValue) (p : List Row) (n : Connection) → Obeys s → Stood s p → RunFacts s p → connection p ≡ Some n → (bus p).rst ≡ false → begun p ≡ true → (q : Process) (t : Task) → process_served s (run_state s p) ≡ Some q → task_of s (run_state s p) ≡ Some t → phase_of (bus_of (run_state s p)) ≡ Phase.DataOut
     → (carried_here (run_state s p) q.id).moved.active ≡ (run_at (policy_of (target_def_of s q.target)) t t.runs).start + (run_state s p).handshakes.answers
 run_active s p n o was facts con calm b q t served task phase =
-    active_is s k q t (run_state s p).handshakes.answers (fits_runs s k q o (pl.array ∙ ap (λ (x : Story). array_after s x.history) (sym pl.story)) (served_id s k.served q served).1 w) served task phase refl
-    (pl.begun ∙ b) (λ l x. x.active) (facts.served n q (pl.connection ∙ con) (ap (λ (l : LineSet). l.rst) pl.bus ∙ calm) served w).pointers
+    active_is s k q t (run_state s p).handshakes.answers (fits_runs s k q o (was.plain.array ∙ ap (λ (x : Story). array_after s x.history) (sym was.plain.story)) (served_id s k.served q served).1 w) served task phase refl
+    (was.plain.begun ∙ b) (λ l x. x.active) (facts.served n q (was.plain.connection ∙ con) (ap (λ (l : LineSet). l.rst) was.plain.bus ∙ calm) served w).pointers
   where
     k : RunState
     k = run_state s p
 
-    pl : IsPlain s p k
-    pl = run_state_plain s p was.standing.devices
-
     w : is_writing q ≡ true
-    w = writes_there s k q (was.planned n con calm) (pl.begun ∙ b) served phase
+    w = writes_there s k q (was.planned n con calm) (was.plain.begun ∙ b) served phase
 
 -- A byte crosses in a phase that has begun.
 pub crossing_begun : (s : ScenarioValue) (p : List Row) (row : Row) (n : Connection) → Obeys s → IsPrompt s (row ∷ p) → Stood s p → connection p ≡ Some n → (bus p).rst ≡ false → (bus (row ∷ p)).rst ≡ false → row.dev < 8 → (row_reading (run_state s p).story.bus_state row).crosses ≡ true → begun p ≡ true
 crossing_begun s p row n o prompt was con calm off lt crosses = by (connection_row s p row n o prompt was con calm off).facts
   where
-    pl : IsPlain s p (run_state s p)
-    pl = run_state_plain s p was.standing.devices
-
     by : RowFacts s p row n → begun p ≡ true
     by (stays g) = g.begun_is (sym (λ i. is_some (receiver_of (g.row_is.connection_is i) (g.row_is.change_is i))) ∙ crosses)
-    by (ends_here g) = absurd (true≢false (sym crosses ∙ (λ i. is_some (receiver_of ((pl.connection ∙ con) i) (change_plain s row p was.standing.devices lt i))) ∙ g.carries))
+    by (ends_here g) = absurd (true≢false (sym crosses ∙ (λ i. is_some (receiver_of ((was.plain.connection ∙ con) i) (change_plain s row p was.standing.devices lt i))) ∙ g.carries))

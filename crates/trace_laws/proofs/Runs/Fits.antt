@@ -3,17 +3,16 @@ use Rattle.trace_laws.proofs
 use proofs.Names.{ℕ, ◌≡◌, Bool, true, false, cond, List, [], ◌∷◌, Some, Ok, sym, ap, subst, ◌∙◌, ◌*◌, length, Option}
 use proofs.Names.{None, Result, Err, refl, true≢false, ◌==◌, not, eqb-true, same_Some, AllByRecursion, find}
 use proofs.Names.{if◌then◌else◌, Event, command_of, CdbFault, Command, GOOD, bind_ok, ok_is, within_ok, read_policy}
-use proofs.Names.{target_line, has_device, has_target, unit_of, is_write, moved_by, need_of, sent_of, guard, within}
-use proofs.Names.{in_8, period_in, policy_in, target_def, ScenarioValue, said_policy, Obeys, LATENCY_LIMIT, RETRY_LIMIT}
-use proofs.Names.{TARGET_OFFSET_LIMIT, SEEK_LIMIT, BURST_LIMIT, Policy, TargetDef, UnitDef, array_after, reply_in}
-use proofs.Names.{execution, range_in, count_in, Process, process_of, contents_of, context_of, seat_of, context_at}
-use proofs.Names.{Array, UnitState, nexus_of, unit_state_at, starting_array, blocks_written, policy_of, Task}
-use proofs.Names.{target_def_of, progress_in, RunState, or_start, array_of, carried_here, is_writing, size_of}
+use proofs.Names.{target_line, Said, has_device, has_target, unit_of, is_write, moved_by, need_of, sent_of, guard}
+use proofs.Names.{within, in_8, period_in, policy_in, target_def, ScenarioValue, said_policy, Obeys, LATENCY_LIMIT}
+use proofs.Names.{RETRY_LIMIT, TARGET_OFFSET_LIMIT, SEEK_LIMIT, BURST_LIMIT, Policy, TargetDef, UnitDef, array_after}
+use proofs.Names.{reply_in, execution, range_in, count_in, Process, process_of, contents_of, context_of, seat_of}
+use proofs.Names.{context_at, Array, UnitState, nexus_of, unit_state_at, starting_array, blocks_written, policy_of}
+use proofs.Names.{Task, target_def_of, progress_in, RunState, or_start, array_of, carried_here, is_writing, size_of}
 use proofs.Names.{blocks_in, reply_now, moved_count, task_with, obeys_fits, command_fits, target_by, IsCommandLine}
 use proofs.Names.{by_line, good_range, lines_always, lines_start, sends, written_named, start_settled, IsOfLine}
-use proofs.{Names.{AreOfLines, policy_for, step_in, run_step}, Common.{EachLine.{Any, each_line}, Tests.{zero_times}}}
-use proofs.{Events.Answered.{context_same}, Pointers.Ends.{writer_plain}, Runs.Parts.{HasMost, RunsFit}}
-use Rattle.bus_due.specs.scenario.specs.Forms.{Said}
+use proofs.Names.{AreOfLines, policy_for, Any, each_line, zero_times, by_bool, by_option, context_same, step_in}
+use proofs.{Names.{run_step, writer_plain}, Runs.Parts.{HasMost, RunsFit}}
 
 abbrev HasMostIn : TargetDef → Type 0
 HasMostIn t = HasMost t.disc
@@ -104,7 +103,13 @@ none_sent s q o own w e =
 
 -- The bytes that it moves, where it would be carried out now.
 moved_all : (s : ScenarioValue) (a : Array) (q : Process) → Obeys s → AreOfLines s a → process_of s q.id ≡ Some q → is_writing q ≡ true → (moved_count q (reply_now a q) == 0) ≡ false → moved_count q (reply_now a q) ≡ count_in (range_in (command_of q.cdb)) * size_of (unit_state_at a.units q.target q.unit)
-moved_all s a q o lines own w some = go ((reply_now a q).status == GOOD) refl
+moved_all s a q o lines own w some =
+    by_bool ((reply_now a q).status == GOOD)
+    (λ e.
+    by_bool (has_target s q.target)
+    (λ there. moved true e ∙ carried (eqb-true (reply_now a q).status GOOD e) there)
+    (λ there. zero_moved (moved true e ∙ none_sent s q o own w there)))
+    (λ e. zero_moved (moved false e))
   where
     moved : (g : Bool) → ((reply_now a q).status == GOOD) ≡ g → moved_count q (reply_now a q) ≡ (if g then length q.sent else 0)
     moved g e = (λ i. if e i then (if w i then length q.sent else length (reply_now a q).bytes) else 0)
@@ -113,32 +118,23 @@ moved_all s a q o lines own w some = go ((reply_now a q).status == GOOD) refl
     zero_moved e = absurd (true≢false (sym (ap (λ (x : ℕ). x == 0) e) ∙ some))
 
     carried : (reply_now a q).status ≡ GOOD → has_target s q.target ≡ true → length q.sent ≡ count_in (range_in (command_of q.cdb)) * size_of (unit_state_at a.units q.target q.unit)
-    carried good there = at (unit_state_at a.units q.target q.unit) refl
+    carried good there =
+        by_option (unit_state_at a.units q.target q.unit)
+        (λ e.
+        let none : length q.sent ≡ 0 = all ∙ ap (λ (y : Option UnitState). blocks_written (contents_of y) q.cdb * (contents_of y).size) e ∙ zero_times (blocks_written (contents_of None) q.cdb) in
+        none ∙ sym (zero_times (count_in (range_in (command_of q.cdb)))) ∙ ap (λ (y : Option UnitState). count_in (range_in (command_of q.cdb)) * size_of y) (sym e))
+        (λ u e.
+        let written : blocks_written u.contents q.cdb ≡ count_in (range_in (command_of q.cdb)) =
+        written_named u.contents (command_of q.cdb) w (λ x f. good_range (context_at a (nexus_of q) (Some u)) q.cdb q.sent x refl f ((λ i. (execution (context_at a (nexus_of q) (sym e i)) q.cdb q.sent).reply.status) ∙ good)) in
+        all ∙ ap (λ (y : Option UnitState). blocks_written (contents_of y) q.cdb * (contents_of y).size) e
+        ∙ ap (λ (y : ℕ). y * u.contents.size) written
+        ∙ ap (λ (y : Option UnitState). count_in (range_in (command_of q.cdb)) * size_of y) (sym e))
       where
         status : (execution (context_of (seat_of a q.target q.unit) q.initiator) q.cdb q.sent).reply.status ≡ GOOD
         status = (λ i. (execution (sym (context_same a q) i) q.cdb q.sent).reply.status) ∙ good
 
         all : length q.sent ≡ blocks_written (contents_of (unit_state_at a.units q.target q.unit)) q.cdb * (contents_of (unit_state_at a.units q.target q.unit)).size
         all = (sends s a q (obeys_fits s o) lines there own (writer_plain s q own w)).bytes status
-
-        at : (x : Option UnitState) → unit_state_at a.units q.target q.unit ≡ x → length q.sent ≡ count_in (range_in (command_of q.cdb)) * size_of (unit_state_at a.units q.target q.unit)
-        at None e =
-            let none : length q.sent ≡ 0 = all ∙ ap (λ (y : Option UnitState). blocks_written (contents_of y) q.cdb * (contents_of y).size) e ∙ zero_times (blocks_written (contents_of None) q.cdb) in
-            none ∙ sym (zero_times (count_in (range_in (command_of q.cdb)))) ∙ ap (λ (y : Option UnitState). count_in (range_in (command_of q.cdb)) * size_of y) (sym e)
-        at (Some u) e =
-            let written : blocks_written u.contents q.cdb ≡ count_in (range_in (command_of q.cdb)) =
-            written_named u.contents (command_of q.cdb) w (λ x f. good_range (context_at a (nexus_of q) (Some u)) q.cdb q.sent x refl f ((λ i. (execution (context_at a (nexus_of q) (sym e i)) q.cdb q.sent).reply.status) ∙ good)) in
-            all ∙ ap (λ (y : Option UnitState). blocks_written (contents_of y) q.cdb * (contents_of y).size) e
-            ∙ ap (λ (y : ℕ). y * u.contents.size) written
-            ∙ ap (λ (y : Option UnitState). count_in (range_in (command_of q.cdb)) * size_of y) (sym e)
-
-    go : (g : Bool) → ((reply_now a q).status == GOOD) ≡ g → moved_count q (reply_now a q) ≡ count_in (range_in (command_of q.cdb)) * size_of (unit_state_at a.units q.target q.unit)
-    go false e = zero_moved (moved false e)
-    go true e = by (has_target s q.target) refl
-      where
-        by : (b : Bool) → has_target s q.target ≡ b → moved_count q (reply_now a q) ≡ count_in (range_in (command_of q.cdb)) * size_of (unit_state_at a.units q.target q.unit)
-        by true there = moved true e ∙ carried (eqb-true (reply_now a q).status GOOD e) there
-        by false there = zero_moved (moved true e ∙ none_sent s q o own w there)
 
 -- Its runs fit what it moves, and step by the blocks of its unit.
 pub record FitsRuns (s : ScenarioValue) (k : RunState) (q : Process) (t : Task) : Type 0 where

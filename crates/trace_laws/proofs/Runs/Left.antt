@@ -12,10 +12,9 @@ use proofs.Names.{target_def_of, ProcessProgress, progress_in, progress_with, Is
 use proofs.Names.{bus_of, or_start, process_item, process_served, array_after_events, leaving_of, progress_after}
 use proofs.Names.{progress_by_leaving, run_state, leaving, serving_of, task_if, none_is, InConnection, in_connection}
 use proofs.Names.{reading_is, id_is, self_id, policy_for, is_in_phase, RowKind, still, strikes, crosses, turns, GoesOn}
-use proofs.Names.{RowOf, row_apart as apart, begins, goes_on, row_ends as ends, under_reset, change_plain, least_is}
-use proofs.Names.{AnsweredOpen, PlaceFacts, PlacedIf, IsWriter, RunFacts, RunsBy, HasRunLeft, RunsLeft, RunsLeftOf}
-use proofs.{Names.{run_total}, Common.Impossible.{none_some}, Events.Replies.{listed_on, replies_to}}
-use proofs.Lines.{Connections.{connection_row}, Crossings.{RowFacts, stays, ends_here}, Joint.{NextStood, Stood}}
+use proofs.Names.{RowOf, apart, begins, goes_on, ends, under_reset, change_plain, least_is, none_some, by_bool}
+use proofs.Names.{listed_on, replies_to, connection_row, RowFacts, stays, ends_here, NextStood, Stood, AnsweredOpen}
+use proofs.Names.{PlaceFacts, PlacedIf, IsWriter, RunFacts, RunsBy, HasRunLeft, RunsLeft, RunsLeftOf, run_total}
 use proofs.{Resets.Holds.{HoldFacts, cut_phase}, Runs.Done.{counted_runs, same_runs, DoneOut, done_in_data, out_done}}
 use proofs.{Runs.{Facts.{task_here}, Rows.{served_id}}, Writes.{Rows.{runs_kept}, Turns.{progress_apart}}}
 use proofs.Writes.{Turns.{progress_ends, progress_turns, same_progress}, Written.{left_by}}
@@ -128,9 +127,6 @@ answers kind s p row n c q h g ep er ef b served to = none_some placed.answered.
     j : RunState
     j = run_state s (row ∷ p)
 
-    pl : IsPlain s p k
-    pl = run_state_plain s p h.was.standing.devices
-
     ql : IsPlain s (row ∷ p) j
     ql = run_state_plain s (row ∷ p) h.nx.stood.standing.devices
 
@@ -143,13 +139,13 @@ answers kind s p row n c q h g ep er ef b served to = none_some placed.answered.
     goes_to : RowFacts s p row n → (leaving s k n.target).to ≡ Some (phase_of c.after)
     goes_to (stays f) =
         let same : f.change ≡ c = sym f.row_is.change_is ∙ g.row_is.change_is in
-        f.whereto (ap changes_phase same ∙ ep) (sym pl.begun ∙ b) ∙ ap (λ (x : Change). Some (phase_of x.after)) same
+        f.whereto (ap changes_phase same ∙ ep) (sym h.was.plain.begun ∙ b) ∙ ap (λ (x : Change). Some (phase_of x.after)) same
     goes_to (ends_here f) = none_some n (sym f.stopped ∙ sym ql.connection ∙ i.connection_is)
 
     status : phase_of (bus_of j) ≡ Phase.Status
     status =
         ap phase_of i.bus_is
-        ∙ sym (same_Some Phase.Status (phase_of c.after) (sym to ∙ goes_to (connection_row s p row n h.obeys h.prompt h.was (sym pl.connection ∙ g.row_is.connection_is) (ap (λ (l : LineSet). l.rst) (sym pl.bus) ∙ g.calm) (ap (λ (l : LineSet). l.rst) (sym ql.bus) ∙ off)).facts))
+        ∙ sym (same_Some Phase.Status (phase_of c.after) (sym to ∙ goes_to (connection_row s p row n h.obeys h.prompt h.was (sym h.was.plain.connection ∙ g.row_is.connection_is) (ap (λ (l : LineSet). l.rst) (sym h.was.plain.bus) ∙ g.calm) (ap (λ (l : LineSet). l.rst) (sym ql.bus) ∙ off)).facts))
 
     begun : j.exchange.begun ≡ true
     begun = ap (λ (x : Exchange). x.begun) i.exchange_is
@@ -165,7 +161,10 @@ answers kind s p row n c q h g ep er ef b served to = none_some placed.answered.
 -- A run is done of the process itself.
 own_run : (kind : Process → Type 0) (s : ScenarioValue) (p : List Row) (row : Row) (n : Connection) (c : Change) (q : Process) → LeftRow kind s p row q → GoesOn s (run_state s p) row n c → changes_phase c ≡ true → receiver_in n c ≡ None → is_fault row.kind ≡ false → (run_state s p).exchange.begun ≡ true → process_served s (run_state s p) ≡ Some q → (leaving s (run_state s p) n.target).done ≡ true
     → HasRunLeft (run_total s q) ((progress_in (run_state s p).progress q.id).runs + 1)
-own_run kind s p row n c q h g ep er ef b served done = by (nat_lt (d.task.runs + 1) (runs_in_all (policy_of v.def) d.task)) refl
+own_run kind s p row n c q h g ep er ef b served done =
+    by_bool (nat_lt (d.task.runs + 1) (runs_in_all (policy_of v.def) d.task))
+    (λ e. inr (below_all (policy_for s q) (task_here s k q) ((progress_in k.progress q.id).runs + 1) ((λ i. nat_lt ((sym task i).runs + 1) (runs_in_all (sym policy i) (sym task i))) ∙ e)))
+    (λ e. answers kind s p row n c q h g ep er ef b served (ap (λ (l : Leaving). l.to) (left ∙ d.left) ∙ status_after (policy_of v.def) d.task e))
   where
     k : RunState
     k = run_state s p
@@ -187,10 +186,6 @@ own_run kind s p row n c q h g ep er ef b served done = by (nat_lt (d.task.runs 
 
     policy : policy_of v.def ≡ policy_for s q
     policy = ap (λ (x : ℕ). policy_of (target_def_of s x)) (sym target)
-
-    by : (x : Bool) → nat_lt (d.task.runs + 1) (runs_in_all (policy_of v.def) d.task) ≡ x → HasRunLeft (run_total s q) ((progress_in k.progress q.id).runs + 1)
-    by false e = answers kind s p row n c q h g ep er ef b served (ap (λ (l : Leaving). l.to) (left ∙ d.left) ∙ status_after (policy_of v.def) d.task e)
-    by true e = inr (below_all (policy_for s q) (task_here s k q) ((progress_in k.progress q.id).runs + 1) ((λ i. nat_lt ((sym task i).runs + 1) (runs_in_all (sym policy i) (sym task i))) ∙ e))
 
 -- ---- a row of a connection, before and after which RST is false
 
@@ -217,11 +212,10 @@ turned kind s p row n c q h g ep er ef true eb (Some x) eo = done l.done refl
 
     done : (y : Bool) → l.done ≡ y → HasRunLeft (run_total s q) (progress_in (progress_with k.progress x.id y l.counts) q.id).runs
     done false e = keeps (progress_with k.progress x.id false l.counts) (same_runs k.progress x.id l.counts q.id)
-    done true e = at (same_id x.id q.id) refl
-      where
-        at : (z : Bool) → same_id x.id q.id ≡ z → HasRunLeft (run_total s q) (progress_in (progress_with k.progress x.id true l.counts) q.id).runs
-        at true f = own (id_is x.id q.id f) e
-        at false f = keeps (progress_with k.progress x.id true l.counts) (counted_runs k.progress x.id true l.counts q.id (other_id q.id x.id f))
+    done true e =
+        by_bool (same_id x.id q.id)
+        (λ f. own (id_is x.id q.id f) e)
+        (λ f. keeps (progress_with k.progress x.id true l.counts) (counted_runs k.progress x.id true l.counts q.id (other_id q.id x.id f)))
 
 going : (kind : Process → Type 0) (s : ScenarioValue) (p : List Row) (row : Row) (n : Connection) (c : Change) (q : Process) → LeftRow kind s p row q → GoesOn s (run_state s p) row n c → Left s p row q
 going kind s p row n c q h g = by g.row_is.kind
@@ -265,21 +259,18 @@ cut kind s p row q h on = go k.story.bus_state.connection refl d.next refl (chan
     d : RowReading
     d = row_reading k.story.bus_state row
 
-    pl : IsPlain s p k
-    pl = run_state_plain s p h.was.standing.devices
-
     change : d.change ≡ change_of p row
     change = change_plain s row p h.was.standing.devices h.inside
 
     next : d.next ≡ connection (row ∷ p)
-    next = λ i. connection_after (pl.connection i) (pl.call i) (change i) row
+    next = λ i. connection_after (h.was.plain.connection i) (h.was.plain.call i) (change i) row
 
     said : (m : Connection) → k.story.bus_state.connection ≡ Some m → (n : Connection) → d.next ≡ Some n → changes_phase d.change ≡ true → is_in_phase (phase_of (bus_of k)) ≡ true
     said m e n f ep =
-        let con : connection p ≡ Some m = sym pl.connection ∙ e in
+        let con : connection p ≡ Some m = sym h.was.plain.connection ∙ e in
         let after : connection (row ∷ p) ≡ Some n = sym next ∙ f in
         let same : m ≡ n = (cond_some (bus (row ∷ p)).bsy m n (sym (λ i. connection_after (con i) (call p) (change_of p row) row) ∙ after)).1 in
-        message_in_is (bus_of k) (ap is_message_in pl.bus ∙ cut_phase s p row m h.obeys h.prompt h.was h.holds con (after ∙ ap (λ (x : Connection). Some x) (sym same)) (inr on) (ap changes_phase (sym change) ∙ ep))
+        message_in_is (bus_of k) (ap is_message_in h.was.plain.bus ∙ cut_phase s p row m h.obeys h.prompt h.was h.holds con (after ∙ ap (λ (x : Connection). Some x) (sym same)) (inr on) (ap changes_phase (sym change) ∙ ep))
 
     go : (x : Option Connection) → k.story.bus_state.connection ≡ x → (y : Option Connection) → d.next ≡ y → (z : Bool) → changes_phase d.change ≡ z → Left s p row q
     go None e y f z g = kept_by kind s p row q h (progress_apart s k row e)

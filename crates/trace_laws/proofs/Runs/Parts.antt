@@ -3,8 +3,8 @@
 use Rattle.trace_laws.proofs
 use proofs.Names.{ℕ, zero, suc, ◌≡◌, ◌+◌, ◌*◌, ◌<◌, ◌≤◌, Bool, true, false, ◌∙◌, Option, Some, None, refl, sym, ap}
 use proofs.Names.{subst, arith, ◌==◌, ◌&&◌, ◌/◌, div-mul-le_self, ltb-true, if◌then◌else◌, nat_lt, ◌-◌, min, ⊤}
-use proofs.Names.{times_none, Policy, run_in, runs_in, runs_in_all, run_at, run_length, Task, policy_by, step_in}
-use proofs.{Common.Tests.{some_count, mul_assoc}, Pointers.Leavings.{MoreRuns, in_bursts, from_start}}
+use proofs.Names.{times_none, Policy, run_in, runs_in, runs_in_all, run_at, run_length, Task, some_count, mul_assoc}
+use proofs.Names.{policy_by, step_in, MoreRuns, in_bursts, from_start}
 
 -- Runs are of one block at least.
 abbrev pub HasMost : Policy → Type 0
@@ -54,19 +54,14 @@ step_some a b h k = grind arith
 
 pub start_is : (policy : Policy) (blocks : Option ℕ) (size moved n : ℕ) → (run_in policy blocks size moved n).start ≡ n * step_in policy blocks size
 start_is policy None size moved n = times_none n
-start_is Policy.Never (Some blocks) size moved n = times_none n
-start_is Policy.Command (Some blocks) size moved n = times_none n
 start_is (Policy.Burst most) (Some blocks) size moved n = refl
-start_is (Policy.NoSave most) (Some blocks) size moved n = times_none n
+start_is _ (Some blocks) size moved n = times_none n
 
 -- ---- a run has a byte, and lies in what is moved
 
 part_end : (step moved n : ℕ) → 1 ≤ step → 1 ≤ moved → 1 ≤ (if n == 0 && nat_lt step moved then step else moved)
-part_end step moved n h k = go (n == 0 && nat_lt step moved)
-  where
-    go : (q : Bool) → 1 ≤ (if q then step else moved)
-    go true = h
-    go false = k
+part_end step moved n h k =
+    elim (n == 0 && nat_lt step moved) as (λ q. 1 ≤ (if q then step else moved)) [ true ↦ h | false ↦ k ]
 
 part_within : (step moved n : ℕ) → (if n == 0 && nat_lt step moved then step else moved) ≤ moved
 part_within step moved n = go (n == 0) (nat_lt step moved) refl

@@ -7,12 +7,11 @@ use proofs.Names.{ScenarioValue, is_own, Process, process_of, same_id, RowReadin
 use proofs.Names.{has_item, Link, link_after_name, aim_of, phase_of, Phase, RunState, bus_of, process_item}
 use proofs.Names.{process_served, carried_here, first_run_state, run_state_after, served_after, item_if, leaving}
 use proofs.Names.{ready_of, InConnection, in_connection, Gives, Knows, RowKind, still, strikes, crosses, turns, IsRowIn}
-use proofs.Names.{reading_in, Speaks, Begins, GoesOn, Ends, RowOf, row_apart as apart, begins, goes_on}
-use proofs.Names.{row_ends as ends, under_reset, IsWaiting, ServedPointers, UndoesServed, RefusesLater, IsServedAnew}
-use proofs.{Names.{run_step, IsServedWell, RunsBy}, Common.Impossible.{none_some, some_none}}
-use proofs.Pointers.{Begins.{begins_served, begins_undoes, goes_undoes}, Crossings.{phase_served, names_or}}
-use proofs.Pointers.{Ends.{ends_wait}, Phases.{turns_served}, Rows.{Meets}, Steps.{IsNot}, Turns.{TurnsBy}}
-use proofs.Pointers.Waits.{SameSaved, wait_on, over_row, start_other, apart_same, ends_same, begins_same, goes_other}
+use proofs.Names.{reading_in, Speaks, Begins, GoesOn, Ends, RowOf, apart, begins, goes_on, ends, under_reset, none_some}
+use proofs.Names.{some_none, by_bool, by_option, IsWaiting, ServedPointers, UndoesServed, RefusesLater, IsServedAnew}
+use proofs.Names.{run_step, begins_served, begins_undoes, goes_undoes, phase_served, names_or, ends_wait, turns_served}
+use proofs.Names.{Meets, IsNot, TurnsBy, SameSaved, wait_on, over_row, start_other, apart_same, ends_same, begins_same}
+use proofs.Names.{goes_other, IsServedWell, RunsBy}
 use Rattle.bus_due.specs.disk_array.proofs.SoundArrays.{id_is}
 
 -- ---- before any row
@@ -45,14 +44,13 @@ serves (Some (abort n)) id = another (λ x e. never x e)
   where
     never : (x : ProcId) → (let o : Option Item = Some (abort n) in o) ≡ Some (process x) → same_id x id ≡ false
     never x e = absurd cc
-serves (Some (process y)) id = go (same_id y id) refl
+serves (Some (process y)) id =
+    by_bool (same_id y id)
+    (λ e. it (ap (λ (z : ProcId). Some (process z)) (Rattle.story_laws.specs.bus_books.proofs.Common.Lookups.id_is y id e)))
+    (λ e. another (λ x f. ap (λ (z : ProcId). same_id z id) (sym (same x f)) ∙ e))
   where
     same : (x : ProcId) → (let o : Option Item = Some (process y) in o) ≡ Some (process x) → y ≡ x
     same x e = cc
-
-    go : (b : Bool) → same_id y id ≡ b → Serves (Some (process y)) id
-    go true e = it (ap (λ (z : ProcId). Some (process z)) (Rattle.bus_books.proofs.Lookups.id_is y id e))
-    go false e = another (λ x f. ap (λ (z : ProcId). same_id z id) (sym (same x f)) ∙ e)
 
 none_not : (id : ProcId) (item : Option Item) → item ≡ None → IsNot id item
 none_not id item e x f = none_some (process x) (sym e ∙ f)
@@ -102,11 +100,10 @@ over_waits s j q e = record { saved = λ o m. absurd (true≢false (sym e ∙ o)
 
 -- RST is true after the row.
 reset_over : (kind : Process → Type 0) (s : ScenarioValue) (k : RunState) (row : Row) (n : Connection) (q : Process) → RunsOn kind s k row → k.story.bus_state.connection ≡ Some n → (row_reading k.story.bus_state row).change.after.rst ≡ true → process_of s q.id ≡ Some q → kind q → k.served ≡ Some (process q.id) → has_item (run_state_after s k row).story.sent.over (process q.id) ≡ true
-reset_over kind s k row n q h con on own w served = go (bus_of k).rst refl
-  where
-    go : (b : Bool) → (bus_of k).rst ≡ b → has_item (run_state_after s k row).story.sent.over (process q.id) ≡ true
-    go true e = over_row s k row (process q.id) (h.was.reset n q con e (it_served s k q own served) w)
-    go false e = h.stops q own w served on e
+reset_over kind s k row n q h con on own w served =
+    by_bool (bus_of k).rst
+    (λ e. over_row s k row (process q.id) (h.was.reset n q con e (it_served s k q own served) w))
+    (λ e. h.stops q own w served on e)
 
 waits_other : (kind : Process → Type 0) (s : ScenarioValue) (k : RunState) (row : Row) (q : Process) → RunsOn kind s k row → process_of s q.id ≡ Some q → kind q → IsNot q.id k.served → SameSaved (carried_here (run_state_after s k row) q.id) (carried_here k q.id) → IsWaiting s (run_state_after s k row) q
 waits_other kind s k row q h own w other same = wait_on s k (run_state_after s k row) q same (λ e. over_row s k row (process q.id) e) (start_other s k row q other) (h.was.waits q own w other)
@@ -175,11 +172,10 @@ ends_on kind s k row n h e = record {
 
     go : (q : Process) → process_of s q.id ≡ Some q → kind q → Serves k.served q.id → IsWaiting s j q
     go q own w (another other) = waits_other kind s k row q h own w other (ends_same s k row n q.id e.connection_is e.next_is)
-    go q own w (it served) = by (row_reading k.story.bus_state row).change.after.rst refl
-      where
-        by : (b : Bool) → (row_reading k.story.bus_state row).change.after.rst ≡ b → IsWaiting s j q
-        by true on = over_waits s j q (reset_over kind s k row n q h e.connection_is on own w served)
-        by false off = ends_wait s k row n q e.connection_is e.next_is off (h.was.served n q e.connection_is e.calm (it_served s k q own served) w).pointers
+    go q own w (it served) =
+        by_bool (row_reading k.story.bus_state row).change.after.rst
+        (λ on. over_waits s j q (reset_over kind s k row n q h e.connection_is on own w served))
+        (λ off. ends_wait s k row n q e.connection_is e.next_is off (h.was.served n q e.connection_is e.calm (it_served s k q own served) w).pointers)
 
 -- Under RST.
 reset_on : (kind : Process → Type 0) (s : ScenarioValue) (k : RunState) (row : Row) → RunsOn kind s k row → (row_reading k.story.bus_state row).change.after.rst ≡ true → RunsBy kind s (run_state_after s k row)
@@ -226,11 +222,10 @@ reset_on kind s k row h on = record {
 
     waits : (q : Process) → process_of s q.id ≡ Some q → kind q → Serves k.served q.id → IsNot q.id j.served → IsWaiting s j q
     waits q own w (another other) z = waits_other kind s k row q h own w other (apart_same s k row q.id (inl on))
-    waits q own w (it served) z = by k.story.bus_state.connection refl
-      where
-        by : (o : Option Connection) → k.story.bus_state.connection ≡ o → IsWaiting s j q
-        by None con = none_some (process q.id) (sym (h.was.free con) ∙ served)
-        by (Some n) con = over_waits s j q (reset_over kind s k row n q h con on own w served)
+    waits q own w (it served) z =
+        by_option k.story.bus_state.connection
+        (λ con. none_some (process q.id) (sym (h.was.free con) ∙ served))
+        (λ n con. over_waits s j q (reset_over kind s k row n q h con on own w served))
 
 -- In a connection.
 goes_there : (kind : Process → Type 0) (s : ScenarioValue) (k : RunState) (row : Row) (n : Connection) (c : Change) → RunsOn kind s k row → GoesOn s k row n c → RunsBy kind s (run_state_after s k row)

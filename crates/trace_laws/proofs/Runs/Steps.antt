@@ -5,10 +5,10 @@ use proofs.Names.{subst, true≢false, ltb-true, if◌then◌else◌, nat_lt, wr
 use proofs.Names.{bus, drives, last_time, Row, Change, Connection, handshakes, dialogue, ScenarioValue, is_pulsed_phase}
 use proofs.Names.{begun, Serving, phase_of, phase_leaving, phase_lines, lines_by, Leaving, Phase, run_state, serving_at}
 use proofs.Names.{fault_change, EndLines, initiator_side, target_side, connected_bus, Linked, row_of_lines}
-use proofs.Names.{row_of_fault, change_to, offering_with, initiator_moves, target_moves, no_rise, ends, run_count}
-use proofs.{Names.{pulses_here}, Common.Impossible.{none_some}, Lines.{Attention.{lines_are}, Kept.{turn}}}
-use proofs.{Lines.{Rows.{LinkRow, is_pulsed, is_unasked}, Turns.{freed_connection}}, Pointers.Rows.{run_lines}}
-use Rattle.trace_laws.proofs.Lines.Rows as rows
+use proofs.Names.{row_of_fault, change_to, offering_with, initiator_moves, target_moves, no_rise, run_count, none_some}
+use proofs.Names.{lines_are, turn, LinkRow, is_pulsed, is_unasked, freed_connection, run_lines, pulses_here}
+use Rattle.story_laws.specs.link_laws.specs.Phases.{ends}
+use Rattle.story_laws.specs.row_laws.proofs.Lines.Rows as rows
 
 -- What a row does with REQ and ACK in DATA OUT.
 pub record OutStep (s : ScenarioValue) (p : List Row) (n : Connection) (c : Change) : Type 0 where

@@ -6,12 +6,11 @@ use proofs.Names.{◌-◌, if◌then◌else◌, min, nat_lt, nat_le, zero_of, wr
 use proofs.Names.{command_of, unit_of, ScenarioValue, Policy, range_in, Process, unit_state_at, policy_of, run_at}
 use proofs.Names.{run_in, run_length, runs_in, runs_in_all, is_status_next, phase_of, phase_leaving, phase_entry}
 use proofs.Names.{disconnection, disconnect_messages, after_run, recovery, pointer_restoration, with_task, Leaving}
-use proofs.Names.{Next, Phase, Task, run_state_plain, target_def_of, progress_in, IsPlain, RunState, array_of, bus_of}
-use proofs.Names.{process_served, run_state, leaving, serving_of, blocks_in, is_writing, reply_now, size_of, task_if}
-use proofs.Names.{task_of, Writer, block_size, is_data_out, is_writer, writer_of, writers, start_of_run, self_id}
-use proofs.{Names.{GoesOn, MovesBlocks, RunsBlocks, HasSentAll, bytes_come, IsAnsweredWhole}, Common.Tests.{mul_assoc}}
-use proofs.{Lines.Plans.{writes_there}, Runs.Facts.{task_here}, Writes.Rows.{WriteRow, Around, around}}
-use proofs.Writes.Written.{left_by, moved_all}
+use proofs.Names.{Next, Phase, Task, target_def_of, progress_in, RunState, array_of, bus_of, process_served, run_state}
+use proofs.Names.{leaving, serving_of, blocks_in, is_writing, reply_now, size_of, task_if, task_of, Writer, block_size}
+use proofs.Names.{is_data_out, is_writer, writer_of, writers, start_of_run, self_id, GoesOn, mul_assoc, by_bool}
+use proofs.Names.{writes_there, IsAnsweredWhole, MovesBlocks, RunsBlocks, HasSentAll, bytes_come}
+use proofs.{Runs.Facts.{task_here}, Writes.{Rows.{WriteRow, Around, around}, Written.{left_by, moved_all}}}
 
 -- ---- numbers
 
@@ -43,17 +42,16 @@ part_all most blocks size moved n e l = go (n == 0) refl (nat_lt (most * size) m
     go : (p : Bool) → (n == 0) ≡ p → (q : Bool) → nat_lt (most * size) moved ≡ q → (if p && q then most * size else moved) ≡ moved
     go false ep q eq = refl
     go true ep false eq = refl
-    go true ep true eq = by (nat_le blocks most) refl
-      where
-        by : (r : Bool) → nat_le blocks most ≡ r → most * size ≡ moved
-        by true er =
-            let fits = times_up blocks most size (leb-true blocks most er) in
-            let less = ltb-true (most * size) moved eq in
-            absurd omega (arith, fits, less, e)
-        by false er =
-            let two : 2 ≤ n + 1 = subst (λ (x : Bool). (if x then 1 else 2) ≤ n + 1) er l in
-            let none = zero_of n ep in
-            absurd omega (arith, two, none)
+    go true ep true eq =
+        by_bool (nat_le blocks most)
+        (λ er.
+        let fits = times_up blocks most size (leb-true blocks most er) in
+        let less = ltb-true (most * size) moved eq in
+        absurd omega (arith, fits, less, e))
+        (λ er.
+        let two : 2 ≤ n + 1 = subst (λ (x : Bool). (if x then 1 else 2) ≤ n + 1) er l in
+        let none = zero_of n ep in
+        absurd omega (arith, two, none))
 
 ends_all : (policy : Policy) (blocks size moved n : ℕ) → RunsBlocks policy → moved ≡ blocks * size → runs_in policy (Some blocks) ≤ n + 1 → (run_in policy (Some blocks) size moved n).end ≡ moved
 ends_all Policy.Never blocks size moved n h e l = refl
@@ -78,9 +76,7 @@ last_run policy t f some e =
 pub start_same : (policy : Policy) (blocks : Option ℕ) (size moved other n : ℕ) → (run_in policy blocks size moved n).start ≡ (run_in policy blocks size other n).start
 start_same policy None size moved other n = refl
 start_same Policy.Never (Some blocks) size moved other n = refl
-start_same Policy.Command (Some blocks) size moved other n = refl
-start_same (Policy.Burst most) (Some blocks) size moved other n = refl
-start_same (Policy.NoSave most) (Some blocks) size moved other n = refl
+start_same _ (Some blocks) size moved other n = refl
 
 -- ---- As DATA OUT is left for STATUS with no byte struck, the process that is served has sent all that it sends.
 
@@ -102,9 +98,6 @@ whole_run s p row n c q w g ep b phase unstruck to served target blocks = record
     k : RunState
     k = run_state s p
 
-    pl : IsPlain s p k
-    pl = run_state_plain s p w.was.standing.devices
-
     ar : Around s p row n c
     ar = around s p row n c w g
 
@@ -121,7 +114,7 @@ whole_run s p row n c q w g ep b phase unstruck to served target blocks = record
     writes = writes_there s k q (w.was.planned n ar.before ar.calm) b served phase
 
     answered : IsAnsweredWhole s k q t
-    answered = w.asked.answered n q t ar.before ar.calm ar.off ar.after (sym pl.begun ∙ b) (ar.turned ∙ ep) phase unstruck served task
+    answered = w.asked.answered n q t ar.before ar.calm ar.off ar.after (sym w.was.plain.begun ∙ b) (ar.turned ∙ ep) phase unstruck served task
 
     left : leaving s k n.target ≡ after_run policy t
     left =

@@ -5,19 +5,17 @@ use proofs.Names.{None, refl, sym, ap, subst, same_Some, is_some, wrong, wrong',
 use proofs.Names.{changes_phase, is_message_out, connection, connection_after, is_fault, receiver_in, receiver_of, bus}
 use proofs.Names.{Row, Change, Connection, Handshakes, handshakes, no_handshakes, INITIATOR_DETECTED_ERROR, dialogue}
 use proofs.Names.{is_of_other, End, ScenarioValue, Obeys, RowReading, row_reading, Item, process, Link, begun}
-use proofs.Names.{begun_after, Serving, leaving_by, phase_of, Phase, run_state_plain, IsPrompt, IsPlain, AreOfDevices}
-use proofs.Names.{RunState, bus_of, carried_here, run_state, serving_of, in_connection, Knows, IsRowIn, RowKind, still}
-use proofs.Names.{strikes, crosses, turns, is_struck_phase, change_plain, least_is, BeginsConnection, by_selection}
-use proofs.Names.{by_reselection, ComplaintFacts, ComplaintsBy, any_struck, is_marked, FailFacts, IsClear, SentAsLeft}
-use proofs.Names.{awaits, Named, known, refused, said, OfferFacts, offer_now, pulses_here, SentFacts, SentTalk}
-use proofs.{Names.{WaitsFor, TellFacts, code_if}, Common.{Impossible.{none_some}, PhaseLines.{data_in_lines}}}
-use proofs.{Common.PhaseLines.{not_message_out, not_message_in}, Complaints.Facts.{complaints_next}}
-use proofs.{Failures.{Bytes.{clear_as, still_fails}, Crossed.{CrossedFacts}}, Lines.Connections.{ConnectionRow}}
-use proofs.Lines.Connections.{GoingRow, RowKindOf, begins_now, connection_row, goes_now, going_row, row_kind}
-use proofs.Lines.{Connections.{stage_of_connection}, Joint.{NextStood, Stood}, Rows.{LinkRow}}
-use proofs.{Runs.Counts.{handshakes_begin, unasked_low, or_left}, Sent.{Requests.{none_struck}, Rows.{in_row}}}
-use proofs.{Sent.Stays.{enters_clear, DataRow, drives_on, strikes_on}, Undone.Answers.{same_phase_of}}
-use proofs.Undone.Facts.{undo_asks}
+use proofs.Names.{begun_after, Serving, leaving_by, phase_of, Phase, IsPrompt, IsPlain, AreOfDevices, RunState, bus_of}
+use proofs.Names.{carried_here, run_state, serving_of, in_connection, Knows, IsRowIn, RowKind, still, strikes, crosses}
+use proofs.Names.{turns, is_struck_phase, change_plain, least_is, BeginsConnection, by_selection, by_reselection}
+use proofs.Names.{none_some, data_in_lines, not_message_out, not_message_in, by_bool, ConnectionRow, GoingRow}
+use proofs.Names.{RowKindOf, begins_now, connection_row, goes_now, going_row, row_kind, stage_of_connection, NextStood}
+use proofs.Names.{Stood, LinkRow, is_marked, awaits, OfferFacts, offer_now, code_if, complaints_next, same_phase_of}
+use proofs.Names.{undo_asks, ComplaintFacts, ComplaintsBy, any_struck, Named, known, refused, said, pulses_here}
+use proofs.{Names.{TellFacts, FailFacts, IsClear, SentAsLeft, SentFacts, SentTalk, WaitsFor}, Failures.Bytes.{clear_as}}
+use proofs.{Failures.{Bytes.{still_fails}, Crossed.{CrossedFacts}}, Runs.Counts.{handshakes_begin, unasked_low}}
+use proofs.{Runs.Counts.{or_left}, Sent.{Requests.{none_struck}, Rows.{in_row}, Stays.{enters_clear, DataRow}}}
+use proofs.Sent.Stays.{drives_on, strikes_on}
 
 -- ---- in DATA IN
 
@@ -28,7 +26,8 @@ no_offer s p n pl offers con calm b here =
 
 -- The initiator knows the process.
 item_known : (s : ScenarioValue) (p : List Row) (n : Connection) (w : Knows s (run_state s p) n) → TellFacts s p → connection p ≡ Some n → (bus p).rst ≡ false → phase_of (bus_of (run_state s p)) ≡ Phase.DataIn → (id : ProcId) → (run_state s p).served ≡ Some (process id) → w.link.item ≡ Some (process id)
-item_known s p n w told con calm here id served = by w.item_is
+item_known s p n w told con calm here id served =
+    elim w.item_is [ inl e ↦ e ∙ served | inr e ↦ unnamed e.1 (told.named n con calm e.0) ]
   where
     k : RunState
     k = run_state s p
@@ -41,10 +40,6 @@ item_known s p n w told con calm here id served = by w.item_is
     unnamed e (said q l y on names whole) = wrong' (sym (not_message_in (bus_of k) msg) ∙ on)
     unnamed e (refused q l y on cause names) = wrong' (sym (not_message_out (bus_of k) msg) ∙ on)
 
-    by : (w.link.item ≡ k.served) ⊎ ((n.reselected ≡ true) × (w.link.item ≡ None)) → w.link.item ≡ Some (process id)
-    by (inl e) = e ∙ served
-    by (inr e) = unnamed e.1 (told.named n con calm e.0)
-
 -- ---- before any row
 
 pub sent_start : (s : ScenarioValue) → SentFacts s []
@@ -54,7 +49,7 @@ sent_start s n e calm b here = none_some n e
 
 pub sent_asks : (s : ScenarioValue) (p : List Row) (row : Row) → Obeys s → IsPrompt s (row ∷ p) → Stood s p → TellFacts s p → SentFacts s p → SentAsLeft s p row
 sent_asks s p row o prompt was told facts n id w served here =
-    t.code id served ∙ ap (λ (q : Bool). code_if q INITIATOR_DETECTED_ERROR) (none_struck (handshakes p) (bus p).atn (none (pulses_here p) refl) ∙ ap (λ (l : LineSet). l.atn) (sym pl.bus))
+    t.code id served ∙ ap (λ (q : Bool). code_if q INITIATOR_DETECTED_ERROR) (none_struck (handshakes p) (bus p).atn (by_bool (pulses_here p) (λ z. over.1 z) (λ z. subst (WaitsFor (handshakes p)) over.0 (t.waits z))) ∙ ap (λ (l : LineSet). l.atn) (sym was.plain.bus))
   where
     k : RunState
     k = run_state s p
@@ -62,14 +57,11 @@ sent_asks s p row o prompt was told facts n id w served here =
     d : RowReading
     d = row_reading k.story.bus_state row
 
-    pl : IsPlain s p k
-    pl = run_state_plain s p was.standing.devices
-
     phase : phase_of (bus p) ≡ Phase.DataIn
-    phase = ap phase_of (sym pl.bus) ∙ here
+    phase = ap phase_of (sym was.plain.bus) ∙ here
 
     started : begun p ≡ true
-    started = sym pl.begun ∙ w.begun
+    started = sym was.plain.begun ∙ w.begun
 
     t : SentTalk s p
     t = facts n w.stands w.calm started phase
@@ -81,18 +73,14 @@ sent_asks s p row o prompt was told facts n id w served here =
     change = change_plain s row p was.standing.devices (least_is s p row prompt.1).inside
 
     next_is : d.next ≡ connection (row ∷ p)
-    next_is = λ i. connection_after (pl.connection i) (pl.call i) (change i) row
+    next_is = λ i. connection_after (was.plain.connection i) (was.plain.call i) (change i) row
 
     ended : (changes_phase d.change ≡ true) ⊎ (d.next ≡ None) → (changes_phase (change_of p row) ≡ true) ⊎ (connection (row ∷ p) ≡ None)
     ended (inl z) = inl (ap changes_phase (sym change) ∙ z)
     ended (inr z) = inr (sym next_is ∙ z)
 
     over : (awaits (bus p) ≡ false) × (pulses_here p ≡ true → (handshakes p).waiting ≡ [])
-    over = (in_row s p row n (data_in_lines (bus p) phase).2 (no_offer s p n pl told.offers w.stands w.calm started phase) r.link).over (ended w.leaves)
-
-    none : (q : Bool) → pulses_here p ≡ q → (handshakes p).waiting ≡ []
-    none true z = over.1 z
-    none false z = subst (WaitsFor (handshakes p)) over.0 (t.waits z)
+    over = (in_row s p row n (data_in_lines (bus p) phase).2 (no_offer s p n was.plain told.offers w.stands w.calm started phase) r.link).over (ended w.leaves)
 
 -- ---- any row
 
@@ -125,12 +113,6 @@ sent_next s p row o prompt was next told fails crossed complaints facts n after 
     lt : row.dev < 8
     lt = (least_is s p row prompt.1).inside
 
-    pl : IsPlain s p k
-    pl = run_state_plain s p dv
-
-    ql : IsPlain s q j
-    ql = run_state_plain s q next.stood.standing.devices
-
     lines : ((bus q).msg ≡ false) × ((bus q).cd ≡ false) × ((bus q).io ≡ true)
     lines = data_in_lines (bus q) here
 
@@ -140,7 +122,7 @@ sent_next s p row o prompt was next told fails crossed complaints facts n after 
     none_first (by_reselection y h) = wrong (sym (ap (λ (l : LineSet). l.msg) h.linked.stands.bus_is) ∙ lines.0)
 
     knows : connection p ≡ Some n → (bus p).rst ≡ false → Knows s k n
-    knows con off = was.books.knows n (pl.connection ∙ con) (ap (λ (l : LineSet). l.rst) pl.bus ∙ off)
+    knows con off = was.books.knows n (was.plain.connection ∙ con) (ap (λ (l : LineSet). l.rst) was.plain.bus ∙ off)
 
     going : connection p ≡ Some n → (bus p).rst ≡ false → GoingRow s p row n
     going con off = going_row s p row n dv lt con after calm next.row_is (connection_row s p row n o prompt was con off calm).facts
@@ -151,7 +133,10 @@ sent_next s p row o prompt was next told fails crossed complaints facts n after 
     -- ---- it goes on
 
     stays : connection p ≡ Some n → (bus p).rst ≡ false → changes_phase c ≡ false → SentTalk s q
-    stays con off ep = on (is_fault row.kind) refl
+    stays con off ep =
+        by_bool (is_fault row.kind)
+        (λ ef. strikes_on s p row n of ef (facts n con off started phase))
+        (λ ef. drives_on s p row n of ef (facts n con off started phase))
       where
         phase : phase_of (bus p) ≡ Phase.DataIn
         phase = sym (same_phase_of c ep) ∙ here
@@ -176,26 +161,22 @@ sent_next s p row o prompt was next told fails crossed complaints facts n after 
           phase = phase;
           link = w.link;
           link_is = w.link_is;
-          item_is = item_known s p n w told con off (ap phase_of pl.bus ∙ phase);
+          item_is = item_known s p n w told con off (ap phase_of was.plain.bus ∙ phase);
           undoes = undo_asks is_marked s p row was next told.undo;
           crossed = crossed n con off;
           moves = link;
-          step = (in_row s p row n (data_in_lines (bus p) phase).2 (no_offer s p n pl told.offers con off started phase) link).step after;
+          step = (in_row s p row n (data_in_lines (bus p) phase).2 (no_offer s p n was.plain told.offers con off started phase) link).step after;
         }
-
-        on : (x : Bool) → is_fault row.kind ≡ x → SentTalk s q
-        on true ef = strikes_on s p row n of ef (facts n con off started phase)
-        on false ef = drives_on s p row n of ef (facts n con off started phase)
 
     -- ---- it is entered
 
     -- With ATN true it does not begin.
     attends : changes_phase c ≡ true → (x : Bool) → (bus q).atn ≡ x → (bus q).atn ≡ false
     attends ep false e = e
-    attends ep true e = wrong' (sym none ∙ w.attends (ap (λ (l : LineSet). l.io) ql.bus ∙ lines.2) (ap (λ (l : LineSet). l.msg) ql.bus ∙ lines.0) (ap (λ (l : LineSet). l.atn) ql.bus ∙ e))
+    attends ep true e = wrong' (sym none ∙ w.attends (ap (λ (l : LineSet). l.io) next.stood.plain.bus ∙ lines.2) (ap (λ (l : LineSet). l.msg) next.stood.plain.bus ∙ lines.0) (ap (λ (l : LineSet). l.atn) next.stood.plain.bus ∙ e))
       where
         w : ComplaintsBy s q j
-        w = complaints_next s p row o prompt was next told.offers complaints n after calm (ql.begun ∙ b)
+        w = complaints_next s p row o prompt was next told.offers complaints n after calm (next.stood.plain.begun ∙ b)
 
         d : RowReading
         d = row_reading k.story.bus_state row
@@ -229,8 +210,8 @@ sent_next s p row o prompt was next told fails crossed complaints facts n after 
         clear id served true z =
             enters_clear w.link (carried_here k id) v k.exchange.speech.words k.handshakes.requests (bus_of k).atn (phase_of (bus_of k))
             (g.goes.leaves (ap changes_phase (g.goes.row_is.change_is ∙ g.change_is) ∙ ep)).some
-            ((fails n con off w.link id w.link_is served).begun (pl.begun ∙ z))
-            (sym (λ i. (leaving_by v ((pl.begun ∙ z) i) (bus_of k)).to) ∙ g.lines.whereto (ap changes_phase change ∙ ep) z ∙ ap (λ (x : Change). Some (phase_of x.after)) change ∙ ap (λ (x : Phase). Some x) here)
+            ((fails n con off w.link id w.link_is served).begun (was.plain.begun ∙ z))
+            (sym (λ i. (leaving_by v ((was.plain.begun ∙ z) i) (bus_of k)).to) ∙ g.lines.whereto (ap changes_phase change ∙ ep) z ∙ ap (λ (x : Change). Some (phase_of x.after)) change ∙ ap (λ (x : Phase). Some x) here)
 
         served_is : (ph now fault : Bool) → changes_phase c ≡ ph → is_some (receiver_in n c) ≡ now → is_fault row.kind ≡ fault → j.served ≡ k.served
         served_is ph now fault x y z = (in_connection s k row n c ph now fault (row_in con off) x y z).served_is

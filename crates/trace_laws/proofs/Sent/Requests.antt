@@ -2,9 +2,9 @@
 use Rattle.trace_laws.proofs
 use proofs.Names.{ℕ, ◌≡◌, Bool, true, false, not, ◌||◌, ◌∙◌, List, [], ◌∷◌, ◌++◌, length, refl, sym, ap, subst, drop}
 use proofs.Names.{if◌then◌else◌, is_some, nat_lt, wrong, wrong', or_true, or_false, rises, Change, Handshakes, answered}
-use proofs.Names.{answered_if, asked, asked_if, first_of, is_struck, strikes_last, Request, counted_some, any_struck}
-use proofs.Names.{awaits, IsNewest, WaitsFor}
-use Rattle.bus_due.specs.bus_lines.specs.Handshakes.{opened, strikes}
+use proofs.Names.{answered_if, asked, asked_if, first_of, is_struck, strikes_last, opened, Request, counted_some}
+use proofs.Names.{awaits, any_struck, IsNewest, WaitsFor}
+use Rattle.bus_due.specs.bus_lines.specs.Handshakes.{strikes}
 
 -- Neither rises; REQ does; or ACK does, with ATN where the byte was struck that it answers, the newest or, by pulses, the oldest.
 pub data InStep (h : Handshakes) (pulsed : Bool) (c : Change) : Type 0 where

@@ -7,10 +7,10 @@ use proofs.Names.{connection, connection_after, bus, drives, last_time, Row, Cha
 use proofs.Names.{is_of_other, End, ScenarioValue, Serving, phase_leaving, phase_lines, phase_of, lines_by, Leaving}
 use proofs.Names.{Phase, run_state, serving_at, fault_change, EndLines, Linked, connected_bus, initiator_side}
 use proofs.Names.{target_side, change_to, row_of_fault, row_of_lines, answering_with, offering_with, initiator_moves}
-use proofs.{Names.{no_rise, phase_same, target_moves, ends, awaits, pulses_here}, Common.Impossible.{none_some}}
-use proofs.Lines.{Attention.{lines_are}, Kept.{turn}, Rows.{LinkRow}, Turns.{freed_connection}}
-use proofs.{Runs.Steps.{pulsed_as}, Sent.Requests.{InStep, answers, answers_oldest, asks, rests}}
-use Rattle.trace_laws.proofs.Lines.Rows as rows
+use proofs.Names.{no_rise, phase_same, target_moves, none_some, lines_are, turn, LinkRow, freed_connection, awaits}
+use proofs.{Names.{pulses_here}, Runs.Steps.{pulsed_as}, Sent.Requests.{InStep, answers, answers_oldest, asks, rests}}
+use Rattle.story_laws.specs.link_laws.specs.Phases.{ends}
+use Rattle.story_laws.specs.row_laws.proofs.Lines.Rows as rows
 
 abbrev Step : List Row → Change → Type 0
 Step p c = InStep (handshakes p) (pulses_here p) c

@@ -7,14 +7,14 @@ use proofs.Names.{Row, Change, Connection, Handshakes, first_of, handshakes, han
 use proofs.Names.{strikes_if, INITIATOR_DETECTED_ERROR, ScenarioValue, CarriedBytes, process, Link, Serving}
 use proofs.Names.{message_out_leaving, phase_leaving, phase_of, Leaving, Phase, run_state_plain, IsPlain, AreOfDevices}
 use proofs.Names.{RunState, carried_here, run_state, in_connection, IsRowIn, RowKind, still, strikes as fault_strikes}
-use proofs.Names.{crosses, turns, any_struck, FailsBy, IsClear, awaits, pulses_here, SentTalk, WaitsFor, UndoesAnswers}
-use proofs.{Names.{code_if}, Common.PhaseLines.{data_in_lines, not_message_out, not_message_in}}
-use proofs.Failures.{Bytes.{SameFail, still_fails}, Crossed.{CrossedBooks}, Crossings.{in_none, out_none, quiet_same}}
+use proofs.Names.{crosses, turns, data_in_lines, not_message_out, not_message_in, LinkRow, awaits, UndoesAnswers}
+use proofs.{Names.{code_if, any_struck, pulses_here, FailsBy, IsClear, SentTalk, WaitsFor}, Failures.Bytes.{SameFail}}
+use proofs.Failures.{Bytes.{still_fails}, Crossed.{CrossedBooks}, Crossings.{in_none, out_none, quiet_same}}
 use proofs.Failures.{Faults.{Struck, fault_crossed, fault_fails, fault_receives}, Turns.{is_sending, sends_clear}}
-use proofs.{Lines.Rows.{LinkRow}, Runs.CountRows.{data_pulses_stay}, Sent.Requests.{InStep, asked_waits, first_struck}}
-use proofs.Sent.Requests.{hands_after, last_struck, struck_on, waits_on, waits_struck}
+use proofs.{Runs.CountRows.{data_pulses_stay}, Sent.Requests.{InStep, asked_waits, first_struck, hands_after}}
+use proofs.Sent.Requests.{last_struck, struck_on, waits_on, waits_struck}
 use Rattle.bus_due.specs.bus_lines.specs.Handshakes.{strikes}
-use Rattle.link_laws.proofs.LeavingWays as ways
+use Rattle.story_laws.specs.link_laws.proofs.LeavingWays as ways
 
 -- ---- MESSAGE OUT is not left for it
 

@@ -7,12 +7,13 @@ use proofs.Names.{same_id, carried_id, carried_with, carried_link, events_link, 
 use proofs.Names.{check_carried, RowReading, row_reading, area_with, CarriedBytes, carried_of, with_carried}
 use proofs.Names.{with_restored_pointers, carried_after_message, carried_after_byte, carried_after_fault}
 use proofs.Names.{is_status_phase, carried_if, row_events_by, Item, process, abort, Link, link_of, last_out, last_in}
-use proofs.Names.{link_after_name, Story, by_abort, by_reset, is_aborted, is_sense_stopped, marked_refused}
-use proofs.Names.{marked_shown, story_after_event, story_after_events, aim_of, story_on_free_bus, story_with_restored}
+use proofs.Names.{link_after_name, Story, by_abort, is_aborted, is_sense_stopped, marked_refused, marked_shown}
+use proofs.Names.{story_after_event, story_after_events, aim_of, story_on_free_bus, story_with_restored}
 use proofs.Names.{story_with_sent, story_after_connection, story_with_carried, is_parity_error, story_after_out}
 use proofs.Names.{carried_after_message_if, story_after_message, story_after_in, carried_after_byte_if}
 use proofs.Names.{story_after_byte, carried_after_fault_if, story_after_fault, story_in_connection, story_on_bus}
-use proofs.{Names.{story_by_change, RunState, run_state_after, id_is}, Common.Impossible.{none_some}}
+use proofs.Names.{story_by_change, RunState, run_state_after, id_is, none_some}
+use Rattle.bus_due.specs.bus_story.specs.Story.{by_reset}
 
 -- It holds of the status area of each process; and of that which would be brought back.
 abbrev pub OnAreas : (ProcId → List ℕ → Type 0) → List CarriedBytes → Type 0
@@ -79,13 +80,7 @@ message_on q s b l m h = go l.item
   where
     same : (c : CarriedBytes) (p : ProcId) → q p c.status.bytes → (x : MsgIn) → ((carried_after_message c x).id ≡ c.id) × q p (carried_after_message c x).status.bytes
     same c p w MsgIn.SavePointer = (refl, w)
-    same c p w MsgIn.RestorePointers = (refl, w)
-    same c p w MsgIn.CommandComplete = (refl, w)
-    same c p w MsgIn.Disconnect = (refl, w)
-    same c p w MsgIn.Reject = (refl, w)
-    same c p w (MsgIn.Identify lun) = (refl, w)
-    same c p w (MsgIn.SimpleTag n) = (refl, w)
-    same c p w (MsgIn.Sdtr a) = (refl, w)
+    same c p w _ = (refl, w)
 
     go : (item : Option Item) → OnAreas q (story_with_carried (record b { link = Some l }) (carried_after_message_if (carried_if b item) m)).carried
     go None = h

@@ -1,34 +1,33 @@
 -- As the initiator takes COMMAND COMPLETE, the status that was carried is that of the reply that the plain disk array has given, after any
 -- rows of a prompt trace (6.4, 6.6.5, 7.3).
 use Rattle.trace_laws.proofs
-use proofs.Names.{inl, inr, ℕ, ◌≡◌, ◌⊎◌, ◌<◌, Bool, true, false, not, ◌&&◌, ◌%◌, ◌∙◌, List, [], ◌∷◌, ◌++◌, length}
-use proofs.Names.{Option, Some, None, refl, sym, ap, subst, same_Some, if◌then◌else◌, is_some, slice_index_or, wrong}
-use proofs.Names.{wrong', ProcId, byte_back, change_of, rises, LineSet, has_odd_parity, changes_phase, is_message_in}
-use proofs.Names.{is_message_out, is_command, connection, connection_after, receiver_in, is_fault, bus, Row, Change}
-use proofs.Names.{Connection, struck_same, Handshakes, handshakes_after, got_in, MsgIn, Dialogue, ScenarioValue, Obeys}
-use proofs.Names.{Tag, reply_in, Reply, Process, Array, RowReading, row_reading, message_in, whole_in, area_with}
-use proofs.Names.{CarriedBytes, is_status_phase, Item, process, Link, aim_of, is_status_next, one_message, no_messages}
+use proofs.Names.{inl, inr, ℕ, ◌≡◌, ◌<◌, Bool, true, false, not, ◌&&◌, ◌%◌, ◌∙◌, List, [], ◌∷◌, ◌++◌, Option, Some}
+use proofs.Names.{None, refl, sym, ap, subst, same_Some, if◌then◌else◌, is_some, wrong, wrong', ProcId, byte_back}
+use proofs.Names.{change_of, rises, LineSet, has_odd_parity, changes_phase, is_message_in, is_message_out, is_command}
+use proofs.Names.{connection, connection_after, receiver_in, is_fault, bus, Row, Change, Connection, struck_same}
+use proofs.Names.{Handshakes, handshakes_after, got_in, MsgIn, Dialogue, ScenarioValue, Obeys, Tag, reply_in, Reply}
+use proofs.Names.{Process, Array, RowReading, row_reading, message_in, whole_in, area_with, CarriedBytes}
+use proofs.Names.{is_status_phase, Item, process, Link, aim_of, is_status_next, one_message, no_messages}
 use proofs.Names.{bytes_of_messages, begun, Serving, phase_of, phase_leaving, leaving_by, phase_byte, status_byte}
 use proofs.Names.{first_plan, Ready, tag_named, Messages, Next, Phase, run_state_plain, IsPrompt, IsPlain, AreOfDevices}
 use proofs.Names.{RunState, array_of, or_start, bus_of, item_of, process_item, process_served, carried_here, run_state}
 use proofs.Names.{run_state_after, exchange_after, leaving_of, may_negotiate, messages_if, serving_of, task_of}
-use proofs.Names.{ready_of, obeys_fits, seats_are, requests_stay, in_connection, reading_is, same_phase_is, AreGiven}
-use proofs.Names.{Knows, RowKind, still, strikes, crosses, turns, GoesOn, RowOf, row_apart, begins}
-use proofs.Names.{goes_on as row_goes_on, row_ends, under_reset, change_plain, least_is, EndLines, ends_reselected}
-use proofs.Names.{BeginsConnection, by_selection, by_reselection, Linked, LinkStage, when_selected, when_settling}
-use proofs.Names.{when_turning, when_offering, when_shaking, when_pulsing, is_marked, is_complete_in, LastBy, Names}
-use proofs.Names.{all, tag_alone, known, said, refused, Named, AnsweredOpen, PlacedIn, PlacedIf, PlaceFacts, AreAll}
-use proofs.Names.{IsStatusOf, IsStatusIn, StatusAreas, CarriesBy, StatusTalks, TellFacts, AreRepliesShown, FailsAsLeft}
-use proofs.{Names.{is_short}, Bytes.Facts.{byte_values}, Closes.{Asks.{CompletesAsGiven}, Status.{offers_given}}}
-use proofs.{Closes.{Status.{area_all, first_all}, Stays.{taking, said_then}}, Common.Impossible.{none_some}}
-use proofs.{Common.PhaseLines.{in_phase, is_status}, Last.{Bytes.{first_is}, Rows.{stays_as}}}
-use proofs.Lines.Connections.{ConnectionRow, GoingRow, connection_row, going_row, stage_of_connection, RowKindOf}
-use proofs.Lines.{Connections.{begins_now, goes_now, row_kind}, First.{IsFirst}, Joint.{Stood, NextStood, link_phase}}
-use proofs.{Pointers.Leavings.{is_attended}, Shown.Facts.{replies_first, replies_next}, Statuses.Carried.{Takes}}
-use proofs.Statuses.{Carried.{IsAsked, areas_next, undo_next}, Offers.{IsGiven, IsStatusOffered, offered_by, OfferRow}}
-use proofs.Statuses.{Offers.{offered_next, Crossing, status_crosses}, Replies.{no_link, reply_kept}}
-use proofs.Statuses.{TalkTurns.{turn_talk}, Talks.{TalksOf, still_talk, out_talk, in_talk, else_talk}, Turns.{RunsWell}}
-use proofs.{Statuses.Turns.{runs_well, turned_status}, Tells.Rows.{unbegun_lines}, Undone.Facts.{undo_asks}}
+use proofs.Names.{ready_of, obeys_fits, seats_are, in_connection, reading_is, same_phase_is, requests_stay, AreGiven}
+use proofs.Names.{Knows, RowKind, still, strikes, crosses, turns, GoesOn, RowOf, apart as row_apart, begins}
+use proofs.Names.{goes_on as row_goes_on, ends as row_ends, under_reset, change_plain, least_is, EndLines}
+use proofs.Names.{ends_reselected, BeginsConnection, by_selection, by_reselection, Linked, LinkStage, when_selected}
+use proofs.Names.{when_settling, when_turning, when_offering, when_shaking, when_pulsing, byte_values, none_some}
+use proofs.Names.{in_phase, is_status, by_bool, by_option, ConnectionRow, GoingRow, connection_row, going_row}
+use proofs.Names.{stage_of_connection, RowKindOf, begins_now, goes_now, row_kind, IsFirst, Stood, NextStood, link_phase}
+use proofs.Names.{replies_first, replies_next, is_marked, is_complete_in, AnsweredOpen, PlacedIn, PlacedIf, PlaceFacts}
+use proofs.Names.{AreRepliesShown, FailsAsLeft, is_short, first_is, stays_as, IsGiven, IsStatusOffered, offered_by}
+use proofs.Names.{OfferRow, offered_next, Crossing, status_crosses, is_attended, unbegun_lines, undo_asks, LastBy}
+use proofs.Names.{Names, all, tag_alone, known, said, refused, Named, TellFacts, AreAll, IsStatusOf, IsStatusIn}
+use proofs.{Names.{StatusAreas, CarriesBy, StatusTalks}, Closes.{Asks.{CompletesAsGiven}, Status.{offers_given}}}
+use proofs.{Closes.{Status.{area_all, first_all}, Stays.{taking, said_then}}, Statuses.Carried.{Takes, IsAsked}}
+use proofs.Statuses.{Carried.{areas_next, undo_next}, Replies.{no_link, reply_kept}, TalkTurns.{turn_talk}}
+use proofs.Statuses.{Talks.{TalksOf, still_talk, out_talk, in_talk, else_talk}, Turns.{RunsWell, runs_well}}
+use proofs.Statuses.Turns.{turned_status}
 use Rattle.bus_due.specs.disk_array.proofs.SoundArrays.{id_is}
 
 pub record StatusFacts (s : ScenarioValue) (p : List Row) : Type 0 where
@@ -54,9 +53,6 @@ status_asks s p row o prompt was next facts h n c l g ep link done id reply serv
     k : RunState
     k = run_state s p
 
-    pl : IsPlain s p k
-    pl = run_state_plain s p was.standing.devices
-
     t : (k.exchange.plan.messages ≡ one_message MsgIn.CommandComplete) × (k.exchange.plan.next ≡ Next.FreeBus)
     t = said_then s p row n c l was facts.served facts.last g link done
 
@@ -73,7 +69,7 @@ status_asks s p row o prompt was next facts h n c l g ep link done id reply serv
     talk : CarriesBy l (carried_here k id).status.bytes k.exchange.plan k.handshakes.requests Phase.MessageIn
     talk =
         subst (CarriesBy l (carried_here k id).status.bytes k.exchange.plan k.handshakes.requests) (in_phase (bus_of k) lines)
-        (h.talks n (sym pl.connection ∙ g.row_is.connection_is) (sym (ap (λ (x : LineSet). x.rst) pl.bus) ∙ g.calm) l id link served begun_is)
+        (h.talks n (sym was.plain.connection ∙ g.row_is.connection_is) (sym (ap (λ (x : LineSet). x.rst) was.plain.bus) ∙ g.calm) l id link served begun_is)
 
 -- ---- the lines of STATUS
 
@@ -123,7 +119,7 @@ record Here (s : ScenarioValue) (p : List Row) (row : Row) : Type 0 where
   statuses : StatusFacts s p
 
 plain_of : (s : ScenarioValue) (p : List Row) (row : Row) → Here s p row → IsPlain s p (run_state s p)
-plain_of s p row w = run_state_plain s p w.was.standing.devices
+plain_of s p row w = w.was.plain
 
 below : (s : ScenarioValue) (p : List Row) (row : Row) → Here s p row → row.dev < 8
 below s p row w = (least_is s p row w.prompt.1).inside
@@ -186,9 +182,6 @@ taken_byte s p row n id reply w g given cr st =
     k : RunState
     k = run_state s p
 
-    pl : IsPlain s p k
-    pl = plain_of s p row w
-
     c : Change
     c = g.going.change
 
@@ -196,11 +189,10 @@ taken_byte s p row n id reply w g given cr st =
     on = ap (λ (x : Change). x.before) g.going.change_is
 
     rose : rises c.before.req c.after.req ≡ true
-    rose = go (rises c.before.req c.after.req) refl
-      where
-        go : (q : Bool) → rises c.before.req c.after.req ≡ q → rises c.before.req c.after.req ≡ true
-        go true e = e
-        go false e = wrong' ((λ i. is_some (if sym (status_io c.before st) i then (if sym e i then Some n.initiator else None) else (if rises c.before.ack c.after.ack then Some n.target else None))) ∙ cr)
+    rose =
+        by_bool (rises c.before.req c.after.req)
+        (λ e. e)
+        (λ e. wrong' ((λ i. is_some (if sym (status_io c.before st) i then (if sym e i then Some n.initiator else None) else (if rises c.before.ack c.after.ack then Some n.target else None))) ∙ cr))
 
     crossing : Crossing s p row n id reply
     crossing = record {
@@ -264,14 +256,10 @@ row_asked s p row w m n l er em en el = go w.next.row_is
         same = on.going.change_is ∙ sym ch
 
         served : (id : ProcId) → l.item ≡ Some (process id) → k.served ≡ Some (process id)
-        served id e = by knows.item_is
+        served id e = elim knows.item_is [ inl z ↦ sym z ∙ item | inr z ↦ none_some (process id) (sym z.1 ∙ item) ]
           where
             item : knows.link.item ≡ Some (process id)
             item = ap (λ (y : Link). y.item) (same_Some knows.link l (sym knows.link_is ∙ el)) ∙ e
-
-            by : (knows.link.item ≡ k.served) ⊎ ((x.reselected ≡ true) × (knows.link.item ≡ None)) → k.served ≡ Some (process id)
-            by (inl z) = sym z ∙ item
-            by (inr z) = none_some (process id) (sym z.1 ∙ item)
 
         status : (id : ProcId) → l.item ≡ Some (process id) → d.crosses ≡ true → is_status_phase d.change.before ≡ true → IsStatusIn s k id (area_with (carried_here k id).status (d.change.after.data_bits % 256)).bytes
         status id e cr st =
@@ -305,11 +293,10 @@ areas_on s p row w = record { areas = λ id. on id (carried_here j id).status.by
     on id bytes h = moved (reply_in (array_of s k).replies id) (reply_in (array_of s j).replies id) bytes (λ reply e. kept s p row w id reply e) h
 
     undone : (l : Link) (u : CarriedBytes) → j.story.link ≡ Some l → l.undo ≡ Some u → IsStatusIn s j u.id u.status.bytes
-    undone l u el eu = go (row_reading k.story.bus_state row).next refl
-      where
-        go : (x : Option Connection) → (row_reading k.story.bus_state row).next ≡ x → IsStatusIn s j u.id u.status.bytes
-        go None e = none_some l (sym (no_link s (row ∷ p) w.next.stood e) ∙ el)
-        go (Some n) e = on u.id u.status.bytes (undo_next q s k row n e w.statuses.areas.areas w.statuses.areas.undone l u el eu)
+    undone l u el eu =
+        by_option (row_reading k.story.bus_state row).next
+        (λ e. none_some l (sym (no_link s (row ∷ p) w.next.stood e) ∙ el))
+        (λ n e. on u.id u.status.bytes (undo_next q s k row n e w.statuses.areas.areas w.statuses.areas.undone l u el eu))
 
 -- ---- what the target drives
 
@@ -361,7 +348,7 @@ offers_row s p row n w g after calm = record { kept = had; due = λ id reply giv
           turns = ep;
           silent = silent ep of.row_is.kind;
           link_is = knows.link_is;
-          item_is = item knows.item_is;
+          item_is = elim knows.item_is [ inl z ↦ inl z | inr z ↦ inr z.1 ];
           served_is = mine ∙ ap (λ (x : ProcId). Some (process x)) (sym own);
           process_is = at;
           to_initiator = ap (λ (x : Change). x.before.io) g.going.change_is ∙ io;
@@ -389,15 +376,14 @@ offers_row s p row n w g after calm = record { kept = had; due = λ id reply giv
         at : process_served s k ≡ Some pr
         at = ap (process_item s) mine ∙ (w.before.of_scenario id mine).1
 
-        item : (knows.link.item ≡ k.served) ⊎ ((n.reselected ≡ true) × (knows.link.item ≡ None)) → (knows.link.item ≡ k.served) ⊎ (knows.link.item ≡ None)
-        item (inl z) = inl z
-        item (inr z) = inr z.1
-
         after_status : phase_of c.after ≡ Phase.Status
         after_status = status_phase c.after (ap (λ (x : Change). is_status_phase x.after) g.going.change_is ∙ t)
 
         begun_is : k.exchange.begun ≡ true
-        begun_is = go k.exchange.begun refl
+        begun_is =
+            by_bool k.exchange.begun
+            (λ e. e)
+            (λ e. wrong (sym (sym (ap (λ (x : Change). is_message_out x.after) of.row_is.change_is) ∙ of.first (ap changes_phase of.row_is.change_is ∙ ep) e) ∙ out_none))
           where
             out_none : is_message_out c.after ≡ false
             out_none = lines c.after.msg c.after.cd c.after.io (ap (λ (x : Change). is_status_phase x.after) g.going.change_is ∙ t)
@@ -405,10 +391,6 @@ offers_row s p row n w g after calm = record { kept = had; due = λ id reply giv
                 lines : (x d i : Bool) → (not x && d && i) ≡ true → (x && d && not i) ≡ false
                 lines true d i z = wrong' z
                 lines false d i z = refl
-
-            go : (q : Bool) → k.exchange.begun ≡ q → k.exchange.begun ≡ true
-            go true e = e
-            go false e = wrong (sym (sym (ap (λ (x : Change). is_message_out x.after) of.row_is.change_is) ∙ of.first (ap changes_phase of.row_is.change_is ∙ ep) e) ∙ out_none)
 
         v : Serving
         v = serving_of s k n.target
@@ -450,9 +432,7 @@ named_other p l m count (tag_alone x e f g) = ap (λ (y : Messages). is_complete
   where
     tagged : (t : Tag) → tag_named t ≡ Some x → is_complete_in (Some x) ≡ false
     tagged Tag.Untagged z = absurd cc
-    tagged (Tag.Simple n) z = ap is_complete_in (sym z)
-    tagged (Tag.Ordered n) z = ap is_complete_in (sym z)
-    tagged (Tag.Head n) z = ap is_complete_in (sym z)
+    tagged _ z = ap is_complete_in (sym z)
 
 -- After the first row of a connection it is not said.
 first_other : (s : ScenarioValue) (p : List Row) (row : Row) (n : Connection) → AreOfDevices p → row.dev < 8 → connection p ≡ None → connection (row ∷ p) ≡ Some n → is_complete_in (run_state s (row ∷ p)).exchange.plan.messages.first ≡ false
@@ -527,11 +507,7 @@ talks_going s p row n w g after calm m id em ej bj = go of.row_is.kind
 
     -- where COMMAND COMPLETE is said the initiator knows the process; and in STATUS
     item_is : (n.reselected ≡ true → l.item ≡ None → Named s k n → l.item ≡ Some (process id)) → l.item ≡ Some (process id)
-    item_is other = by knows.item_is
-      where
-        by : (l.item ≡ k.served) ⊎ ((n.reselected ≡ true) × (l.item ≡ None)) → l.item ≡ Some (process id)
-        by (inl e) = e ∙ served
-        by (inr e) = other e.0 e.1 (w.facts.named n g.con g.off e.0)
+    item_is other = elim knows.item_is [ inl e ↦ e ∙ served | inr e ↦ other e.0 e.1 (w.facts.named n g.con g.off e.0) ]
 
     says : {A : Type 0} → k.exchange.plan.messages ≡ one_message MsgIn.CommandComplete → is_complete_in k.exchange.plan.messages.first ≡ false → A
     says e f = wrong (sym (ap (λ (x : Messages). is_complete_in x.first) e) ∙ f)
@@ -570,9 +546,6 @@ talks_going s p row n w g after calm m id em ej bj = go of.row_is.kind
         b : k.exchange.begun ≡ true
         b = begun_before ep true there
 
-        byte : (c.after.data_bits % 256 ≡ slice_index_or (bytes_of_messages k.exchange.plan.messages) k.handshakes.requests 0) × (k.handshakes.requests < length (bytes_of_messages k.exchange.plan.messages)) × (k.exchange.begun ≡ true)
-        byte = of.gives into there
-
         given : AreGiven (bytes_of_messages k.exchange.plan.messages) d.half k.handshakes.requests
         given = (w.was.books.gives n of.row_is.connection_is of.calm).in_message_in b (ap is_message_in of.row_is.bus_is ∙ into)
 
@@ -580,7 +553,7 @@ talks_going s p row n w g after calm m id em ej bj = go of.row_is.kind
         reads = λ i. if into i then whole_in (got_in (d.half ++ c.after.data_bits % 256 ∷ [])) else None
 
         first : k.exchange.plan.messages ≡ one_message MsgIn.CommandComplete → k.handshakes.requests ≡ 0 → message_in d c true ≡ Some MsgIn.CommandComplete
-        first e zero = reads ∙ first_is k.exchange.plan.messages d.half k.handshakes.requests (c.after.data_bits % 256) given zero (ap (λ (x : Messages). is_short x.first) e) byte.0 ∙ ap (λ (x : Messages). x.first) e
+        first e zero = reads ∙ first_is k.exchange.plan.messages d.half k.handshakes.requests (c.after.data_bits % 256) given zero (ap (λ (x : Messages). is_short x.first) e) (of.gives into there).0 ∙ ap (λ (x : Messages). x.first) e
 
     go : RowKind row n c → TalksOf j m id
     go (still ef ep er) =

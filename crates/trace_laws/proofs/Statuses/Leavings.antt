@@ -3,9 +3,9 @@ use Rattle.trace_laws.proofs
 use proofs.Names.{ℕ, ◌≡◌, Bool, true, false, ◌∙◌, length, Option, Some, None, refl, sym, ap, if◌then◌else◌, nat_lt}
 use proofs.Names.{wrong, wrong', MsgIn, is_complete, Link, last_in, one_message, from_byte, message_bytes, Serving}
 use proofs.Names.{phase_leaving, Cause, Leaving, Messages, Next, Phase, OnMessage, IsPlainIn, is_complete_in, LastGiven}
-use proofs.Names.{still_stays, to_close, to_save, EndsWell, stays, closed}
-use Rattle.trace_laws.specs.LastTalks.{closes, saves}
-use Rattle.link_laws.proofs.LeavingWays as ways
+use proofs.Names.{still_stays, to_close, to_save, EndsWell, closed, closes, saves}
+use Rattle.story_laws.specs.LastTalks.{stays}
+use Rattle.story_laws.specs.link_laws.proofs.LeavingWays as ways
 
 pub data Completes (v : Serving) (phase : Phase) : Type 0 where
   in_status : phase ≡ Phase.Status → Completes v phase
@@ -28,13 +28,7 @@ second_other (Some m) h = go m (ap is_complete h)
   where
     go : (x : MsgIn) → is_complete (last_in x) ≡ false → is_complete_in (Some x) ≡ false
     go MsgIn.CommandComplete e = wrong e
-    go MsgIn.SavePointer e = refl
-    go MsgIn.RestorePointers e = refl
-    go MsgIn.Disconnect e = refl
-    go MsgIn.Reject e = refl
-    go (MsgIn.Identify lun) e = refl
-    go (MsgIn.SimpleTag n) e = refl
-    go (MsgIn.Sdtr a) e = refl
+    go _ e = refl
 
 alone : (m : Messages) (n : ℕ) → is_complete_in m.second ≡ false → from_byte m n ≡ one_message MsgIn.CommandComplete → m ≡ one_message MsgIn.CommandComplete
 alone m n other = go (nat_lt n (length (message_bytes m.first)))

@@ -1,20 +1,20 @@
 -- A row keeps each reply that was given; and as STATUS follows a phase to the initiator, the status that the target drives with it is that of
 -- the reply (6.1.5, 7.3).
 use Rattle.trace_laws.proofs
-use proofs.Names.{inl, inr, ℕ, ◌≡◌, ◌⊎◌, Bool, true, false, not, ◌&&◌, ◌||◌, ◌∙◌, List, [], ◌∷◌, Option, Some, None}
-use proofs.Names.{refl, sym, ap, subst, same_Some, list_any, if◌then◌else◌, is_some, wrong, wrong', Event, ProcId}
-use proofs.Names.{rises, changes_phase, is_command, Row, Change, Connection, ScenarioValue, AbortDef, array_after}
-use proofs.Names.{reply_in, Reply, Process, same_id, Array, carried_id, RowReading, row_reading, CarriedBytes}
-use proofs.Names.{is_whole_block, is_status_phase, carried_if, queue_event, queue_events, is_refuse, status_event}
-use proofs.Names.{status_events, phase_events, is_completion, end_events, abort_line_at, abort_line_events}
-use proofs.Names.{bus_free_events, connection_events, link_events, row_events_by, item_loss_events, item_abort_events}
-use proofs.Names.{Item, process, abort, Link, LastMessage, plain, complete, disconnect, abortive, Story, phase_of}
-use proofs.Names.{Phase, run_state_plain, IsPlain, RunState, array_of, or_start, bus_of, process_item, process_served}
-use proofs.Names.{carried_here, run_state, array_after_events, id_is as ids_are, Knows, GoesOn, RowOf, row_apart}
-use proofs.Names.{begins, goes_on as row_goes_on, row_ends, under_reset, AnyStage, apart, linked, is_marked}
-use proofs.{Names.{IsUntouched, PlacedIf, PlaceFacts, AreRepliesShown}, Common.Impossible.{none_some}}
-use proofs.{Common.PhaseLines.{command_phase}, Events.Kept.{NoReplyTo, events_keep}, Lines.Called.{link_none}}
-use proofs.Lines.Joint.{Stood, link_connection}
+use proofs.Names.{inl, inr, ℕ, ◌≡◌, Bool, true, false, not, ◌&&◌, ◌||◌, ◌∙◌, List, [], ◌∷◌, Option, Some, None, refl}
+use proofs.Names.{sym, ap, subst, same_Some, list_any, if◌then◌else◌, is_some, wrong, wrong', Event, ProcId, rises}
+use proofs.Names.{changes_phase, is_command, Row, Change, Connection, ScenarioValue, array_after, reply_in, Reply}
+use proofs.Names.{Process, same_id, Array, carried_id, RowReading, row_reading, CarriedBytes, is_whole_block}
+use proofs.Names.{is_status_phase, carried_if, queue_event, queue_events, is_refuse, status_event, status_events}
+use proofs.Names.{phase_events, is_completion, end_events, abort_line_at, abort_line_events, bus_free_events}
+use proofs.Names.{connection_events, link_events, row_events_by, item_loss_events, item_abort_events, Item, process}
+use proofs.Names.{abort, Link, LastMessage, plain, complete, disconnect, abortive, Story, phase_of, Phase, RunState}
+use proofs.Names.{array_of, or_start, bus_of, process_item, process_served, carried_here, run_state, array_after_events}
+use proofs.Names.{id_is as ids_are, Knows, GoesOn, RowOf, apart as row_apart, begins, goes_on as row_goes_on}
+use proofs.Names.{ends as row_ends, under_reset, AnyStage, linked, none_some, command_phase, by_bool, NoReplyTo}
+use proofs.Names.{events_keep, link_none, Stood, link_connection, is_marked, IsUntouched, PlacedIf, PlaceFacts}
+use proofs.Names.{AreRepliesShown}
+use Rattle.story_laws.specs.link_laws.specs.LinkStages.{apart}
 use Rattle.bus_due.specs.disk_array.proofs.SoundArrays.{id_is}
 
 -- ---- events that show no reply
@@ -34,18 +34,15 @@ freed_none s id l plain = go l.item
     go (Some (abort m)) = tt
 freed_none s id l abortive = go l.item
   where
-    lines : (o : Option AbortDef) → NoReplyTo id (abort_line_events o)
-    lines None = tt
-    lines (Some a) = (refl, tt)
-
     go : (item : Option Item) → NoReplyTo id (item_abort_events s item)
     go None = tt
     go (Some (process p)) = tt
-    go (Some (abort m)) = lines (abort_line_at s.aborts m)
+    go (Some (abort m)) =
+        elim (abort_line_at s.aborts m) as (λ o. NoReplyTo id (abort_line_events o)) [ None ↦ tt | Some a ↦ (refl, tt) ]
 
 -- A phase follows another: of a process with an answer, which has not been in COMMAND, none is shown.
 phase_none : (s : ScenarioValue) (b : Story) (c : CarriedBytes) (g : Change) (id : ProcId) → (c.id ≡ id → is_marked c ≡ true) → (c.id ≡ id → is_command g.before ≡ false) → NoReplyTo id (phase_events s b (Some c) g)
-phase_none s b c g id marked there = go (same_id c.id id) refl
+phase_none s b c g id marked there = by_bool (same_id c.id id) (λ e. own (ids_are c.id id e)) (λ e. other e)
   where
     other : same_id c.id id ≡ false → NoReplyTo id (phase_events s b (Some c) g)
     other f = by (is_status_phase g.after && not c.shown && not c.refused && not (list_any (λ e. is_refuse e) (queue_events s b (Some c) g.before)))
@@ -77,22 +74,15 @@ phase_none s b c g id marked there = go (same_id c.id id) refl
         by true false false f = wrong' f
         by false x y f = tt
 
-    go : (q : Bool) → same_id c.id id ≡ q → NoReplyTo id (phase_events s b (Some c) g)
-    go true e = own (ids_are c.id id e)
-    go false e = other e
-
 -- ---- the events of a row
 
 -- Where no connection stands there is no link.
 pub no_link : (s : ScenarioValue) (p : List Row) → Stood s p → (run_state s p).story.bus_state.connection ≡ None → (run_state s p).story.link ≡ None
 no_link s p was none = go was.here
   where
-    pl : IsPlain s p (run_state s p)
-    pl = run_state_plain s p was.standing.devices
-
     go : AnyStage s p → (run_state s p).story.link ≡ None
-    go (linked n h) = none_some n (sym none ∙ pl.connection ∙ link_connection s p n h)
-    go (apart h alone) = link_none s p h (sym pl.connection ∙ none)
+    go (linked n h) = none_some n (sym none ∙ was.plain.connection ∙ link_connection s p n h)
+    go (apart h alone) = link_none s p h (sym was.plain.connection ∙ none)
 
 -- In COMMAND the process has no reply.
 unanswered_in : (s : ScenarioValue) (p : List Row) (n : Connection) (c : Change) (id : ProcId) (row : Row) → PlaceFacts s p → GoesOn s (run_state s p) row n c → (run_state s p).served ≡ Some (process id) → is_command c.before ≡ true → reply_in (array_of s (run_state s p)).replies id ≡ None
@@ -128,17 +118,13 @@ none_again s p row was of shown places id some = by_rst d.change.after.rst refl
         w = was.books.knows n g.row_is.connection_is g.calm
 
         served : (x : ProcId) → l.item ≡ Some (process x) → k.served ≡ Some (process x)
-        served x e = by w.item_is
+        served x e = elim w.item_is [ inl z ↦ sym z ∙ same | inr z ↦ no_item (sym z.1 ∙ same) ]
           where
             same : w.link.item ≡ Some (process x)
             same = ap (λ (y : Link). y.item) (same_Some w.link l (sym w.link_is ∙ el)) ∙ e
 
             no_item : (let o : Option Item = None in o) ≡ Some (process x) → k.served ≡ Some (process x)
             no_item z = absurd cc
-
-            by : (w.link.item ≡ k.served) ⊎ ((n.reselected ≡ true) × (w.link.item ≡ None)) → k.served ≡ Some (process x)
-            by (inl z) = sym z ∙ same
-            by (inr z) = no_item (sym z.1 ∙ same)
 
         by_process : (x : ProcId) → l.item ≡ Some (process x) → NoReplyTo id (phase_events s k.story (Some (carried_here k x)) d.change)
         by_process x e = phase_none s k.story (carried_here k x) d.change id marked there
@@ -150,12 +136,11 @@ none_again s p row was of shown places id some = by_rst d.change.after.rst refl
             marked f = ap (λ (y : ProcId). is_marked (carried_here k y)) (same f) ∙ sym (shown id) ∙ some
 
             there : (carried_here k x).id ≡ id → is_command d.change.before ≡ false
-            there f = at (is_command d.change.before) refl
-              where
-                at : (q : Bool) → is_command d.change.before ≡ q → is_command d.change.before ≡ false
-                at false z = z
-                at true z =
-                    wrong' (sym (ap (λ (o : Option Reply). is_some o) (unanswered_in s p n c id row places g (served x e ∙ ap (λ (y : ProcId). Some (process y)) (same f)) (ap (λ (y : Change). is_command y.before) (sym g.row_is.change_is) ∙ z))) ∙ some)
+            there f =
+                by_bool (is_command d.change.before)
+                (λ z.
+                wrong' (sym (ap (λ (o : Option Reply). is_some o) (unanswered_in s p n c id row places g (served x e ∙ ap (λ (y : ProcId). Some (process y)) (same f)) (ap (λ (y : Change). is_command y.before) (sym g.row_is.change_is) ∙ z))) ∙ some))
+                (λ z. z)
 
         by_item : (item : Option Item) → l.item ≡ item → NoReplyTo id (phase_events s k.story (carried_if k.story item) d.change)
         by_item None e = tt

@@ -7,10 +7,9 @@ use proofs.Names.{no_handshakes, handshakes_after, asked_if, answered_if, MsgIn,
 use proofs.Names.{follows_by, Exchange, one_message, from_byte, plan_anew, Serving, phase_of, phase_leaving, leaving_by}
 use proofs.Names.{follows_in, cause_after, plan_in_message_out, plan_in_phase, Cause, Leaving, Phase, Plan, RunState}
 use proofs.Names.{bus_of, carried_here, run_state_after, serving_of, leaving, hearing_of, InConnection, in_connection}
-use proofs.Names.{LeavesWhole, IsOver, reading_in, LastGiven, HasStatus, UndoesStatus, CarriesBy}
-use proofs.{Common.{PhaseLines.{in_phase, out_lines}, Tests.{some_zero}}, Items.Row.{link_still}}
-use proofs.{Lines.Plans.{is_in_message}, Statuses.Leavings.{Completes, in_status, refused, completes_from, left_alone}}
-use proofs.{Statuses.Talks.{TalksOf, status_kept, quiet}, Undone.Turns.{TurnOf, not_out}}
+use proofs.Names.{LeavesWhole, IsOver, reading_in, in_phase, out_lines, some_zero, is_in_message, link_still, TurnOf}
+use proofs.{Names.{not_out, LastGiven, HasStatus, UndoesStatus, CarriesBy}, Statuses.Leavings.{Completes, in_status}}
+use proofs.Statuses.{Leavings.{refused, completes_from, left_alone}, Talks.{TalksOf, status_kept, quiet}}
 
 -- MESSAGE OUT answers a message where MESSAGE IN was left.
 from_in : (b : LineSet) → cause_after b ≡ Cause.InMessage → is_message_in b ≡ true
@@ -142,6 +141,4 @@ turn_talk s k row n c l m id t over last em h =
     go Phase.MessageOut e = (by_begun k.exchange.begun refl).0 e
     go Phase.MessageIn e = (by_begun k.exchange.begun refl).1 e
     go Phase.Status e = λ some. some_zero j.handshakes.requests some asked
-    go Phase.Command e = tt
-    go Phase.DataIn e = tt
-    go Phase.DataOut e = tt
+    go _ e = tt

@@ -9,10 +9,10 @@ use proofs.Names.{message_out, Area, area_with, CarriedBytes, carried_of, carrie
 use proofs.Names.{Item, process, Link, last_out, Story, story_with_carried, is_parity_error, story_after_out}
 use proofs.Names.{story_after_in, carried_after_byte_if, story_after_byte, story_in_connection, story_on_bus}
 use proofs.Names.{story_by_change, one_message, phase_of, Phase, Plan, RunState, bus_of, carried_here, run_state_after}
-use proofs.Names.{reading_is, self_id, id_is, put_own, IsRowIn, reading_in, HasStatus, UndoesStatus, CarriesBy}
-use proofs.{Common.{Impossible.{none_some}, PhaseLines.{out_in, out_phase, in_phase}}, Items.Row.{LinkAfter, says}}
-use proofs.{Items.Row.{hears, stays, heard_link, link_crossed, link_still}, Last.Rows.{KeptPlan, Stays, stays_as}}
-use proofs.{Pointers.{Leavings.{is_attended}, Steps.{byte_id}}, Statuses.Carried.{areas_next, events_on}}
+use proofs.Names.{reading_is, self_id, id_is, put_own, IsRowIn, reading_in, none_some, out_in, out_phase, in_phase}
+use proofs.Names.{LinkAfter, says, hears, heard_link, link_crossed, link_still, KeptPlan, Stays, stays_as, is_attended}
+use proofs.{Names.{byte_id, HasStatus, UndoesStatus, CarriesBy}, Statuses.Carried.{areas_next, events_on}}
+use Rattle.story_laws.proofs.Items.Row.{stays}
 
 -- ---- a byte that was carried stays
 
@@ -76,9 +76,7 @@ stays_by l bytes others p q count other Phase.MessageIn f k e h = λ m. let w = 
     counts (inl z) = inl (e refl ∙ z)
     counts (inr z) = inr z
 stays_by l bytes others p q count other Phase.MessageOut f k e h = λ ec m. let w = h (sym k.cause ∙ ec) (sym k.messages ∙ m) in (f w.0, w.1)
-stays_by l bytes others p q count other Phase.Command f k e h = tt
-stays_by l bytes others p q count other Phase.DataIn f k e h = tt
-stays_by l bytes others p q count other Phase.DataOut f k e h = tt
+stays_by l bytes others p q count other _ f k e h = tt
 
 -- What is said of the process that is served, with this link.
 abbrev pub TalksOf : RunState → Link → ProcId → Type 0
@@ -149,9 +147,6 @@ in_talk s k row n c l m id r ep en into el em named first h =
     j : RunState
     j = run_state_after s k row
 
-    heard : Option MsgIn
-    heard = message_in k.story.bus_state.dialogue c true
-
     t : Stays s k row n c true
     t = stays_as s k row n c true r ep en
 
@@ -170,7 +165,7 @@ in_talk s k row n c l m id r ep en into el em named first h =
     undone : k.exchange.plan.messages ≡ one_message MsgIn.CommandComplete → HasStatus (carried_here k id).status.bytes → (k.handshakes.requests ≡ 0) ⊎ UndoesStatus l.undo → UndoesStatus m.undo
     undone e w u = by (link_crossed s k row n c l r en el)
       where
-        by : LinkAfter s k.story l (message_out k.story.bus_state.dialogue c true) heard j.story.link → UndoesStatus m.undo
+        by : LinkAfter s k.story l (message_out k.story.bus_state.dialogue c true) (message_in k.story.bus_state.dialogue c true) j.story.link → UndoesStatus m.undo
         by (says x f z) = none_some x (sym out ∙ f)
         by (hears x f g z) = subst UndoesStatus (sym (ap (λ (y : Link). y.undo) (same_Some m (heard_link s k.story l x) (sym em ∙ z)))) (own e w)
         by (stays f g z) = subst UndoesStatus (sym (ap (λ (y : Link). y.undo) (same_Some m l (sym em ∙ z)))) (at u)
@@ -281,6 +276,4 @@ else_talk s k row n c l m id r ep en out into lines el item = subst (CarriesBy m
     go Phase.MessageOut e = wrong' (sym no_message ∙ ap is_message e)
     go Phase.MessageIn e = wrong' (sym no_message ∙ ap is_message e)
     go Phase.Status e = λ some. takes_status s k row n c l id r en el (item (ap phase_of r.bus_is ∙ e)) e out into
-    go Phase.Command e = tt
-    go Phase.DataIn e = tt
-    go Phase.DataOut e = tt
+    go _ e = tt

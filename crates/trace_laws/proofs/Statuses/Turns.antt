@@ -9,9 +9,9 @@ use proofs.Names.{is_whole_block, is_status_phase, carried_if, queue_event, stat
 use proofs.Names.{row_events_by, Item, process, Link, is_status_next, Serving, phase_of, phase_entry, after_messages}
 use proofs.Names.{phase_leaving, data_in_leaving, status_byte, Leaving, Next, Phase, RunState, array_of, or_start}
 use proofs.Names.{process_served, carried_here, run_state, array_after_events, reply_now, status_by, task_if, task_of}
-use proofs.Names.{self_id, IsRowIn, is_marked, IsTaken, PlacedBefore, PlacedIn, RunsOpen, PlaceFacts, AreRepliesShown}
-use proofs.{Names.{FailsIn, FailsBefore}, Common.Impossible.{none_some}, Events.{Answered.{run_is}, Kept.{NoReplyTo}}}
-use proofs.{Events.Others.{executed, reply_at}, Places.TurnRows.{shown_is}, Statuses.Replies.{reply_stays}}
+use proofs.Names.{self_id, IsRowIn, none_some, by_option, run_is, NoReplyTo, executed, reply_at, is_marked, IsTaken}
+use proofs.Names.{PlacedBefore, PlacedIn, RunsOpen, PlaceFacts, AreRepliesShown, FailsIn, FailsBefore}
+use proofs.{Places.TurnRows.{shown_is}, Statuses.Replies.{reply_stays}}
 use Rattle.bus_due.specs.disk_array.specs.Steps
 
 -- ---- the phase that is left
@@ -90,7 +90,10 @@ pub record Turning (s : ScenarioValue) (p : List Row) (row : Row) (n : Connectio
   pub kept : (reply : Reply) → reply_in (array_of s (run_state s p)).replies pr.id ≡ Some reply → reply_in (array_of s (run_state s (row ∷ p))).replies pr.id ≡ Some reply
 
 pub turned_status : (s : ScenarioValue) (p : List Row) (row : Row) (n : Connection) (c : Change) (l : Link) (pr : Process) (reply : Reply) → Turning s p row n c l pr → reply_in (array_of s (run_state s (row ∷ p))).replies pr.id ≡ Some reply → status_byte (task_of s (run_state s p)) ≡ reply.status
-turned_status s p row n c l pr reply t given = go (reply_in (array_of s k).replies pr.id) refl
+turned_status s p row n c l pr reply t given =
+    by_option (reply_in (array_of s k).replies pr.id)
+    (λ e. byte None e ∙ sym (by_item e t.item_is))
+    (λ x e. byte (Some x) e ∙ ap (λ (y : Reply). y.status) (same_Some x reply (sym (t.kept x e) ∙ given)))
   where
     k : RunState
     k = run_state s p
@@ -104,9 +107,6 @@ turned_status s p row n c l pr reply t given = go (reply_in (array_of s k).repli
     own : CarriedBytes
     own = carried_here k pr.id
 
-    here : array_of s k ≡ a
-    here = ap (or_start s) t.before.array_is
-
     shown : row_events_by s k.story (row_reading k.story.bus_state row) row ≡ phase_events s k.story (carried_if k.story l.item) c
     shown = shown_is s k row n c l t.row_is t.turns t.silent t.link_is
 
@@ -118,7 +118,7 @@ turned_status s p row n c l pr reply t given = go (reply_in (array_of s k).repli
 
     -- the process runs
     ran : RunsWell a pr own → row_events_by s k.story (row_reading k.story.bus_state row) row ≡ Event.Run pr.id ∷ [] → reply.status ≡ (reply_now (array_of s k) pr).status
-    ran w z = ap (λ (x : Reply). x.status) (sym (same_Some (reply_at a pr (unit_state_at a.units pr.target pr.unit)) reply (sym now ∙ given))) ∙ ap (λ (x : Array). (reply_now x pr).status) (sym here)
+    ran w z = ap (λ (x : Reply). x.status) (sym (same_Some (reply_at a pr (unit_state_at a.units pr.target pr.unit)) reply (sym now ∙ given))) ∙ ap (λ (x : Array). (reply_now x pr).status) (sym (ap (or_start s) t.before.array_is))
       where
         next : Array
         next = settled_array (Steps.after_execution_at a pr (unit_state_at a.units pr.target pr.unit))
@@ -146,7 +146,3 @@ turned_status s p row n c l pr reply t given = go (reply_in (array_of s k).repli
     by_item : reply_in (array_of s k).replies pr.id ≡ None → (l.item ≡ k.served) ⊎ (l.item ≡ None) → reply.status ≡ (reply_now (array_of s k) pr).status
     by_item e (inl z) = runs e (z ∙ t.served_is)
     by_item e (inr z) = none_shown e (shown ∙ ap (λ (x : Option Item). phase_events s k.story (carried_if k.story x) c) z)
-
-    go : (o : Option Reply) → reply_in (array_of s k).replies pr.id ≡ o → status_byte (task_of s k) ≡ reply.status
-    go (Some x) e = byte (Some x) e ∙ ap (λ (y : Reply). y.status) (same_Some x reply (sym (t.kept x e) ∙ given))
-    go None e = byte None e ∙ sym (by_item e t.item_is)

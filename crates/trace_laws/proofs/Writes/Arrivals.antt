@@ -2,11 +2,11 @@
 use Rattle.trace_laws.proofs
 use proofs.Names.{◌≡◌, Bool, true, false, not, ◌&&◌, List, [], ◌∷◌, Option, Some, None, refl, ℕ, list_any}
 use proofs.Names.{if◌then◌else◌, is_some, Event, ProcId, rises, LineSet, changes_phase, is_command, Row, ScenarioValue}
-use proofs.Names.{AbortDef, array_after, RowReading, CarriedBytes, is_whole_block, is_status_phase, carried_if}
-use proofs.Names.{queue_event, queue_events, is_refuse, status_event, status_events, phase_events, is_completion}
-use proofs.Names.{end_events, item_loss_events, abort_line_at, abort_line_events, item_abort_events, bus_free_events}
-use proofs.Names.{link_events, row_events_by, Item, process, abort, Link, LastMessage, plain, complete, disconnect}
-use proofs.{Names.{abortive, Story}, Events.Units.{Arrives, ArrivesFirst}}
+use proofs.Names.{array_after, RowReading, CarriedBytes, is_whole_block, is_status_phase, carried_if, queue_event}
+use proofs.Names.{queue_events, is_refuse, status_event, status_events, phase_events, is_completion, end_events}
+use proofs.Names.{item_loss_events, abort_line_at, abort_line_events, item_abort_events, bus_free_events, link_events}
+use proofs.Names.{row_events_by, Item, process, abort, Link, LastMessage, plain, complete, disconnect, abortive, Story}
+use proofs.Names.{Arrives, ArrivesFirst}
 
 -- A command that arrives with the row is that of the connection; its block stands whole as COMMAND is left.
 pub record ArrivesNow (b : Story) (d : RowReading) (l : Link) (c : CarriedBytes) : Type 0 where
@@ -66,11 +66,8 @@ lost q (Some (abort k)) = tt
 aborted : (s : ScenarioValue) (q : ProcId → Type 0) (item : Option Item) → ArrivesFirst q (item_abort_events s item)
 aborted s q None = tt
 aborted s q (Some (process p)) = tt
-aborted s q (Some (abort k)) = go (abort_line_at s.aborts k)
-  where
-    go : (a : Option AbortDef) → ArrivesFirst q (abort_line_events a)
-    go None = tt
-    go (Some a) = tt
+aborted s q (Some (abort k)) =
+    elim (abort_line_at s.aborts k) as (λ a. ArrivesFirst q (abort_line_events a)) [ None ↦ tt | Some a ↦ tt ]
 
 freed : (s : ScenarioValue) (q : ProcId → Type 0) (l : Link) (last : LastMessage) → ArrivesFirst q (bus_free_events s l last)
 freed s q l plain = lost q l.item

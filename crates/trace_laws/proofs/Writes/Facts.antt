@@ -12,16 +12,15 @@ use proofs.Names.{exchange_after, first_exchange, leaving_of, array_after_events
 use proofs.Names.{ready_of, obeys_fits, seats_are, no_input, is_message, Instructions, instructions, instructions_after}
 use proofs.Names.{instructions_on, instructions_with, Writer, writer_of, writers, writers_with, is_data_out}
 use proofs.Names.{in_connection, reading_is, same_phase_is, RowKind, still, strikes, crosses, turns, IsFirstRow}
-use proofs.Names.{reading_in, Begins, GoesOn, RowOf, row_apart as apart, begins, goes_on, row_ends as ends, under_reset}
-use proofs.Names.{change_plain, least_is, CommandFacts, Instructed, InstructedFacts, KnownIn, ItemFacts, IsFresh}
+use proofs.Names.{reading_in, Begins, GoesOn, RowOf, apart, begins, goes_on, ends, under_reset, change_plain, least_is}
+use proofs.Names.{none_some, message_is, by_bool, IfAll, MayWait, events_all, reset_all, each_settled, written_stays}
+use proofs.Names.{empty_stays, empty_written, start_empty, dropped_empty, Stood, NextStood, writes_there, ItemFacts}
 use proofs.Names.{IsPresentWriter, AllUnits, IsWriterOf, IsWrittenUnit, IsEmptyUnit, IsUnrunServed, WriteFacts}
-use proofs.{Names.{WritesAsked}, Commands.Stays.{phase_same}, Common.{Impossible.{none_some}, PhaseLines.{message_is}}}
-use proofs.Events.{Units.{IfAll, MayWait, events_all, reset_all, each_settled}, Writers.{written_stays, empty_stays}}
-use proofs.{Events.Writers.{empty_written, start_empty, dropped_empty}, Instructed.Steps.{told_with}}
-use proofs.{Items.{Facts.{rst_raised}, Fresh.{items_fresh}}, Lines.{Joint.{Stood, NextStood}, Plans.{writes_there}}}
-use proofs.{Runs.Rows.{served_id}, Writes.{Arrivals.{ArrivesNow, arrives_first}, Rows.{WriteRow, Around, around}}}
-use proofs.Writes.{Rows.{out_is, runs_stay, going_units, arrival_waits}, Turns.{no_byte, a_byte, writer_now}}
-use proofs.Writes.Turns.{writer_elsewhere, progress_apart, progress_ends}
+use proofs.Names.{WritesAsked, told_with, rst_raised, items_fresh, CommandFacts, Instructed, InstructedFacts, KnownIn}
+use proofs.{Names.{IsFresh}, Runs.Rows.{served_id}, Writes.{Arrivals.{ArrivesNow, arrives_first}, Rows.{WriteRow}}}
+use proofs.Writes.{Rows.{Around, around, out_is, runs_stay, going_units, arrival_waits}, Turns.{no_byte, a_byte}}
+use proofs.Writes.Turns.{writer_now, writer_elsewhere, progress_apart, progress_ends}
+use Rattle.story_laws.proofs.Commands.Stays.{phase_same}
 use Rattle.bus_due.specs.disk_array.specs.Steps
 
 -- No byte is answered but with one that crosses.
@@ -34,11 +33,10 @@ same_answers n c time h ep er io =
     go false = refl
 
     none : rises c.before.ack c.after.ack ≡ false
-    none = by (rises c.before.ack c.after.ack) refl
-      where
-        by : (q : Bool) → rises c.before.ack c.after.ack ≡ q → rises c.before.ack c.after.ack ≡ false
-        by false e = e
-        by true e = wrong (sym (λ i. is_some (if io i then (if rises c.before.req c.after.req then Some n.initiator else None) else if e i then Some n.target else None)) ∙ ap (λ (o : Option ℕ). is_some o) er)
+    none =
+        by_bool (rises c.before.ack c.after.ack)
+        (λ e. wrong (sym (λ i. is_some (if io i then (if rises c.before.req c.after.req then Some n.initiator else None) else if e i then Some n.target else None)) ∙ ap (λ (o : Option ℕ). is_some o) er))
+        (λ e. e)
 
 pub present_next : (s : ScenarioValue) (p : List Row) (row : Row) → WriteRow s p row → IsPresentWriter s (row ∷ p)
 present_next s p row w n x con off begun phase served some = go w.nx.row_is
@@ -53,17 +51,13 @@ present_next s p row w n x con off begun phase served some = go w.nx.row_is
     ql = run_state_plain s (row ∷ p) w.nx.stood.standing.devices
 
     begin : (m : Connection) → Begins s k row m → writer_of (writers s (row ∷ p)) x.target x.unit ≡ Some x.id
-    begin m b = at m.reselected refl
+    begin m b =
+        by_bool m.reselected
+        (λ e. wrong' (sym (ap is_message phase) ∙ message_is (bus_of j) (b.names e)))
+        (λ e. wrong' (sym e ∙ sym (ap (λ (y : Exchange). y.begun) made) ∙ begun))
       where
-        f : IsFirstRow k row m
-        f = b.first
-
         made : j.exchange ≡ first_exchange s k m (aim_of k.story.aims m.initiator)
-        made = λ i. exchange_after s k row (row_reading k.story.bus_state row) (f.connection_is i) (f.next_is i) (leaving_of s k k.story.bus_state.connection)
-
-        at : (q : Bool) → m.reselected ≡ q → writer_of (writers s (row ∷ p)) x.target x.unit ≡ Some x.id
-        at false e = wrong' (sym e ∙ sym (ap (λ (y : Exchange). y.begun) made) ∙ begun)
-        at true e = wrong' (sym (ap is_message phase) ∙ message_is (bus_of j) (b.names e))
+        made = λ i. exchange_after s k row (row_reading k.story.bus_state row) (b.first.connection_is i) (b.first.next_is i) (leaving_of s k k.story.bus_state.connection)
 
     going : (m : Connection) (c : Change) → GoesOn s k row m c → writer_of (writers s (row ∷ p)) x.target x.unit ≡ Some x.id
     going m c g = by g.row_is.kind
@@ -162,7 +156,13 @@ byte_row s k row e (goes_on n c g) = by g.row_is.kind
 -- ---- whose bytes they are
 
 whose_next : (s : ScenarioValue) (p : List Row) (row : Row) → WriteRow s p row → ((t n : ℕ) (id : ProcId) → writer_of (writers s p) t n ≡ Some id → IsWriterOf s t n id) → (t n : ℕ) (id : ProcId) → writer_of (writers s (row ∷ p)) t n ≡ Some id → IsWriterOf s t n id
-whose_next s p row w h t n id e = go (row_reading k.story.bus_state row).crosses refl
+whose_next s p row w h t n id e =
+    by_bool (row_reading k.story.bus_state row).crosses
+    (λ f.
+    let b = byte_row s k row f w.nx.row_is in
+    adds b (is_data_out (phase_of b.change.before)) refl (process_served s k) refl
+    (ap (λ (all : List Writer). writer_of all t n) (sym (a_byte s p row b.n b.change (is_data_out (phase_of b.change.before)) b.goes.row_is b.reading refl)) ∙ e))
+    (λ f. h t n id (ap (λ (all : List Writer). writer_of all t n) (sym (no_byte s p row f)) ∙ e))
   where
     k : RunState
     k = run_state s p
@@ -189,17 +189,13 @@ whose_next s p row w h t n id e = go (row_reading k.story.bus_state row).crosses
               unit_is = eqb-true q.unit n both.1;
             }
 
-    go : (x : Bool) → (row_reading k.story.bus_state row).crosses ≡ x → IsWriterOf s t n id
-    go false f = h t n id (ap (λ (all : List Writer). writer_of all t n) (sym (no_byte s p row f)) ∙ e)
-    go true f =
-        let b = byte_row s k row f w.nx.row_is in
-        adds b (is_data_out (phase_of b.change.before)) refl (process_served s k) refl
-        (ap (λ (all : List Writer). writer_of all t n) (sym (a_byte s p row b.n b.change (is_data_out (phase_of b.change.before)) b.goes.row_is b.reading refl)) ∙ e)
-
 -- ---- under RST no process stands in a unit
 
 reset_next : (s : ScenarioValue) (p : List Row) (row : Row) → WriteRow s p row → ((bus p).rst ≡ true → AllUnits IsEmptyUnit (array_of s (run_state s p)).units) → (bus (row ∷ p)).rst ≡ true → AllUnits IsEmptyUnit (array_of s (run_state s (row ∷ p))).units
-reset_next s p row w h on = go (rises d.change.own.rst d.change.next.rst) refl
+reset_next s p row w h on =
+    by_bool (rises d.change.own.rst d.change.next.rst)
+    (λ e. subst (λ (l : List Event). AllUnits IsEmptyUnit (or_start s (array_after_events s k.array l)).units) (sym (shows true e)) (cleared k.array))
+    (λ e. subst (λ (l : List Event). AllUnits IsEmptyUnit (or_start s (array_after_events s k.array l)).units) (sym (shows false e)) (h (before e)))
   where
     k : RunState
     k = run_state s p
@@ -225,18 +221,13 @@ reset_next s p row w h on = go (rises d.change.own.rst d.change.next.rst) refl
         by (Some b) z = z
 
     before : rises d.change.own.rst d.change.next.rst ≡ false → (bus p).rst ≡ true
-    before e = by (bus p).rst refl
-      where
-        by : (q : Bool) → (bus p).rst ≡ q → (bus p).rst ≡ true
-        by true f = f
-        by false f = wrong (sym (rst_raised p row w.inside f on) ∙ sym (ap (λ (c : Change). rises c.own.rst c.next.rst) same) ∙ e)
+    before e =
+        by_bool (bus p).rst
+        (λ f. f)
+        (λ f. wrong (sym (rst_raised p row w.inside f on) ∙ sym (ap (λ (c : Change). rises c.own.rst c.next.rst) same) ∙ e))
 
     shows : (x : Bool) → rises d.change.own.rst d.change.next.rst ≡ x → shown ≡ (if x then Event.Reset row.dev ∷ [] else [])
     shows x e = (λ i. if after i then (if rises d.change.own.rst d.change.next.rst then Event.Reset row.dev ∷ [] else []) else link_events s k.story k.story.link d) ∙ (λ i. if e i then Event.Reset row.dev ∷ [] else [])
-
-    go : (x : Bool) → rises d.change.own.rst d.change.next.rst ≡ x → AllUnits IsEmptyUnit (or_start s (array_after_events s k.array shown)).units
-    go true e = subst (λ (l : List Event). AllUnits IsEmptyUnit (or_start s (array_after_events s k.array l)).units) (sym (shows true e)) (cleared k.array)
-    go false e = subst (λ (l : List Event). AllUnits IsEmptyUnit (or_start s (array_after_events s k.array l)).units) (sym (shows false e)) (h (before e))
 
 -- ---- the units
 
@@ -283,11 +274,10 @@ units_next s p row w items (inr off) = go w.nx.row_is
 -- ---- before the target knows the command
 
 pub known_before : (w : Hearing) (p : Plan) (i : Instructions) → (instructions_on w p i).known ≡ false → i.known ≡ false
-known_before w p i e = go i.known refl
-  where
-    go : (q : Bool) → i.known ≡ q → i.known ≡ false
-    go false f = f
-    go true f = wrong (sym (ap (λ (x : Bool). (if x then i else instructions_with w p i).known) f ∙ f) ∙ e)
+known_before w p i e =
+    by_bool i.known
+    (λ f. wrong (sym (ap (λ (x : Bool). (if x then i else instructions_with w p i).known) f ∙ f) ∙ e))
+    (λ f. f)
 
 unrun_next : (s : ScenarioValue) (p : List Row) (row : Row) → Obeys s → IsPrompt s (row ∷ p) → WriteRow s p row → ItemFacts s p → IsUnrunServed s (row ∷ p)
 unrun_next s p row o prompt w items n x con off unknown served = go w.nx.row_is
@@ -298,17 +288,19 @@ unrun_next s p row o prompt w items n x con off unknown served = go w.nx.row_is
     j : RunState
     j = run_state s (row ∷ p)
 
-    pl : IsPlain s p k
-    pl = run_state_plain s p w.was.standing.devices
-
     ql : IsPlain s (row ∷ p) j
     ql = run_state_plain s (row ∷ p) w.nx.stood.standing.devices
 
-    runs : List ProcessProgress → ℕ
-    runs m = (progress_in m x.id).runs
-
     begin : (m : Connection) → m ≡ n → Begins s k row m → (progress_in j.progress x.id).runs ≡ 0
-    begin m same b = at m.reselected refl
+    begin m same b =
+        by_bool m.reselected
+        (λ e. wrong (sym (told ∙ e) ∙ unknown))
+        (λ e.
+        let fresh : IsFresh k m = items_fresh s p row m o prompt w.was items (sym w.was.plain.connection ∙ f.connection_is) (con ∙ ap (λ (y : Connection). Some y) (sym same)) e in
+        let item : fresh.item ≡ process x.id =
+        same_Some fresh.item (process x.id) (sym (serves ∙ ap (λ (q : Bool). if q then item_if (ready_of s k m.target) else aim_of k.story.aims m.initiator) e ∙ fresh.aim_is) ∙ (served_id s j.served x served).0) in
+        ap (λ (l : List ProcessProgress). (progress_in l x.id).runs) (progress_apart s k row f.connection_is)
+        ∙ ap (λ (y : ProcessProgress). y.runs) (items.items.progress x.id (ap (has_item k.story.sent.sent) (sym item) ∙ fresh.unsent)))
       where
         f : IsFirstRow k row m
         f = b.first
@@ -318,15 +310,6 @@ unrun_next s p row o prompt w items n x con off unknown served = go w.nx.row_is
 
         serves : j.served ≡ (if m.reselected then item_if (ready_of s k m.target) else aim_of k.story.aims m.initiator)
         serves = λ i. served_after s k (f.connection_is i) (f.next_is i)
-
-        at : (q : Bool) → m.reselected ≡ q → (progress_in j.progress x.id).runs ≡ 0
-        at true e = wrong (sym (told ∙ e) ∙ unknown)
-        at false e =
-            let fresh : IsFresh k m = items_fresh s p row m o prompt w.was items (sym pl.connection ∙ f.connection_is) (con ∙ ap (λ (y : Connection). Some y) (sym same)) e in
-            let item : fresh.item ≡ process x.id =
-            same_Some fresh.item (process x.id) (sym (serves ∙ ap (λ (q : Bool). if q then item_if (ready_of s k m.target) else aim_of k.story.aims m.initiator) e ∙ fresh.aim_is) ∙ (served_id s j.served x served).0) in
-            ap (λ (l : List ProcessProgress). (progress_in l x.id).runs) (progress_apart s k row f.connection_is)
-            ∙ ap (λ (y : ProcessProgress). y.runs) (items.items.progress x.id (ap (has_item k.story.sent.sent) (sym item) ∙ fresh.unsent))
 
     going : (m : Connection) (c : Change) → m ≡ n → GoesOn s k row m c → (progress_in j.progress x.id).runs ≡ 0
     going m c same g = runs_stay s k row m c g (λ b f. known_in (stage b Phase.DataIn f)) (λ b f. known_in (stage b Phase.DataOut f)) x.id ∙ w.unrun m x ar.before ar.calm before served'
@@ -347,11 +330,7 @@ unrun_next s p row o prompt w items n x con off unknown served = go w.nx.row_is
         known_in e = wrong (sym e ∙ before)
 
         selected : m.reselected ≡ false
-        selected = at m.reselected refl
-          where
-            at : (q : Bool) → m.reselected ≡ q → m.reselected ≡ false
-            at false e = e
-            at true e = absurd (known_in (told.again e).0)
+        selected = by_bool m.reselected (λ e. absurd (known_in (told.again e).0)) (λ e. e)
 
         stage : k.exchange.begun ≡ true → (phase : Phase) → phase_of (bus_of k) ≡ phase → KnownIn (instructions s p).known k.exchange.plan phase
         stage b phase e = subst (λ (y : Phase). KnownIn (instructions s p).known k.exchange.plan y) e ((told.selected selected).stage b)

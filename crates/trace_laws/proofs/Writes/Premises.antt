@@ -6,13 +6,12 @@ use proofs.Names.{Some, None, refl, sym, ap, subst, arith, nat_tests, ◌-◌, i
 use proofs.Names.{wrong', eq_self, zero_of, change_of, LineSet, changes_phase, is_data, connection, bus, Row}
 use proofs.Names.{Connection, command_of, unit_of, ScenarioValue, Obeys, Policy, UnitDef, array_after, count_in}
 use proofs.Names.{range_in, Process, UnitState, guest_at, unit_state_at, policy_of, run_at, run_in, run_length, begun}
-use proofs.Names.{phase_of, run_length_if, Phase, Task, run_state_plain, target_def_of, progress_in, IsPrompt}
-use proofs.Names.{AreOfDevices, IsPlain, RunState, array_of, or_start, bus_of, carried_here, process_served, run_state}
-use proofs.Names.{is_writing, reply_now, size_of, task_if, task_of, task_with, block_size, is_data_out, AreOfLines}
-use proofs.Names.{IsOfLine, process_own, DataFacts, IsAtRest, IsOutside, PlaceFacts, PlacedIf, RunsOpen, ResetFacts}
-use proofs.{Names.{IsAnsweredWhole, WritesAsked}, Events.Arriving.{no_guest}, Heard.Places.{places_heard}}
-use proofs.{Lines.{Joint.{Stood}, Plans.{is_directed, writes_of}}, Runs.{Asks.{answers_all}, Facts.{write_no_sense}}}
-use proofs.Runs.Fits.{FitsRuns, blocks_named, fits_runs, lines_now}
+use proofs.Names.{phase_of, run_length_if, Phase, Task, target_def_of, progress_in, IsPrompt, RunState, array_of}
+use proofs.Names.{or_start, bus_of, carried_here, process_served, run_state, is_writing, reply_now, size_of, task_if}
+use proofs.Names.{task_of, task_with, block_size, is_data_out, AreOfLines, IsOfLine, process_own, by_bool, zero_times}
+use proofs.Names.{no_guest, Stood, is_directed, writes_of, IsAtRest, IsOutside, PlaceFacts, PlacedIf, RunsOpen}
+use proofs.{Names.{IsAnsweredWhole, WritesAsked, DataFacts, ResetFacts}, Heard.Places.{places_heard}}
+use proofs.Runs.{Asks.{answers_all}, Facts.{write_no_sense}, Fits.{FitsRuns, blocks_named, fits_runs, lines_now}}
 
 -- ---- the size of a block
 
@@ -47,21 +46,17 @@ none_left a b e h = absurd omega (arith, e, h)
 
 -- A run with a byte moves some.
 pub moves_some : (policy : Policy) (t : Task) → 1 ≤ run_length policy t → (t.moved == 0) ≡ false
-moves_some policy t h = go (t.moved == 0) refl
-  where
-    go : (q : Bool) → (t.moved == 0) ≡ q → (t.moved == 0) ≡ false
-    go false e = e
-    go true e =
-        let none : (run_at policy t t.runs).end ≡ 0 = (λ i. (run_in policy t.blocks t.size (zero_of t.moved e i) t.runs).end) ∙ end_none policy t.blocks t.size t.runs in
-        absurd (none_left (run_at policy t t.runs).end (run_at policy t t.runs).start none h)
+moves_some policy t h =
+    by_bool (t.moved == 0)
+    (λ e.
+    let none : (run_at policy t t.runs).end ≡ 0 = (λ i. (run_in policy t.blocks t.size (zero_of t.moved e i) t.runs).end) ∙ end_none policy t.blocks t.size t.runs in
+    absurd (none_left (run_at policy t t.runs).end (run_at policy t t.runs).start none h))
+    (λ e. e)
 
 -- ---- a process that writes
 
 zero_size : (n moved size : ℕ) → size ≡ 0 → moved ≡ n * size → moved ≡ 0
-zero_size n moved size z e = e ∙ ap (λ (x : ℕ). n * x) z ∙ none n
-  where
-    none : (m : ℕ) → m * 0 ≡ 0
-    none m = omega arith
+zero_size n moved size z e = e ∙ ap (λ (x : ℕ). n * x) z ∙ zero_times n
 
 at_least : (a b : ℕ) → a ≡ b → nat_le b a ≡ true
 at_least a b e = grind (arith, nat_tests, e)
@@ -73,7 +68,7 @@ some_there n h = grind (arith, nat_tests, h)
 
 pub write_premises : (s : ScenarioValue) (p : List Row) (row : Row) → Obeys s → IsPrompt s (row ∷ p) → Stood s p → PlaceFacts s p → DataFacts s p → ResetFacts s p → WritesAsked s p row
 write_premises s p row o prompt was h facts resets = record {
-  placed = places_heard s p dv h;
+  placed = places_heard s p was.standing.devices h;
   guests = λ n q con calm b phase served. no_guest_here n q con calm b phase served;
   resets = resets.reads;
   sizes = λ q served. ap (λ (x : ℕ). x == block_size (unit_of s q.target q.unit)) (size_line (unit_of s q.target q.unit) (unit_state_at (array_of s k).units q.target q.unit) (lines q.target q.unit)) ∙ eq_self (block_size (unit_of s q.target q.unit));
@@ -83,14 +78,8 @@ write_premises s p row o prompt was h facts resets = record {
     k : RunState
     k = run_state s p
 
-    dv : AreOfDevices p
-    dv = was.standing.devices
-
-    pl : IsPlain s p k
-    pl = run_state_plain s p dv
-
     plays : k.array ≡ array_after s k.story.history
-    plays = pl.array ∙ (λ i. array_after s (sym pl.story i).history)
+    plays = was.plain.array ∙ (λ i. array_after s (sym was.plain.story i).history)
 
     lines : AreOfLines s (array_of s k)
     lines = lines_now s k.story.history k.array (sym plays)
@@ -119,7 +108,7 @@ write_premises s p row o prompt was h facts resets = record {
 
     counted : (n : Connection) (t : Task) → connection p ≡ Some n → (bus p).rst ≡ false → k.exchange.begun ≡ true → phase_of (bus_of k) ≡ Phase.DataOut → task_of s k ≡ Some t → 1 ≤ run_length (policy_of (target_def_of s n.target)) t
     counted n t con calm b phase task =
-        subst (λ (x : ℕ). 1 ≤ x) (ap (run_length_if (policy_of (target_def_of s n.target))) task) (facts.counts.counts n con calm (sym pl.begun ∙ b) (ap phase_of (sym pl.bus) ∙ phase)).some
+        subst (λ (x : ℕ). 1 ≤ x) (ap (run_length_if (policy_of (target_def_of s n.target))) task) (facts.counts.counts n con calm (sym was.plain.begun ∙ b) (ap phase_of (sym was.plain.bus) ∙ phase)).some
 
     no_guest_here : (n : Connection) (q : Process) → connection p ≡ Some n → (bus p).rst ≡ false → k.exchange.begun ≡ true → phase_of (bus_of k) ≡ Phase.DataOut → process_served s k ≡ Some q → guest_at (array_of s k).guests q.id ≡ None
     no_guest_here n q con calm b phase served = (λ i. guest_at (or_start s (h.array_is i)).guests q.id) ∙ go runs.runs.kind
@@ -127,7 +116,7 @@ write_premises s p row o prompt was h facts resets = record {
         placed : PlacedIf true h.array q k.exchange.plan k.handshakes (bus_of k).atn Phase.DataOut
         placed =
             subst (λ (x : Phase). PlacedIf true h.array q k.exchange.plan k.handshakes (bus_of k).atn x) phase
-            (subst (λ (x : Bool). PlacedIf x h.array q k.exchange.plan k.handshakes (bus_of k).atn (phase_of (bus_of k))) b (h.placed n (pl.connection ∙ con) (ap (λ (l : LineSet). l.rst) pl.bus ∙ calm) q served))
+            (subst (λ (x : Bool). PlacedIf x h.array q k.exchange.plan k.handshakes (bus_of k).atn (phase_of (bus_of k))) b (h.placed n (was.plain.connection ∙ con) (ap (λ (l : LineSet). l.rst) was.plain.bus ∙ calm) q served))
 
         runs : RunsOpen h.array q
         runs = placed
@@ -157,11 +146,11 @@ write_premises s p row o prompt was h facts resets = record {
 
     whole : (n : Connection) (q : Process) (t : Task) → connection p ≡ Some n → (bus p).rst ≡ false → (bus (row ∷ p)).rst ≡ false → connection (row ∷ p) ≡ Some n → begun p ≡ true → changes_phase (change_of p row) ≡ true → phase_of (bus_of k) ≡ Phase.DataOut → process_served s k ≡ Some q → task_of s k ≡ Some t → IsAnsweredWhole s k q t
     whole n q t con calm off after b ep phase served task =
-        let kb : k.exchange.begun ≡ true = pl.begun ∙ b in
+        let kb : k.exchange.begun ≡ true = was.plain.begun ∙ b in
         let w : is_writing q ≡ true = writes n q con calm kb phase served in
         let some : 1 ≤ run_length (policy_of (target_def_of s n.target)) t = counted n t con calm kb phase task in
         let all : k.handshakes.answers ≡ run_length (policy_of (target_def_of s n.target)) t = answers_all s p row n o prompt was facts.counts con calm off after b ep q t served task phase in
-        let target : q.target ≡ n.target = (facts.runs.served n q (pl.connection ∙ con) (ap (λ (l : LineSet). l.rst) pl.bus ∙ calm) served w).target_is in
+        let target : q.target ≡ n.target = (facts.runs.served n q (was.plain.connection ∙ con) (ap (λ (l : LineSet). l.rst) was.plain.bus ∙ calm) served w).target_is in
         record {
           whole = at_least k.handshakes.answers (run_length (policy_of (target_def_of s q.target)) t) (all ∙ ap (λ (x : ℕ). run_length (policy_of (target_def_of s x)) t) (sym target));
           some = some_there k.handshakes.answers (subst (λ (x : ℕ). 1 ≤ x) (sym all) some);

@@ -6,19 +6,17 @@ use proofs.Names.{wrong', ProcId, change_of, LineSet, changes_phase, is_data, co
 use proofs.Names.{Connection, has_group_len, ScenarioValue, reply_in, Process, process_of, HasSeats, is_waiting}
 use proofs.Names.{running_in, running_process, RunningProcess, Array, guest_at, RowReading, row_reading, CarriedBytes}
 use proofs.Names.{carried_if, Item, process, abort, Link, phase_of, phase_leaving, phase_entry, Leaving, Phase}
-use proofs.Names.{run_state_plain, ProcessProgress, progress_in, progress_with, IsPlain, RunState, array_of, bus_of}
+use proofs.Names.{run_state_plain, ProcessProgress, progress_in, progress_with, RunState, array_of, bus_of}
 use proofs.Names.{process_served, process_item, carried_here, run_state, run_state_after, progress_by_leaving, leaving}
 use proofs.Names.{serving_of, is_writing, instructions, is_new, is_opening, is_opening_in, is_command_phase, moves_data}
 use proofs.Names.{Writer, writers, writers_with, is_data_out, is_data_in, process_id, in_connection, reading_is, Knows}
-use proofs.Names.{RowKind, still, strikes, crosses, turns, GoesOn, change_plain, CommandBooks, CommandFacts, StandsIn}
-use proofs.Names.{TakesBlock, InstructedFacts, KnownIn, AllUnits, IsWrittenUnit, IsPresentWriter, IsUnrunServed}
-use proofs.{Names.{WritesAsked, IsAnsweredWhole}, Commands.Facts.{served_process, same_process}}
-use proofs.{Common.{Impossible.{none_some}, PhaseLines.{command_phase}}, Events.{Units.{MayWait}, Writers.{may_wait}}}
-use proofs.{Events.Writers.{moved_units, same_units}, Items.Sent.{carried_of_item}, Lines.Called.{own_units}}
-use proofs.{Lines.{Joint.{Stood, NextStood}, Plans.{Planned, is_directed, writes_of}}, Pointers.Rows.{phase_by}}
-use proofs.Runs.{Done.{DoneOut, out_done, done_in_data, same_runs, counted_runs}, Rows.{served_id}}
-use proofs.Writes.{Arrivals.{ArrivesNow}, Turns.{RunsThere, runs_there, stands_there, no_byte, a_byte, same_progress}}
-use proofs.Writes.Turns.{progress_turns, byte_moves, run_moves}
+use proofs.Names.{RowKind, still, strikes, crosses, turns, GoesOn, change_plain, none_some, command_phase, by_bool}
+use proofs.Names.{MayWait, may_wait, moved_units, same_units, own_units, Stood, NextStood, Planned, is_directed}
+use proofs.Names.{writes_of, AllUnits, IsWrittenUnit, IsPresentWriter, IsUnrunServed, WritesAsked, IsAnsweredWhole}
+use proofs.Names.{served_process, same_process, carried_of_item, phase_by, CommandBooks, CommandFacts, StandsIn}
+use proofs.{Names.{TakesBlock, InstructedFacts, KnownIn}, Runs.Done.{DoneOut, out_done, done_in_data, same_runs}}
+use proofs.{Runs.{Done.{counted_runs}, Rows.{served_id}}, Writes.{Arrivals.{ArrivesNow}, Turns.{RunsThere, runs_there}}}
+use proofs.Writes.Turns.{stands_there, no_byte, a_byte, same_progress, progress_turns, byte_moves, run_moves}
 
 -- ---- phases
 
@@ -69,7 +67,7 @@ pub record Around (s : ScenarioValue) (p : List Row) (row : Row) (n : Connection
 pub around : (s : ScenarioValue) (p : List Row) (row : Row) (n : Connection) (c : Change) → WriteRow s p row → GoesOn s (run_state s p) row n c → Around s p row n c
 around s p row n c w g =
     let k = run_state s p in
-    let pl = run_state_plain s p w.was.standing.devices in
+    let pl = w.was.plain in
     let ql = run_state_plain s (row ∷ p) w.nx.stood.standing.devices in
     let i = in_connection s k row n c (changes_phase c) (is_some (receiver_in n c)) _ g.row_is refl refl refl in
     let calm : (bus_of k).rst ≡ false = g.calm in
@@ -98,7 +96,10 @@ runs_kept made (Some q) true k l e f id =
 
 -- Where the phase is none of data.
 pub not_done : (s : ScenarioValue) (k : RunState) (n : Connection) → (phase_of (bus_of k) ≡ Phase.DataIn → ⊥) → (phase_of (bus_of k) ≡ Phase.DataOut → ⊥) → k.exchange.begun ≡ true → (leaving s k n.target).done ≡ false
-not_done s k n fi fo b = go (leaving s k n.target).done refl
+not_done s k n fi fo b =
+    by_bool (leaving s k n.target).done
+    (λ e. absurd (never (done_in_data (serving_of s k n.target) (bus_of k).atn (phase_of (bus_of k)) (sym (ap (λ (l : Leaving). l.done) left) ∙ e))))
+    (λ e. e)
   where
     left : leaving s k n.target ≡ phase_leaving (serving_of s k n.target) (bus_of k).atn (phase_of (bus_of k))
     left = λ i. if b i then phase_leaving (serving_of s k n.target) (bus_of k).atn (phase_of (bus_of k)) else phase_entry Phase.MessageOut
@@ -106,10 +107,6 @@ not_done s k n fi fo b = go (leaving s k n.target).done refl
     never : (phase_of (bus_of k) ≡ Phase.DataIn) ⊎ (phase_of (bus_of k) ≡ Phase.DataOut) → ⊥
     never (inl e) = fi e
     never (inr e) = fo e
-
-    go : (q : Bool) → (leaving s k n.target).done ≡ q → (leaving s k n.target).done ≡ false
-    go false e = e
-    go true e = absurd (never (done_in_data (serving_of s k n.target) (bus_of k).atn (phase_of (bus_of k)) (sym (ap (λ (l : Leaving). l.done) left) ∙ e)))
 
 -- The runs that are counted stay, but as a phase of data is left.
 pub runs_stay : (s : ScenarioValue) (k : RunState) (row : Row) (n : Connection) (c : Change) → GoesOn s k row n c → (k.exchange.begun ≡ true → phase_of (bus_of k) ≡ Phase.DataIn → ⊥) → (k.exchange.begun ≡ true → phase_of (bus_of k) ≡ Phase.DataOut → ⊥) → (id : ProcId) → (progress_in (run_state_after s k row).progress id).runs ≡ (progress_in k.progress id).runs
@@ -143,9 +140,6 @@ done_units s p row n c q w g ep b served x e = go x e
     ar : Around s p row n c
     ar = around s p row n c w g
 
-    pl : IsPlain s p k
-    pl = run_state_plain s p w.was.standing.devices
-
     own : process_of s q.id ≡ Some q
     own = (served_id s k.served q served).1
 
@@ -170,7 +164,7 @@ done_units s p row n c q w g ep b served x e = go x e
         by (inr phase) =
             let v = serving_of s k n.target in
             let d : DoneOut v = out_done v (sym (ap (λ (y : Leaving). y.done) (left ∙ ap (phase_leaving v (bus_of k).atn) phase)) ∙ f) in
-            let whole : IsAnsweredWhole s k q d.task = w.asked.answered n q d.task ar.before ar.calm ar.off ar.after (sym pl.begun ∙ b) (ar.turned ∙ ep) phase d.struck served d.task_is in
+            let whole : IsAnsweredWhole s k q d.task = w.asked.answered n q d.task ar.before ar.calm ar.off ar.after (sym w.was.plain.begun ∙ b) (ar.turned ∙ ep) phase d.struck served d.task_is in
             let there = runs_out s p row n q w ar.before ar.calm b phase served in
             moved_units s k.progress (progress_with k.progress q.id true l.counts) (writers s p) (writers s p) q (array_of s k).units own
             (run_moves k.progress (writers s p) q l.counts (w.present n q ar.before ar.calm b phase served whole.some))
@@ -228,9 +222,6 @@ arrival_waits s p row n c w g l x a = may_wait s (run_state s (row ∷ p)).progr
     k : RunState
     k = run_state s p
 
-    pl : IsPlain s p k
-    pl = run_state_plain s p w.was.standing.devices
-
     ar : Around s p row n c
     ar = around s p row n c w g
 
@@ -260,13 +251,12 @@ arrival_waits s p row n c w g l x a = may_wait s (run_state s (row ∷ p)).progr
     books = w.commands.books n ar.before ar.calm
 
     b : k.exchange.begun ≡ true
-    b = go k.exchange.begun refl
-      where
-        go : (q : Bool) → k.exchange.begun ≡ q → k.exchange.begun ≡ true
-        go true e = e
-        go false e =
-            let none = (books.unbegun e).block x.id served in
-            wrong' (sym (λ i. not (length ((ap (λ (y : CarriedBytes). y.block) (sym carried) ∙ none) i) == 0) && has_group_len x.block && not x.struck) ∙ a.whole)
+    b =
+        by_bool k.exchange.begun
+        (λ e. e)
+        (λ e.
+        let none = (books.unbegun e).block x.id served in
+        wrong' (sym (λ i. not (length ((ap (λ (y : CarriedBytes). y.block) (sym carried) ∙ none) i) == 0) && has_group_len x.block && not x.struck) ∙ a.whole))
 
     takes : TakesBlock s k n
     takes = subst (λ (y : Phase). StandsIn s k n y) phase (books.begun b)

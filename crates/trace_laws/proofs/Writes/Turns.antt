@@ -1,13 +1,13 @@
 -- A row of a prompt trace: what it makes of the runs that are counted, and of the writers of the units.
 use Rattle.trace_laws.proofs
 use proofs.Names.{ℕ, ◌≡◌, Bool, true, false, not, ◌&&◌, ◌==◌, ◌∙◌, List, ◌∷◌, Option, Some, None, refl, sym, subst}
-use proofs.Names.{if◌then◌else◌, is_some, is_none, wrong', eq_self, changes_phase, Row, Change, Connection}
+use proofs.Names.{if◌then◌else◌, is_some, is_none, wrong', eq_self, is_nothing, changes_phase, Row, Change, Connection}
 use proofs.Names.{ScenarioValue, history_sound, Process, process_of, HasSeats, AllOwnUnits, AreApart, running_in}
 use proofs.Names.{running_process, RunningProcess, Array, guest_at, RowReading, row_reading, trace_history, phase_of}
 use proofs.Names.{Leaving, run_state_plain, ProcessProgress, progress_with, AreOfDevices, RunState, array_of, or_start}
 use proofs.Names.{process_served, run_state, run_state_after, progress_after, progress_by_leaving, leaving_of, leaving}
-use proofs.Names.{is_unanswered, Writer, writer_of, writers, writers_with, is_data_out, IsRowIn, reading_in, AllUnits}
-use proofs.{Events.Writers.{Moves, Stands, stands_each}, Runs.Done.{counted_runs}}
+use proofs.Names.{is_unanswered, Writer, writer_of, writers, writers_with, is_data_out, IsRowIn, reading_in, by_option}
+use proofs.{Names.{Moves, Stands, stands_each, AllUnits}, Runs.Done.{counted_runs}}
 
 -- ---- the writers
 
@@ -78,11 +78,10 @@ progress_turns s k row n c r e d =
 -- ---- the process that runs in its unit
 
 start_apart : (s : ScenarioValue) (p : List Row) → HasSeats s → AreOfDevices p → AreApart (array_of s (run_state s p)).units
-start_apart s p seats dv = go (run_state s p).array refl
-  where
-    go : (o : Option Array) → (run_state s p).array ≡ o → AreApart (array_of s (run_state s p)).units
-    go None e = subst (λ (o : Option Array). AreApart (or_start s o).units) (sym e) seats.apart
-    go (Some a) e = subst (λ (o : Option Array). AreApart (or_start s o).units) (sym e) (history_sound s (trace_history s p) a seats (sym (run_state_plain s p dv).array ∙ e)).apart
+start_apart s p seats dv =
+    by_option (run_state s p).array
+    (λ e. subst (λ (o : Option Array). AreApart (or_start s o).units) (sym e) seats.apart)
+    (λ a e. subst (λ (o : Option Array). AreApart (or_start s o).units) (sym e) (history_sound s (trace_history s p) a seats (sym (run_state_plain s p dv).array ∙ e)).apart)
 
 -- It has no reply, and is no guest.
 pub record RunsThere (a : Array) (p : Process) : Type 0 where
@@ -94,11 +93,7 @@ pub runs_there : (a : Array) (p : Process) → is_unanswered (running_process a 
 runs_there a p e none = go (running_in a.units p.id) refl (sym (λ i. is_unanswered (if is_some (none i) then none i else running_in a.units p.id)) ∙ e)
   where
     free : (r : RunningProcess) → is_none r.reply ≡ true → r.reply ≡ None
-    free r z = by r.reply z
-      where
-        by : {T : Type 0} (o : Option T) → is_none o ≡ true → o ≡ None
-        by None f = refl
-        by (Some x) f = wrong' f
+    free r z = is_nothing r.reply z
 
     go : (o : Option RunningProcess) → running_in a.units p.id ≡ o → is_unanswered o ≡ true → RunsThere a p
     go None f z = wrong' z

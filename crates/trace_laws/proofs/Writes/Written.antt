@@ -10,14 +10,12 @@ use proofs.Names.{progress_in, IsPrompt, IsPlain, RunState, array_of, bus_of, pr
 use proofs.Names.{hearing_of, leaving, serving_of, is_writing, moved_count, reply_now, task_of, task_if, Writer}
 use proofs.Names.{writer_of, writers, is_data_out, brings_byte, is_writer, is_next_byte, is_written_byte, is_whole_run}
 use proofs.Names.{is_written_run, ends_run, is_written_in, is_written_on, is_written, written, is_data_in}
-use proofs.Names.{in_connection, reading_is, self_id, id_is, Begins, Ends, GoesOn, RowOf, row_apart as apart, begins}
-use proofs.Names.{goes_on, row_ends as ends, under_reset, change_plain, CommandFacts, InstructedFacts, IsWriterOf}
-use proofs.{Names.{IsAnsweredWhole, WriteFacts, WritesAsked}, Common.Impossible.{none_some}}
-use proofs.{Events.Writers.{last_writer}, Lines.{Called.{own_units}, Connections.{ConnectionRow, connection_row}}}
-use proofs.Lines.{Crossings.{RowFacts, stays, ends_here}, Joint.{Stood, NextStood}, Plans.{Planned, is_directed}}
-use proofs.{Lines.{Plans.{writes_of, writes_there}, UnderRst.{none_raised}}, Runs.Done.{DoneOut, out_done}}
-use proofs.{Runs.{Done.{done_in_data, done_goes}, Rows.{served_id}}, Writes.{Facts.{write_row}, Rows.{WriteRow}}}
-use proofs.Writes.Rows.{Around, around, out_is, runs_out, in_lines}
+use proofs.Names.{in_connection, reading_is, self_id, id_is, Begins, Ends, GoesOn, RowOf, apart, begins, goes_on, ends}
+use proofs.Names.{under_reset, change_plain, none_some, by_bool, last_writer, own_units, ConnectionRow, connection_row}
+use proofs.Names.{RowFacts, stays, ends_here, Stood, NextStood, Planned, is_directed, writes_of, writes_there}
+use proofs.Names.{none_raised, IsWriterOf, IsAnsweredWhole, WriteFacts, WritesAsked, CommandFacts, InstructedFacts}
+use proofs.{Runs.{Done.{DoneOut, out_done, done_in_data, done_goes}, Rows.{served_id}}, Writes.Facts.{write_row}}
+use proofs.Writes.Rows.{WriteRow, Around, around, out_is, runs_out, in_lines}
 
 -- ---- a byte of DATA OUT crosses
 
@@ -89,14 +87,13 @@ reads_other s p q whose own reads = go (writer_of (writers s p) q.target q.unit)
   where
     go : (o : Option ProcId) → writer_of (writers s p) q.target q.unit ≡ o → not (is_writer o q.id) ≡ true
     go None e = refl
-    go (Some id) e = at (same_id id q.id) refl
-      where
-        at : (x : Bool) → same_id id q.id ≡ x → not (same_id id q.id) ≡ true
-        at false f = ap not f
-        at true f =
-            let z = whose q.target q.unit id e in
-            let same : z.process ≡ q = same_Some z.process q (sym z.process_is ∙ ap (process_of s) (id_is id q.id f) ∙ own) in
-            wrong (sym z.writes ∙ ap is_writing same ∙ reads)
+    go (Some id) e =
+        by_bool (same_id id q.id)
+        (λ f.
+        let z = whose q.target q.unit id e in
+        let same : z.process ≡ q = same_Some z.process q (sym z.process_is ∙ ap (process_of s) (id_is id q.id f) ∙ own) in
+        wrong (sym z.writes ∙ ap is_writing same ∙ reads))
+        (λ f. ap not f)
 
 done_run : (s : ScenarioValue) (p : List Row) (row : Row) (n : Connection) (c : Change) (q : Process) → WriteRow s p row → ((t u : ℕ) (id : ProcId) → writer_of (writers s p) t u ≡ Some id → IsWriterOf s t u id) → GoesOn s (run_state s p) row n c → changes_phase c ≡ true → (run_state s p).exchange.begun ≡ true → (leaving s (run_state s p) n.target).done ≡ true → process_served s (run_state s p) ≡ Some q → is_written_run s (run_state s p) (writers s p) (Some q) (phase_of (bus_of (run_state s p))) ≡ true
 done_run s p row n c q w whose g ep b done served = by (done_in_data v (bus_of k).atn (phase_of (bus_of k)) (sym (ap (λ (l : Leaving). l.done) left) ∙ done))
@@ -110,9 +107,6 @@ done_run s p row n c q w whose g ep b done served = by (done_in_data v (bus_of k
     ar : Around s p row n c
     ar = around s p row n c w g
 
-    pl : IsPlain s p k
-    pl = run_state_plain s p w.was.standing.devices
-
     pd : Planned s k
     pd = w.was.planned n ar.before ar.calm
 
@@ -125,21 +119,20 @@ done_run s p row n c q w whose g ep b done served = by (done_in_data v (bus_of k
     whole : phase_of (bus_of k) ≡ Phase.DataOut → is_whole_run s k q (task_of s k) ≡ true
     whole phase =
         let d : DoneOut v = out_done v (sym (ap (λ (y : Leaving). y.done) (left ∙ ap (phase_leaving v (bus_of k).atn) phase)) ∙ done) in
-        let a : IsAnsweredWhole s k q d.task = w.asked.answered n q d.task ar.before ar.calm ar.off ar.after (sym pl.begun ∙ b) (ar.turned ∙ ep) phase d.struck served d.task_is in
+        let a : IsAnsweredWhole s k q d.task = w.asked.answered n q d.task ar.before ar.calm ar.off ar.after (sym w.was.plain.begun ∙ b) (ar.turned ∙ ep) phase d.struck served d.task_is in
         let is = task_moves s k q d.task served d.task_is in
         let all : d.task.moved ≡ length q.sent = is ∙ moved_all q (reply_now (array_of s k) q) (writes_there s k q pd b served phase) (ap (λ (x : ℕ). x == 0) (sym is) ∙ a.moves) in
         ap (is_whole_run s k q) d.task_is
         ∙ and_from _ _ (and_from _ _ (and_from _ _ (ap not g.calm) (w.asked.sizes q served)) (eq-eqb d.task.moved (length q.sent) all)) a.whole
 
     reads : phase_of (bus_of k) ≡ Phase.DataIn → is_writing q ≡ false
-    reads phase = at (is_writing q) refl
+    reads phase =
+        by_bool (is_writing q)
+        (λ e. wrong' (sym (λ i. not (e i)) ∙ sym (λ i. is_directed (lines.1 i) (writes_of (served i))) ∙ pd.serves b lines.0))
+        (λ e. e)
       where
         lines : (is_data (bus_of k) ≡ true) × ((bus_of k).io ≡ true)
         lines = in_lines (bus_of k) (ap is_data_in phase)
-
-        at : (x : Bool) → is_writing q ≡ x → is_writing q ≡ false
-        at false e = e
-        at true e = wrong' (sym (λ i. not (e i)) ∙ sym (λ i. is_directed (lines.1 i) (writes_of (served i))) ∙ pd.serves b lines.0)
 
     by : (phase_of (bus_of k) ≡ Phase.DataIn) ⊎ (phase_of (bus_of k) ≡ Phase.DataOut) → is_written_run s k (writers s p) (Some q) (phase_of (bus_of k)) ≡ true
     by (inl phase) = ap (is_written_run s k (writers s p) (Some q)) phase ∙ reads_other s p q whose own (reads phase)
@@ -203,17 +196,14 @@ ending s p row n o prompt w off g = ends_in s k row (writers s p) g.carries_none
     d : RowReading
     d = row_reading k.story.bus_state row
 
-    pl : IsPlain s p k
-    pl = run_state_plain s p w.was.standing.devices
-
     ql : IsPlain s (row ∷ p) (run_state s (row ∷ p))
     ql = run_state_plain s (row ∷ p) w.nx.stood.standing.devices
 
     con : connection p ≡ Some n
-    con = sym pl.connection ∙ g.connection_is
+    con = sym w.was.plain.connection ∙ g.connection_is
 
     r : ConnectionRow s p row n
-    r = connection_row s p row n o prompt w.was con (ap (λ (l : LineSet). l.rst) (sym pl.bus) ∙ g.calm) off
+    r = connection_row s p row n o prompt w.was con (ap (λ (l : LineSet). l.rst) (sym w.was.plain.bus) ∙ g.calm) off
 
     next : connection (row ∷ p) ≡ None
     next = sym ql.connection ∙ g.next_is
@@ -251,30 +241,26 @@ under s p row n w h here on quiet = ends_in s k row (writers s p) quiet run
     d : RowReading
     d = row_reading k.story.bus_state row
 
-    pl : IsPlain s p k
-    pl = run_state_plain s p w.was.standing.devices
-
     con : connection p ≡ Some n
-    con = sym pl.connection ∙ here
+    con = sym w.was.plain.connection ∙ here
 
     reads : (q : Process) → process_served s k ≡ Some q → k.exchange.begun ≡ true → phase_of (bus_of k) ≡ Phase.DataIn → is_writing q ≡ false
     reads q served b phase = go (bus p).rst refl
       where
         go : (x : Bool) → (bus p).rst ≡ x → is_writing q ≡ false
         go true e = w.asked.resets n q con e b phase served
-        go false e = at (is_writing q) refl
+        go false e =
+            by_bool (is_writing q)
+            (λ f. wrong' (sym (λ i. not (f i)) ∙ sym (λ i. is_directed (lines.1 i) (writes_of (served i))) ∙ (w.was.planned n con e).serves b lines.0))
+            (λ f. f)
           where
             lines : (is_data (bus_of k) ≡ true) × ((bus_of k).io ≡ true)
             lines = in_lines (bus_of k) (ap is_data_in phase)
 
-            at : (x : Bool) → is_writing q ≡ x → is_writing q ≡ false
-            at false f = f
-            at true f = wrong' (sym (λ i. not (f i)) ∙ sym (λ i. is_directed (lines.1 i) (writes_of (served i))) ∙ (w.was.planned n con e).serves b lines.0)
-
     stays_out : phase_of (bus_of k) ≡ Phase.DataOut → changes_phase d.change ≡ false
     stays_out phase =
         ap changes_phase (change_plain s row p w.was.standing.devices w.inside)
-        ∙ ap not (out_stays (bus p) (bus (row ∷ p)) (ap phase_of (sym pl.bus) ∙ phase)
+        ∙ ap not (out_stays (bus p) (bus (row ∷ p)) (ap phase_of (sym w.was.plain.bus) ∙ phase)
         (none_raised (λ x. x.msg) (λ _ _. refl) refl refl p row w.inside w.nx.obeys on)
         (none_raised (λ x. x.cd) (λ _ _. refl) refl refl p row w.inside w.nx.obeys on)
         (none_raised (λ x. x.io) (λ _ _. refl) refl refl p row w.inside w.nx.obeys on))
@@ -331,17 +317,16 @@ row_written s p row o prompt w h = go w.nx.row_is
         none_begins z = wrong (sym e ∙ z)
 
         row_of_begins : RowOf s k row → d.change.after.rst ≡ false
-        row_of_begins v = by d.change.after.rst refl
+        row_of_begins v =
+            by_bool d.change.after.rst
+            (λ z.
+            none_some n (sym ((λ j. connection_after (g j) k.story.bus_state.call d.change row) ∙ (λ j. if falls d.change.before.sel d.change.after.sel && d.change.after.bsy && not (z j) then connection_of k.story.bus_state.call row.time else None) ∙ off (falls d.change.before.sel d.change.after.sel) d.change.after.bsy) ∙ i))
+            (λ z. z)
           where
             off : (a b : Bool) → (if a && b && false then connection_of k.story.bus_state.call row.time else None) ≡ None
             off true true = refl
             off true false = refl
             off false b = refl
-
-            by : (q : Bool) → d.change.after.rst ≡ q → d.change.after.rst ≡ false
-            by false z = z
-            by true z =
-                none_some n (sym ((λ j. connection_after (g j) k.story.bus_state.call d.change row) ∙ (λ j. if falls d.change.before.sel d.change.after.sel && d.change.after.bsy && not (z j) then connection_of k.story.bus_state.call row.time else None) ∙ off (falls d.change.before.sel d.change.after.sel) d.change.after.bsy) ∙ i)
     reset e f (Some m) None g i = on (Some m) None g i (under s p row m w h g (rst_after e) f)
     reset e f (Some m) (Some n) g i = on (Some m) (Some n) g i (and_from _ _ (or_right (not d.change.before.rst) _ e) (under s p row m w h g (rst_after e) f))
 
@@ -351,11 +336,10 @@ row_written s p row o prompt w h = go w.nx.row_is
     go (goes_on n c g) =
         let next : d.next ≡ Some n = ap (λ (x : RowReading). x.next) (reading_is k row n c (is_some (receiver_in n c)) g.row_is refl) in
         on (Some n) (Some n) g.row_is.connection_is next (and_from _ _ (or_left (not (bus_of k).rst) _ (ap not g.calm)) (going s p row n c w h g))
-    go (ends n g) = by d.change.after.rst refl
-      where
-        by : (q : Bool) → d.change.after.rst ≡ q → is_written s k row d (writers s p) ≡ true
-        by true e = reset e g.carries_none (Some n) None g.connection_is g.next_is
-        by false e = on (Some n) None g.connection_is g.next_is (ending s p row n o prompt w (sym (ap (λ (c : Change). c.after.rst) same) ∙ e) g)
+    go (ends n g) =
+        by_bool d.change.after.rst
+        (λ e. reset e g.carries_none (Some n) None g.connection_is g.next_is)
+        (λ e. on (Some n) None g.connection_is g.next_is (ending s p row n o prompt w (sym (ap (λ (c : Change). c.after.rst) same) ∙ e) g))
     go (under_reset r f) = reset r f k.story.bus_state.connection d.next refl refl
 
 pub written_row : (s : ScenarioValue) (p : List Row) (row : Row) → Obeys s → IsPrompt s (row ∷ p) → Stood s p → NextStood s p row → CommandFacts s p → InstructedFacts s p → WritesAsked s p row → WriteFacts s p → is_written s (run_state s p) row (row_reading (run_state s p).story.bus_state row) (writers s p) ≡ true

@@ -22,26 +22,17 @@ cdb_name a (b ∷ bytes) = refl
 
 in_name : (a : AccountValue) (m : MsgIn) → (after_in a m).process.name ≡ a.process.name
 in_name a MsgIn.CommandComplete = refl
-in_name a MsgIn.SavePointer = refl
-in_name a MsgIn.RestorePointers = refl
-in_name a MsgIn.Disconnect = refl
-in_name a (MsgIn.Identify lun) = refl
-in_name a (MsgIn.SimpleTag tag) = refl
-in_name a (MsgIn.Sdtr offer) = refl
-in_name a MsgIn.Reject = refl
+in_name a _ = refl
 
 part_name : (a : AccountValue) (part : Part) → (account_after a part).process.name ≡ a.process.name
-part_name a (Part.Out m) = refl
 part_name a (Part.In m) = in_name (with_item a (Item.In m)) m
-part_name a Part.BrokenOff = refl
 part_name a (Part.Command bytes struck left) =
     let c : AccountValue = with_cdb (with_block a bytes struck) bytes in
     named_if (left && is_whole c.block c.struck) (with_item c (Item.Arrive c.process.name)) c a.process.name (cdb_name (with_block a bytes struck) bytes) (cdb_name (with_block a bytes struck) bytes)
-part_name a (Part.Data out bytes) = refl
 part_name a Part.StatusPhase =
     named_if a.process.shown a (record (with_item a (Item.Ready a.process.name)) { process = record a.process { shown = true } }) a.process.name refl refl
 part_name a (Part.Status byte) = status_name a.status_first a.process byte
-part_name a Part.Completion = refl
+part_name a _ = refl
 
 pub parts_name : (a : AccountValue) (parts : List Part) → (account_after_all a parts).process.name ≡ a.process.name
 parts_name a [] = refl
@@ -69,13 +60,7 @@ arrived_behind list a left =
 
 in_behind : (list : List Item) (a : AccountValue) (m : MsgIn) → after_in (behind list a) m ≡ behind list (after_in a m)
 in_behind list a MsgIn.CommandComplete = refl
-in_behind list a MsgIn.SavePointer = refl
-in_behind list a MsgIn.RestorePointers = refl
-in_behind list a MsgIn.Disconnect = refl
-in_behind list a (MsgIn.Identify lun) = refl
-in_behind list a (MsgIn.SimpleTag tag) = refl
-in_behind list a (MsgIn.Sdtr offer) = refl
-in_behind list a MsgIn.Reject = refl
+in_behind list a _ = refl
 
 part_behind : (list : List Item) (a : AccountValue) (part : Part) → account_after (behind list a) part ≡ behind list (account_after a part)
 part_behind list a (Part.Out m) = item_behind list a (Item.Out m)

@@ -4,10 +4,9 @@ use proofs.Names.{ℕ, ◌≡◌, ◌∙◌, ◌==◌, Bool, true, false, not, �
 use proofs.Names.{eqb-true, list_any, wrong, wrong', and_first, and_second, eq_self, ProcId, connection, Connection}
 use proofs.Names.{Row, ScenarioValue, Obeys, CmdDef, same_number, tag_number, command_at, process_by, process_if, Item}
 use proofs.Names.{Sent, process, abort, command_item, sense_item, is_tag_clash, is_clash, is_done, sense_id, command_id}
-use proofs.Names.{is_open_sense, Story, aim_of, run_state_plain, IsPrompt, RunState, run_state, is_open_in, aimed_next}
-use proofs.Names.{calm_before, items_fresh, next_free, Whole, IsNext, is_abort, is_sense, is_next_command as is_command}
-use proofs.{Names.{same_nexus, nexus_of, is_of, shares_nexus, is_alone}, Fits.Senses.{SensesAlone, senses_alone}}
-use proofs.Fits.Sent.{none_any}
+use proofs.Names.{is_open_sense, Story, aim_of, IsPrompt, RunState, run_state, is_open_in, IsNext, is_abort, is_sense}
+use proofs.Names.{is_next_command as is_command, aimed_next, calm_before, items_fresh, next_free, Whole, same_nexus}
+use proofs.{Names.{nexus_of, is_of, shares_nexus, is_alone}, Fits.{Senses.{SensesAlone, senses_alone}, Sent.{none_any}}}
 use Rattle.bus_due.specs.disk_array.specs.Processes.{Process, process_of}
 
 -- ---- commands of one nexus clash
@@ -112,7 +111,7 @@ begins_alone s p row n o prompt was alone after selects =
     let off = calm_before s p row n o prompt was.stood alone after in
     let f = items_fresh s p row n o prompt was.stood was.facts.items alone after selects in
     let next = aimed_next s p row n alone after selects (was.stood.called alone off) (was.facts.items.aims alone off) f.item f.aim_is in
-    let none = (was.facts.items.items.apart ((run_state_plain s p was.stood.standing.devices).connection ∙ alone)).1 in
+    let none = (was.facts.items.items.apart (was.stood.plain.connection ∙ alone)).1 in
     ap (λ (x : Option Item). is_alone s k.story x) f.aim_is
     ∙ item_alone s k.story n.initiator f.item next (λ m e. none_served (sense_item m) (sym none ∙ (was.facts.items.items.senses m e).0)) (senses_alone s p o prompt.0)
   where

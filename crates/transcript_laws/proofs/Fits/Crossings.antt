@@ -3,14 +3,15 @@
 use Rattle.transcript_laws.proofs
 use proofs.Names.{ℕ, ◌≡◌, ◌∙◌, ◌⊎◌, inl, inr, ◌<◌, Bool, true, false, not, ◌&&◌, ◌%◌, List, [], ◌∷◌, ◌++◌, length}
 use proofs.Names.{Option, Some, None, refl, sym, ap, subst, arith, ◌||◌, same_Some, is_some, is_none, if◌then◌else◌}
-use proofs.Names.{wrong, wrong', eq_self, second_false, rises, LineSet, is_command, is_message_in, is_message_out}
-use proofs.Names.{receiver_in, Change, Connection, Row, got_in, MsgIn, ScenarioValue, RowReading, message_in, whole_in}
-use proofs.Names.{Item, process, abort, Link, link_after_name, bytes_of_messages, is_name, RunState, bus_of, run_state}
-use proofs.Names.{not_both as not_both_ways, heard_next, nameless_item, self_id, OnMessage, OnMessages, Knows, IsNoName}
-use proofs.Names.{same_item_if, out_lines, on_message, TalksBy, IsTaken, talk_of, IsServed, OpenedValue, are_talk}
-use proofs.{Names.{base_parts, is_known, names_item, fits_in, is_no_abort}, Fits.Turns.{item_served, not_both}}
-use proofs.Opened.{Bytes.{OpenedBytes, crosses_is, begun_crossing}, Rows.{Going, knows_before}}
-use Rattle.progress_laws.specs.trace_laws.specs.Tells.{of_process, of_abort}
+use proofs.Names.{wrong, wrong', eq_self, second_false, or_middle, rises, LineSet, is_command, is_message_in}
+use proofs.Names.{is_message_out, receiver_in, Change, Connection, Row, got_in, MsgIn, ScenarioValue, RowReading}
+use proofs.Names.{message_in, whole_in, Item, process, abort, Link, link_after_name, bytes_of_messages, is_name}
+use proofs.Names.{RunState, bus_of, run_state, self_id, heard_next, not_both as not_both_ways, nameless_item, OnMessage}
+use proofs.Names.{OnMessages, Knows, IsNoName, same_item_if, out_lines, TalksBy, IsTaken, talk_of, IsServed, on_message}
+use proofs.Names.{OpenedValue, are_talk, base_parts, is_known, names_item, fits_in, is_no_abort}
+use proofs.{Fits.Turns.{item_served, not_both}, Opened.{Bytes.{OpenedBytes, crosses_is, begun_crossing}, Rows.{Going}}}
+use proofs.Opened.Rows.{knows_before}
+use Rattle.progress_laws.specs.row_laws.specs.Tells.{of_process, of_abort}
 use Rattle.bus_due.specs.bus_story.specs.HistoryEvents as story_of
 
 some_of : (o : Option ℕ) (dev : ℕ) → o ≡ Some dev → is_some o ≡ true
@@ -70,9 +71,6 @@ takes_none s p row n g l dev el er no_out = go l.item refl
     k : RunState
     k = run_state s p
 
-    c : Change
-    c = g.going.change
-
     served : (j : ℕ) → k.served ≡ Some (abort j) → IsServed s k n → is_no_abort (Some (abort j)) ≡ true
     served j e (of_process id pr f x) = not_both id j (sym f ∙ e)
     served j e (of_abort m a f x y z none phase) =
@@ -106,12 +104,7 @@ whole_on s p row n g dev q er here on =
 -- It names the process that is served, or none.
 names_if : (was served next : Option Item) → (next ≡ served) ⊎ (next ≡ None) → (was ≡ served) ⊎ (was ≡ None) → (is_none was || is_none next || same_item_if was next) ≡ true
 names_if was served next a (inr none) = ap (λ (x : Option Item). is_none x || is_none next || same_item_if was next) none
-names_if was served next (inr none) (inl x) = second_true (is_none was) (is_none next) (same_item_if was next) (ap (λ (y : Option Item). is_none y) none)
-  where
-    second_true : (a b d : Bool) → b ≡ true → (a || b || d) ≡ true
-    second_true true b d e = refl
-    second_true false true d e = refl
-    second_true false false d e = wrong' e
+names_if was served next (inr none) (inl x) = or_middle (is_none was) (is_none next) (same_item_if was next) (ap (λ (y : Option Item). is_none y) none)
 names_if was served next (inl y) (inl x) = third_true (is_none was) (is_none next) (same_item_if was next) ((λ i. same_item_if (x i) (y i)) ∙ self_if served)
   where
     third_true : (a b d : Bool) → d ≡ true → (a || b || d) ≡ true

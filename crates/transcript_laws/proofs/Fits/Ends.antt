@@ -3,16 +3,16 @@
 use Rattle.transcript_laws.proofs
 use proofs.Names.{ℕ, ◌≡◌, ◌∙◌, ◌⊎◌, inl, inr, ◌==◌, Bool, true, false, not, ◌&&◌, List, [], ◌∷◌, ◌++◌, Option, Some}
 use proofs.Names.{None, refl, sym, ap, subst, ◌||◌, append-nil, same_Some, is_some, is_none, wrong, wrong', eq_self}
-use proofs.Names.{AbortKind, ProcId, change_of, LineSet, is_command, is_data, is_message_in, is_message_out, connection}
-use proofs.Names.{connection_after, receiver_in, bus, Change, Connection, Row, MsgOut, is_nil, ScenarioValue, Obeys}
-use proofs.Names.{AbortDef, same_number, RowReading, row_reading, abort_line_at, Item, process, abort, Link}
-use proofs.Names.{LastMessage, plain, abortive, phase_of, message_out_leaving, phase_leaving, leaving_by, is_naming}
-use proofs.Names.{abort_opening, Cause, Next, Phase, run_state_plain, opening, IsPrompt, IsPlain, RunState, bus_of}
-use proofs.Names.{item_of, process_item, run_state, serving_of, task_if, same_kind, in_is_whole, not_both, reading_is}
-use proofs.Names.{Gives, Speaks, is_selected, change_plain, least_is, none_some, in_out, out_in, fails_as_left}
-use proofs.Names.{ConnectionRow, connection_row, RowFacts, Stops, ends_here, link_phase, task_here, sent_asks, goes_on}
-use proofs.Names.{naming_goes_on, none_heard, all_given, left_tells, IsHeard, is_heard, never_ends, in_of, Whole}
-use proofs.Names.{LastBy, Named, known, said, refused, IsClosing, IsServed, LastIn, Tells, no_summary, kind_of}
+use proofs.Names.{or_second, AbortKind, ProcId, change_of, LineSet, is_command, is_data, is_message_in, is_message_out}
+use proofs.Names.{connection, connection_after, receiver_in, bus, Change, Connection, Row, MsgOut, is_nil}
+use proofs.Names.{ScenarioValue, Obeys, AbortDef, same_number, RowReading, row_reading, abort_line_at, Item, process}
+use proofs.Names.{abort, Link, LastMessage, plain, abortive, phase_of, message_out_leaving, phase_leaving, leaving_by}
+use proofs.Names.{is_naming, abort_opening, Cause, Next, Phase, opening, IsPrompt, IsPlain, RunState, bus_of, item_of}
+use proofs.Names.{process_item, run_state, serving_of, task_if, same_kind, reading_is, in_is_whole, not_both, Gives}
+use proofs.Names.{Speaks, is_selected, change_plain, least_is, none_some, in_out, out_in, by_bool, ConnectionRow}
+use proofs.Names.{connection_row, RowFacts, Stops, ends_here, link_phase, IsClosing, IsServed, LastIn, Tells, goes_on}
+use proofs.Names.{naming_goes_on, none_heard, all_given, left_tells, IsHeard, is_heard, never_ends, in_of, LastBy}
+use proofs.Names.{Named, known, said, refused, fails_as_left, task_here, sent_asks, Whole, no_summary, kind_of}
 use proofs.Names.{summary_of, OpenedValue, opened_connection, held_part, transcribed, Incoming, Part, Departure, Loss}
 use proofs.Names.{Leave, Abortion, Summary, are_talk, base_parts, out_parts, parts_now, summary_by, name_process}
 use proofs.{Names.{is_departure, is_abortion, is_line, closing_parts, fits_end, is_named}, Fits.EndWays.{EndsBy}}
@@ -26,8 +26,8 @@ use proofs.Said.{Naming.{names, name_steps, names_same}, Out.{abort_messages, ab
 use proofs.{Serving.TurnSteps.{outs_talk}, Talks.{Aborts.{AbortTalk, abort_row}, Again.{AgainTalk, again_start}}}
 use proofs.Talks.{Again.{again_row, no_name}, Named.{talk_more}}
 use Rattle.bus_due.specs.disk_array.specs.Processes.{Process, process_of}
-use Rattle.progress_laws.specs.trace_laws.specs.Tells.{of_process, of_abort}
-use Rattle.progress_laws.specs.trace_laws.proofs.Lines.Crossings.{stays}
+use Rattle.progress_laws.specs.row_laws.specs.Tells.{of_process, of_abort}
+use Rattle.progress_laws.specs.row_laws.proofs.Lines.Crossings.{stays}
 
 -- ---- all that is kept
 
@@ -84,7 +84,7 @@ ending s p row n k l o prompt con calm off after there el = by r.facts
     j = run_state s p
 
     pl : IsPlain s p j
-    pl = run_state_plain s p was.stood.standing.devices
+    pl = was.stood.plain
 
     r : ConnectionRow s p row n
     r = connection_row s p row n o prompt was.stood con calm off
@@ -122,7 +122,7 @@ heard_of : (s : ScenarioValue) (p : List Row) (row : Row) (n : Connection) (o : 
 heard_of s p row n o l h e = is_heard s (run_state s p) n h.here.speaking.units speaks h.begun h.phase h.stops.over e
   where
     pl : IsPlain s p (run_state s p)
-    pl = run_state_plain s p h.here.was.stood.standing.devices
+    pl = h.here.was.stood.plain
 
     speaks : Speaks s (run_state s p) n
     speaks = h.here.was.stood.books.speaks n (pl.connection ∙ h.stands) (ap (λ (x : LineSet). x.rst) pl.bus ∙ h.calm)
@@ -157,9 +157,7 @@ abort_tells unit AbortKind.Device = record { message = MsgOut.DeviceReset; abort
 abort_departs : (again : Bool) (a : Summary) (unit : ℕ) (what : AbortKind)
     → (summary_of again a (out_parts (MsgOut.Identify false unit ∷ abort_messages what))).departure ≡ Abortion
 abort_departs again a unit AbortKind.All = refl
-abort_departs again a unit (AbortKind.Tag m) = refl
-abort_departs again a unit AbortKind.WholeQueue = refl
-abort_departs again a unit AbortKind.Device = refl
+abort_departs again a unit _ = refl
 
 line_is : (n : Connection) (a : AbortDef) (sum : Summary) → a.host ≡ n.initiator → a.target ≡ n.target → TellsAbort a.unit a.what sum → is_line n sum sum.abort (Some a) ≡ true
 line_is n a sum host target h =
@@ -277,7 +275,7 @@ after_messages s p row n o l id h served phase quiet free = record {
     half = k.story.bus_state.dialogue.half
 
     pl : IsPlain s p k
-    pl = run_state_plain s p h.here.was.stood.standing.devices
+    pl = h.here.was.stood.plain
 
     here : is_message_in (bus_of k) ≡ true
     here = in_of (bus_of k) phase h.phase
@@ -372,7 +370,7 @@ at_end s p row n o l id q h served of = by (ends_by (serving_of s k n.target) (t
     k = run_state s p
 
     pl : IsPlain s p k
-    pl = run_state_plain s p h.here.was.stood.standing.devices
+    pl = h.here.was.stood.plain
 
     none : phase_of (bus_of k) ≡ Phase.MessageOut → k.exchange.plan.said.aborts ≡ None
     none e =
@@ -418,10 +416,6 @@ process_ends s p row n o l id h e =
         }
     selected sel (unsaid a t f) = let z = f h.begun in wrong (sym (ap is_selected z.1) ∙ end.opened.cause z.0)
 
-    second : (a b : Bool) → (a || b) ≡ true → a ≡ false → b ≡ true
-    second true b x y = wrong y
-    second false b x y = x
-
     both : (a b : Bool) → (a && b) ≡ true → (a ≡ true) × (b ≡ true)
     both true b x = (refl, x)
     both false b x = wrong' x
@@ -434,16 +428,15 @@ process_ends s p row n o l id h e =
         (sym (ap (λ (c : Connection). is_none (summary_by c (parts_now o)).abort && (are_talk (parts_now o) || name_process s c (parts_now o) id)) h.here.names.all.bytes.connection_is) ∙ named) in
         record {
           unaborted = two.0;
-          naming = second (are_talk (parts_now o)) (name_process s n (parts_now o) id) two.1 (talk_more (base_parts o) (out_parts o.said) ∙ ap (λ (q : Bool). q && are_talk (out_parts o.said)) more);
+          naming = or_second (are_talk (parts_now o)) (name_process s n (parts_now o) id) two.1 (talk_more (base_parts o) (out_parts o.said) ∙ ap (λ (q : Bool). q && are_talk (out_parts o.said)) more);
           knowing = λ i. not (re i) || not (more i);
         }
 
     w : EndNames s n o id
-    w = by n.reselected refl
-      where
-        by : (r : Bool) → n.reselected ≡ r → EndNames s n o id
-        by true re = reselected re
-        by false sel = selected sel (h.here.names.selected sel id own.own served own.own_is)
+    w =
+        by_bool n.reselected
+        (λ re. reselected re)
+        (λ sel. selected sel (h.here.names.selected sel id own.own served own.own_is))
 
 -- ---- any of them
 
@@ -460,7 +453,7 @@ ends_fit s p row n k l o prompt con calm off after there el =
     h = ending s p row n k l o prompt con calm off after there el
 
     pl : IsPlain s p j
-    pl = run_state_plain s p h.here.was.stood.standing.devices
+    pl = h.here.was.stood.plain
 
     before : (row_reading j.story.bus_state row).change.before ≡ bus_of j
     before = ap (λ (c : Change). c.before) (change_plain s row p h.here.was.stood.standing.devices (least_is s p row prompt.1).inside) ∙ sym pl.bus

@@ -4,16 +4,22 @@ use proofs.Names.{◌≡◌, ◌∙◌, ◌<◌, Bool, true, false, not, ◌&&�
 use proofs.Names.{◌||◌, same_Some, is_some, is_none, if◌then◌else◌, wrong', change_of, rises, call, connection}
 use proofs.Names.{connection_after, bus, Change, Connection, Row, ScenarioValue, Obeys, RowReading, row_reading, Link}
 use proofs.Names.{Story, aim_of, story, run_state_plain, IsPrompt, IsPlain, AreOfDevices, RunState, run_state}
-use proofs.Names.{change_plain, least_is, none_some, Whole, whole, OpenedValue, transcribed, is_fresh, is_alone}
-use proofs.Names.{fits_linked, fits_first, fits_bus, ends_all, fits_reading, fits_row, is_named, are_named, fit}
-use proofs.Fits.{Alone.{begins_alone}, Ends.{ends_fit}, First.{fresh_item, begins_quiet}}
+use proofs.Names.{change_plain, least_is, none_some, by_bool, Whole, whole, OpenedValue, transcribed, is_fresh}
+use proofs.Names.{is_alone, fits_linked, fits_first, fits_bus, ends_all, fits_reading, fits_row, is_named, are_named}
+use proofs.{Names.{fit}, Fits.{Alone.{begins_alone}, Ends.{ends_fit}, First.{fresh_item, begins_quiet}}}
 use proofs.Fits.{Named.{standing as connection_standing, named_selected}, Rows.{going_fits}, Sent.{reset_ends}}
 use proofs.{Fits.Sent.{sent_known}, Named.Facts.{named_again}, Opened.{Facts.{opened_all}, Resets.{rst_none, rst_row}}}
 use proofs.{Opened.Rows.{going_at}, Undone.Facts.{undoes_row}}
 
 row_by_state : (s : ScenarioValue) (p : List Row) (row : Row) → Obeys s → IsPrompt s (row ∷ p)
     → fits_reading s (transcribed p) (run_state s p).story (row_reading (run_state s p).story.bus_state row) ≡ true
-row_by_state s p row o prompt = go (bus (row ∷ p)).rst refl
+row_by_state s p row o prompt =
+    by_bool (bus (row ∷ p)).rst
+    (λ on.
+    ap (λ (q : Bool). if q then is_none (transcribed p).opened || (up && ends_all s b) else fits_bus s (transcribed p) b b.bus_state.connection d) (ap (λ (x : Change). x.after.rst) c ∙ on)
+    ∙ reset (is_none (transcribed p).opened) up (ends_all s b) (rst_row s p row dv lt on) (reset_ends s b was.facts.items.items.checked was.facts.items.items.checks (λ id h. sent_known s p id h)))
+    (λ off.
+    ap (λ (q : Bool). if q then is_none (transcribed p).opened || (up && ends_all s b) else fits_bus s (transcribed p) b b.bus_state.connection d) (ap (λ (x : Change). x.after.rst) c ∙ off) ∙ by_connection off (connection p) refl)
   where
     k : RunState
     k = run_state s p
@@ -31,7 +37,7 @@ row_by_state s p row o prompt = go (bus (row ∷ p)).rst refl
     lt = (least_is s p row prompt.1).inside
 
     pl : IsPlain s p k
-    pl = run_state_plain s p dv
+    pl = was.stood.plain
 
     d : RowReading
     d = row_reading b.bus_state row
@@ -88,13 +94,6 @@ row_by_state s p row o prompt = go (bus (row ∷ p)).rst refl
         ap (λ (y : Option Connection). fits_bus s (transcribed p) b y d) (pl.connection ∙ con) ∙ ap (λ (y : Option Connection). fits_linked s b (transcribed p).opened b.link d (is_some y)) next
         ∙ inside m con off (bus p).rst refl (transcribed p).opened refl b.link refl (connection (row ∷ p)) refl
 
-    go : (q : Bool) → (bus (row ∷ p)).rst ≡ q → fits_reading s (transcribed p) b d ≡ true
-    go true on =
-        ap (λ (q : Bool). if q then is_none (transcribed p).opened || (up && ends_all s b) else fits_bus s (transcribed p) b b.bus_state.connection d) (ap (λ (x : Change). x.after.rst) c ∙ on)
-        ∙ reset (is_none (transcribed p).opened) up (ends_all s b) (rst_row s p row dv lt on) (reset_ends s b was.facts.items.items.checked was.facts.items.items.checks (λ id h. sent_known s p id h))
-    go false off =
-        ap (λ (q : Bool). if q then is_none (transcribed p).opened || (up && ends_all s b) else fits_bus s (transcribed p) b b.bus_state.connection d) (ap (λ (x : Change). x.after.rst) c ∙ off) ∙ by_connection off (connection p) refl
-
 pub row_fits : (s : ScenarioValue) (p : List Row) (row : Row) → Obeys s → IsPrompt s (row ∷ p) → fits_row s (transcribed p) (story s p) row ≡ true
 row_fits s p row o prompt =
     let pl = run_state_plain s p (whole s p o prompt.0).stood.standing.devices in
@@ -108,7 +107,7 @@ names_fit s p o prompt = subst (λ (b : Story). are_named s (transcribed p).open
     was = whole s p o prompt
 
     pl : IsPlain s p (run_state s p)
-    pl = run_state_plain s p was.stood.standing.devices
+    pl = was.stood.plain
 
     no_link : {A : Type 0} (l : Link) → (let a : Option Link = None in a) ≡ Some l → A
     no_link l e = absurd cc
@@ -117,11 +116,10 @@ names_fit s p o prompt = subst (λ (b : Story). are_named s (transcribed p).open
         → connection p ≡ x → is_named s w l.item ≡ true
     at w l et ev true calm x con = none_some w (sym (rst_none s p was.stood.standing.devices calm) ∙ et)
     at w l et ev false calm None con = no_link l (sym (was.facts.items.items.apart (pl.connection ∙ con)).0 ∙ ev)
-    at w l et ev false calm (Some n) con = by n.reselected refl
-      where
-        by : (r : Bool) → n.reselected ≡ r → is_named s w l.item ≡ true
-        by true re = named_again s p n w l o prompt con calm et ev re
-        by false sel = named_selected s p n w l (connection_standing s p n w o prompt con calm et) ev sel
+    at w l et ev false calm (Some n) con =
+        by_bool n.reselected
+        (λ re. named_again s p n w l o prompt con calm et ev re)
+        (λ sel. named_selected s p n w l (connection_standing s p n w o prompt con calm et) ev sel)
 
     go : (t : Option OpenedValue) → (transcribed p).opened ≡ t → (v : Option Link) → (run_state s p).story.link ≡ v → are_named s t v ≡ true
     go None et v ev = refl

@@ -3,8 +3,8 @@ use Rattle.transcript_laws.proofs
 use proofs.Names.{◌≡◌, ◌∙◌, true, false, not, ◌&&◌, List, ◌∷◌, Option, Some, None, sym, ap, is_none, ProcId, change_of}
 use proofs.Names.{is_command, connection, Change, Connection, Row, ScenarioValue, Obeys, row_reading, carried_at}
 use proofs.Names.{is_status_phase, Item, process, abort, has_item, Story, aim_of, IsPrompt, run_state, change_plain}
-use proofs.Names.{least_is, BeginsConnection, by_selection, by_reselection, none_some, calm_after, items_fresh}
-use proofs.Names.{items_sent, RowKindOf, begins_now, goes_now, row_kind, Whole, is_fresh}
+use proofs.Names.{least_is, BeginsConnection, by_selection, by_reselection, none_some, RowKindOf, begins_now, goes_now}
+use proofs.Names.{row_kind, calm_after, items_fresh, items_sent, Whole, is_fresh}
 
 fresh_by : (b : Story) (item : Item) → has_item b.sent.sent item ≡ false
     → ((id : ProcId) → has_item b.sent.sent (process id) ≡ false → carried_at b.carried id ≡ None) → is_fresh b (Some item) ≡ true

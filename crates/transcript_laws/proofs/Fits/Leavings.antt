@@ -5,7 +5,7 @@ use proofs.Names.{changes_phase, drives, last_time, Connection, Row, ScenarioVal
 use proofs.Names.{Linked, connected_bus, initiator_side, target_side, row_of_fault, row_of_lines, initiator_moves}
 use proofs.Names.{target_moves, phase_same, ends, LinkRow, is_unasked}
 use Rattle.bus_due.specs.bus_trace.proofs.Sets.{same_self}
-use Rattle.progress_laws.specs.trace_laws.proofs.Lines.Rows as rows
+use Rattle.progress_laws.specs.row_laws.proofs.Lines.Rows as rows
 
 -- ---- rows with which the phase stays
 

@@ -1,19 +1,19 @@
 -- A row with which a connection goes on fits: a byte that crosses, a phase that is left, and any other row.
 use Rattle.transcript_laws.proofs
 use proofs.Names.{ℕ, ◌≡◌, ◌∙◌, ◌⊎◌, inl, inr, Bool, true, false, not, ◌&&◌, List, [], ◌∷◌, Option, Some, None, refl}
-use proofs.Names.{sym, ap, subst, ◌||◌, same_Some, is_some, if◌then◌else◌, wrong, wrong', implication, ProcId, rises}
-use proofs.Names.{LineSet, changes_phase, is_command, is_message_in, is_message_out, receiver_in, Change, Connection}
-use proofs.Names.{Row, MsgIn, is_nil, ScenarioValue, same_bool, RowReading, row_reading, message_in, message_out}
-use proofs.Names.{carried_of, Item, process, Link, LastMessage, plain, one_message, Phase, RunState, bus_of, run_state}
-use proofs.Names.{in_is_whole, not_both, Knows, RowKind, still, strikes, crosses, turns, reading_in, complete_is}
-use proofs.Names.{in_phase, out_in, out_lines, TalksBy, IsTaken, talk_of, LastBy, LastGiven, still_stays, to_close}
-use proofs.Names.{to_save, closed, CarriesBy, HasStatus, IsServed, OpenedValue, is_complete, are_talk, base_parts}
-use proofs.Names.{is_known, is_broken, fits_out, fits_in, is_no_abort, fits_crossing, undoes_nothing, arrives_first}
-use proofs.Names.{gets_known, is_open_item, fits_turn, has_status, fits_still, fits_on}
+use proofs.Names.{sym, ap, subst, ◌||◌, same_Some, is_some, if◌then◌else◌, wrong, wrong', implication, middle, ProcId}
+use proofs.Names.{rises, LineSet, changes_phase, is_command, is_message_in, is_message_out, receiver_in, Change}
+use proofs.Names.{Connection, Row, MsgIn, is_nil, ScenarioValue, same_bool, RowReading, row_reading, message_in}
+use proofs.Names.{message_out, carried_of, Item, process, Link, LastMessage, plain, one_message, Phase, RunState}
+use proofs.Names.{bus_of, run_state, in_is_whole, not_both, Knows, RowKind, still, strikes, crosses, turns, reading_in}
+use proofs.Names.{in_phase, out_in, out_lines, by_bool, TalksBy, IsTaken, talk_of, IsServed, LastBy, LastGiven}
+use proofs.Names.{still_stays, to_close, to_save, closed, complete_is, CarriesBy, HasStatus, OpenedValue, is_complete}
+use proofs.Names.{are_talk, base_parts, is_known, is_broken, fits_out, fits_in, is_no_abort, fits_crossing}
+use proofs.Names.{undoes_nothing, arrives_first, gets_known, is_open_item, fits_turn, has_status, fits_still, fits_on}
 use proofs.Fits.{Crossings.{completes_none, no_message_line, takes_none, names_fit}, Out.{out_fits}}
 use proofs.{Fits.Turns.{talk_leaves, arrives, known_open}, Held.Last.{HeldLast}, Opened.Bytes.{crosses_is}}
 use proofs.{Opened.{Facts.{OpenedAll}, Rows.{Going, knows_before}}, Undone.Facts.{UndoesNothing}}
-use Rattle.progress_laws.specs.trace_laws.specs.Tells.{of_process, of_abort}
+use Rattle.progress_laws.specs.row_laws.specs.Tells.{of_process, of_abort}
 use Rattle.bus_due.specs.bus_story.specs.HistoryEvents as story_of
 
 -- ---- a byte crosses
@@ -79,19 +79,18 @@ turn_fits s p row n g o l h el ep er undoes = λ i. undone i && arrived i && tal
     arrived = implication (is_command c.before) (arrives_first k.story l.item) (λ z. arrives s p row n g l el z)
 
     open_known : (is_known o (bus_of k) || not (gets_known o c) || is_open_item k.story l.item) ≡ true
-    open_known = go n.reselected refl
+    open_known =
+        by_bool n.reselected
+        (λ re. either (is_known o (bus_of k)) (gets_known o c) (is_open_item k.story l.item) (λ z. known_open s p row n g o l h.bytes el ep er re z))
+        (λ sel.
+        ap (λ (q : Bool). q || not (gets_known o c) || is_open_item k.story l.item)
+        (ap (λ (x : Connection). not x.reselected || not (are_talk (base_parts o)) || is_command (bus_of k)) h.bytes.connection_is
+        ∙ ap (λ (q : Bool). not q || not (are_talk (base_parts o)) || is_command (bus_of k)) sel))
       where
         either : (a b x : Bool) → (b ≡ true → x ≡ true) → (a || not b || x) ≡ true
         either true b x f = refl
         either false true x f = f refl
         either false false x f = refl
-
-        go : (r : Bool) → n.reselected ≡ r → (is_known o (bus_of k) || not (gets_known o c) || is_open_item k.story l.item) ≡ true
-        go true re = either (is_known o (bus_of k)) (gets_known o c) (is_open_item k.story l.item) (λ z. known_open s p row n g o l h.bytes el ep er re z)
-        go false sel =
-            ap (λ (q : Bool). q || not (gets_known o c) || is_open_item k.story l.item)
-            (ap (λ (x : Connection). not x.reselected || not (are_talk (base_parts o)) || is_command (bus_of k)) h.bytes.connection_is
-            ∙ ap (λ (q : Bool). not q || not (are_talk (base_parts o)) || is_command (bus_of k)) sel)
 
 -- ---- another row
 
@@ -99,7 +98,10 @@ turn_fits s p row n g o l h el ep er undoes = λ i. undone i && arrived i && tal
 pub still_same : (s : ScenarioValue) (p : List Row) (row : Row) (n : Connection) (g : Going s p row n) (o : OpenedValue) (l : Link) → HeldLast (run_state s p) o
     → (run_state s p).story.link ≡ Some l → is_message_in g.going.change.before ≡ true
     → same_bool (story_of.is_complete l.last) (is_complete o.held && is_nil (run_state s p).story.bus_state.dialogue.half) ≡ true
-still_same s p row n g o l h el here = go (story_of.is_complete l.last) refl
+still_same s p row n g o l h el here =
+    by_bool (story_of.is_complete l.last)
+    (λ e. λ i. same_bool (e i) ((sym same ∙ e) i && whole (t.completes e) i))
+    (λ e. λ i. same_bool (e i) ((sym same ∙ e) i && is_nil k.story.bus_state.dialogue.half))
   where
     k : RunState
     k = run_state s p
@@ -116,10 +118,6 @@ still_same s p row n g o l h el here = go (story_of.is_complete l.last) refl
     whole : IsTaken (talk_of k) ⊎ ((is_message_out (bus_of k) ≡ true) × (k.story.bus_state.dialogue.is_last ≡ false)) → is_nil k.story.bus_state.dialogue.half ≡ true
     whole (inl z) = ap is_nil (in_is_whole k (g.was.stood.books.gives n g.going.goes.row_is.connection_is g.going.goes.calm) z.begun z.here z.all)
     whole (inr z) = not_both (bus_of k) on z.0
-
-    go : (q : Bool) → story_of.is_complete l.last ≡ q → same_bool (story_of.is_complete l.last) (is_complete o.held && is_nil k.story.bus_state.dialogue.half) ≡ true
-    go true e = λ i. same_bool (e i) ((sym same ∙ e) i && whole (t.completes e) i)
-    go false e = λ i. same_bool (e i) ((sym same ∙ e) i && is_nil k.story.bus_state.dialogue.half)
 
 not_plain : {A : Type 0} (last : LastMessage) → last ≡ plain → story_of.is_complete last ≡ true → A
 not_plain last e z = wrong' (sym (ap story_of.is_complete e) ∙ z)
@@ -231,13 +229,8 @@ still_fits s p row n g o l h el = λ i. implication (up && is_message_in c.befor
     up : Bool
     up = rises c.before.ack c.after.ack
 
-    second_of : (a b x : Bool) → (a && b && x) ≡ true → b ≡ true
-    second_of true true x z = refl
-    second_of true false x z = wrong' z
-    second_of false b x z = wrong' z
-
     told : (up && is_message_in c.before && not c.after.atn) ≡ true → same_bool (story_of.is_complete l.last) (is_complete o.held && is_nil k.story.bus_state.dialogue.half) ≡ true
-    told z = still_same s p row n g o l h.last el (second_of up (is_message_in c.before) (not c.after.atn) z)
+    told z = still_same s p row n g o l h.last el (middle up (is_message_in c.before) (not c.after.atn) z)
 
     both : (a b x y : Bool) → (a && b && x && y) ≡ true → (b ≡ true) × (x ≡ true)
     both true true true y z = (refl, refl)

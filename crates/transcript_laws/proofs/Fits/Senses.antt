@@ -7,13 +7,12 @@ use proofs.Names.{wrong, wrong', and_first, and_second, Event, ProcId, rises, co
 use proofs.Names.{CHECK_CONDITION, ScenarioValue, Obeys, CmdDef, command_at, ends_checks, RowReading, row_reading}
 use proofs.Names.{link_events, row_events_by, Item, Sent, process, abort, same_item, command_item, has_item, is_clash}
 use proofs.Names.{is_done, is_open, sense_from, sense_item, Link, Story, by_abort, by_reset, by_status, is_aborted}
-use proofs.Names.{is_sense_stopped, story_after_event, story_after_events, story_with_end, story_by_change}
-use proofs.Names.{run_state_plain, IsPrompt, IsPlain, RunState, bus_of, item_of, run_state, Knows, RowOf, begins}
-use proofs.Names.{change_plain, least_is, aimed_next, calm_before, next_free, opened, same_process, events_grow}
-use proofs.Names.{in_append, not_grown, carried_of_item, NextStood, change_over, Whole, standing_next, whole, IsNext}
-use proofs.Names.{is_abort, is_sense, is_next_command as is_command, AreChecked, NoClash, sense_left, ends_open}
-use proofs.{Names.{known_served, NoEnds, Shown, completes, no_ends, row_shown, changed}, Fits.Sent.{SentAfter}}
-use proofs.Fits.Sent.{as_before, one_more, row_sends}
+use proofs.Names.{is_sense_stopped, story_after_event, story_after_events, story_with_end, story_by_change, IsPrompt}
+use proofs.Names.{IsPlain, RunState, bus_of, item_of, run_state, Knows, RowOf, begins, change_plain, least_is, by_bool}
+use proofs.Names.{NextStood, IsNext, is_abort, is_sense, is_next_command as is_command, AreChecked, NoClash, aimed_next}
+use proofs.Names.{calm_before, next_free, opened, same_process, events_grow, in_append, not_grown, carried_of_item}
+use proofs.Names.{change_over, Whole, standing_next, whole, ends_open, known_served, NoEnds, Shown, completes, no_ends}
+use proofs.{Names.{row_shown, sense_left, changed}, Fits.Sent.{SentAfter, as_before, one_more, row_sends}}
 use Rattle.bus_due.specs.bus_trace.specs.declared.Row.{Row}
 use Rattle.progress_laws.specs.bus_books.specs.Traces.{apart, ends, goes_on, under_reset}
 
@@ -34,11 +33,7 @@ record Onward (a b : Sent) : Type 0 where
   checked : AreChecked b
 
 not_over : (a b : Sent) (i : Item) → Onward a b → has_item b.over i ≡ false → has_item a.over i ≡ false
-not_over a b i h e = go (has_item a.over i) refl
-  where
-    go : (q : Bool) → has_item a.over i ≡ q → has_item a.over i ≡ false
-    go false z = z
-    go true z = wrong (sym (h.over i z) ∙ e)
+not_over a b i h e = by_bool (has_item a.over i) (λ z. wrong (sym (h.over i z) ∙ e)) (λ z. z)
 
 still_open : (a b : Sent) (sent : List Item) (m : ℕ) → Onward a b → b.sent ≡ sent → is_open b m ≡ true → is_open (record a { sent = sent }) m ≡ true
 still_open a b sent m h e o =
@@ -222,7 +217,7 @@ senses_alone s (row ∷ p) o prompt = go (senses_alone s p o prompt.0) (row_send
     lt = (least_is s p row prompt.1).inside
 
     pl : IsPlain s p k
-    pl = run_state_plain s p was.stood.standing.devices
+    pl = was.stood.plain
 
     onward : Onward k.story.sent (run_state s (row ∷ p)).story.sent
     onward = row_onward s p row lt was (standing_next s p row o prompt was) (whole s (row ∷ p) o prompt).facts.items.items.checked

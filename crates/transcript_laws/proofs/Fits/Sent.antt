@@ -6,8 +6,8 @@ use proofs.Names.{Connection, Row, ScenarioValue, CmdDef, none_at, command_at, p
 use proofs.Names.{RowReading, row_reading, row_events_by, Item, Sent, process, abort, same_item, has_item, sense_item}
 use proofs.Names.{Link, link_of, Story, by_reset, story_with_ends, story_after_event, aim_of, story_with_sent}
 use proofs.Names.{story_with_restored, story_after_connection, story_in_connection, story_on_bus, story_by_change}
-use proofs.Names.{RunState, run_state, run_state_after, aims_are, id_is, IsItem, is_process, none_some, reset_senses}
-use proofs.Names.{inside_sent, own_has, more_has, free_keeps, restored_sent, reset_over, AreChecked, IsChecked}
+use proofs.Names.{RunState, run_state, run_state_after, id_is, aims_are, IsItem, is_process, none_some, AreChecked}
+use proofs.Names.{IsChecked, reset_senses, inside_sent, own_has, more_has, free_keeps, restored_sent, reset_over}
 use proofs.Names.{is_open_process, ends_all}
 use Rattle.bus_due.specs.disk_array.specs.Processes.{process_of}
 use Rattle.progress_laws.specs.bus_books.specs.Items.{is_abort}
@@ -98,9 +98,6 @@ reset_ends s b checked checks known = ap not (none_any (λ item. is_open_process
     after : Sent
     after = (story_with_ends (λ c. true) (λ c. true) by_reset 1 s.commands b).sent
 
-    same : after.sent ≡ b.sent.sent
-    same = event_sent s b (Event.Reset 0)
-
     over : (id : ProcId) → has_item b.sent.sent (process id) ≡ true → (q : Bool) → id.sense ≡ q → has_item after.over (process id) ≡ true
     over id sent false e =
         let is : id ≡ record { command = id.command; sense = false } = λ i. record { command = id.command; sense = e i } in
@@ -113,5 +110,5 @@ reset_ends s b checked checks known = ap not (none_any (λ item. is_open_process
 
     closed : (i : Item) → has_item after.sent i ≡ true → is_open_process after i ≡ false
     closed (process id) h =
-        ap (λ (q : Bool). has_item after.sent (process id) && not q) (over id (ap (λ (x : List Item). has_item x (process id)) (sym same) ∙ h) id.sense refl) ∙ and_false (has_item after.sent (process id))
+        ap (λ (q : Bool). has_item after.sent (process id) && not q) (over id (ap (λ (x : List Item). has_item x (process id)) (sym (event_sent s b (Event.Reset 0))) ∙ h) id.sense refl) ∙ and_false (has_item after.sent (process id))
     closed (abort j) h = refl

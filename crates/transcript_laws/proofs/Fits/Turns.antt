@@ -2,16 +2,17 @@
 -- the end of data the process of a connection is known, and open.
 use Rattle.transcript_laws.proofs
 use proofs.Names.{ℕ, ◌≡◌, ◌∙◌, ◌⊎◌, inl, inr, Bool, true, false, not, ◌&&◌, List, [], ◌∷◌, Option, Some, None, refl}
-use proofs.Names.{sym, ap, subst, ◌||◌, same_Some, is_some, if◌then◌else◌, wrong, wrong', or_true, ProcId, LineSet}
-use proofs.Names.{changes_phase, is_command, is_data, is_message_in, is_message_out, is_fault, receiver_in, Change}
-use proofs.Names.{Connection, Row, is_nil, ScenarioValue, reply_in, Reply, CarriedBytes, carried_of, is_whole_block}
-use proofs.Names.{is_status_phase, Item, process, abort, has_item, Link, phase_of, Phase, IsPlain, RunState, or_start}
-use proofs.Names.{bus_of, process_item, run_state, process_id, InConnection, in_connection, Knows, none_some}
-use proofs.Names.{command_phase, over_after, link_still, unbegun_lines, is_marked, Named, known, said, refused}
-use proofs.Names.{IsUntouched, PlacedIf, PlacedIn, IsServed, OpenedValue, is_open_item, arrives_first, leaves_talk}
-use proofs.{Names.{gets_known}, Opened.{Bytes.{OpenedBytes, begun_turned}, Rows.{Going, plain_before, knows_before}}}
+use proofs.Names.{sym, ap, subst, ◌||◌, same_Some, is_some, if◌then◌else◌, wrong, wrong', or_true, or_none_first}
+use proofs.Names.{ProcId, LineSet, changes_phase, is_command, is_data, is_message_in, is_message_out, is_fault}
+use proofs.Names.{receiver_in, Change, Connection, Row, is_nil, ScenarioValue, reply_in, Reply, CarriedBytes}
+use proofs.Names.{carried_of, is_whole_block, is_status_phase, Item, process, abort, has_item, Link, phase_of, Phase}
+use proofs.Names.{IsPlain, RunState, or_start, bus_of, process_item, run_state, process_id, InConnection, in_connection}
+use proofs.Names.{Knows, none_some, command_phase, by_bool, is_marked, IsUntouched, PlacedIf, PlacedIn, IsServed}
+use proofs.Names.{over_after, link_still, unbegun_lines, Named, known, said, refused, OpenedValue, is_open_item}
+use proofs.{Names.{arrives_first, leaves_talk, gets_known}, Opened.{Bytes.{OpenedBytes, begun_turned}, Rows.{Going}}}
+use proofs.Opened.Rows.{plain_before, knows_before}
 use Rattle.bus_due.specs.disk_array.specs.Processes.{Process, process_of}
-use Rattle.progress_laws.specs.trace_laws.specs.Tells.{of_process, of_abort}
+use Rattle.progress_laws.specs.row_laws.specs.Tells.{of_process, of_abort}
 
 -- ---- items
 
@@ -75,11 +76,10 @@ abort_stands s p row n g o j h served = go (g.was.facts.served n g.stands g.calm
 
     go : IsServed s k n → AbortStands s p n o
     go (of_process id pr e f) = not_both id j (sym e ∙ served)
-    go (of_abort m a e f x y re phase) = by k.exchange.begun refl
-      where
-        by : (q : Bool) → k.exchange.begun ≡ q → AbortStands s p n o
-        by true b = let lines = out_only (bus_of k) (phase b).0 in record { selected = re; command = lines.command; bytes = h.bytes lines.moves }
-        by false b = record { selected = re; command = ap is_command pl.bus ∙ unbegun_lines s p n g.link.stage (sym pl.begun ∙ b); bytes = h.unbegun b }
+    go (of_abort m a e f x y re phase) =
+        by_bool k.exchange.begun
+        (λ b. let lines = out_only (bus_of k) (phase b).0 in record { selected = re; command = lines.command; bytes = h.bytes lines.moves })
+        (λ b. record { selected = re; command = ap is_command pl.bus ∙ unbegun_lines s p n g.link.stage (sym pl.begun ∙ b); bytes = h.unbegun b })
 
 pub talk_leaves : (s : ScenarioValue) (p : List Row) (row : Row) (n : Connection) (g : Going s p row n) (o : OpenedValue) (l : Link)
     → OpenedBytes (run_state s p) n o → (run_state s p).story.link ≡ Some l → changes_phase g.going.change ≡ true → leaves_talk o g.going.change l.item ≡ true
@@ -113,11 +113,7 @@ talk_leaves s p row n g o l h el ep = go l.item refl
 -- ---- a command that arrives
 
 new_shows : (c : CarriedBytes) → is_marked c ≡ false → (not (is_whole_block c) || not c.shown) ≡ true
-new_shows c e = ap (λ (q : Bool). not (is_whole_block c) || not q) (go c.shown c.refused e) ∙ or_true (not (is_whole_block c))
-  where
-    go : (a b : Bool) → (a || b) ≡ false → a ≡ false
-    go true b z = wrong z
-    go false b z = refl
+new_shows c e = ap (λ (q : Bool). not (is_whole_block c) || not q) (or_none_first c.shown c.refused e) ∙ or_true (not (is_whole_block c))
 
 pub arrives : (s : ScenarioValue) (p : List Row) (row : Row) (n : Connection) (g : Going s p row n) (l : Link) → (run_state s p).story.link ≡ Some l
     → is_command g.going.change.before ≡ true → arrives_first (run_state s p).story l.item ≡ true
@@ -132,14 +128,10 @@ arrives s p row n g l el command = go l.item refl
     here : is_command (bus_of k) ≡ true
     here = ap is_command g.going.goes.row_is.bus_is ∙ command
 
-    begun : (q : Bool) → k.exchange.begun ≡ q → k.exchange.begun ≡ true
-    begun true b = b
-    begun false b = wrong' (sym (ap is_command pl.bus ∙ unbegun_lines s p n g.link.stage (sym pl.begun ∙ b)) ∙ here)
-
     untouched : (id : ProcId) (pr : Process) → k.served ≡ Some (process id) → process_of s id ≡ Some pr → IsUntouched g.was.places.array pr.id
     untouched id pr served own =
         subst (λ (f : Phase). PlacedIn g.was.places.array pr k.exchange.plan k.handshakes (bus_of k).atn f) (command_phase (bus_of k) here)
-        (subst (λ (q : Bool). PlacedIf q g.was.places.array pr k.exchange.plan k.handshakes (bus_of k).atn (phase_of (bus_of k))) (begun k.exchange.begun refl)
+        (subst (λ (q : Bool). PlacedIf q g.was.places.array pr k.exchange.plan k.handshakes (bus_of k).atn (phase_of (bus_of k))) (by_bool k.exchange.begun (λ b. b) (λ b. wrong' (sym (ap is_command pl.bus ∙ unbegun_lines s p n g.link.stage (sym pl.begun ∙ b)) ∙ here)))
         (g.was.places.placed n g.going.goes.row_is.connection_is g.going.goes.calm pr (ap (process_item s) served ∙ own)))
 
     go : (x : Option Item) → l.item ≡ x → arrives_first k.story x ≡ true
@@ -244,10 +236,9 @@ known_open s p row n g o l h el ep er re gets = go (either (is_command c.after) 
     go (inl z) =
         let none = no_message (bus_of j) (ap (λ (x : LineSet). x.msg) i.bus_is ∙ command_lines c.after z) in
         of_link (named_known s j n l (g.now.facts.named n g.after g.calm_after re) link_after none.into none.out) (λ x e. open_after none x e (has_item k.story.sent.over x) refl)
-    go (inr z) = by (is_command (bus_of k) || is_data (bus_of k)) refl
-      where
-        by : (q : Bool) → (is_command (bus_of k) || is_data (bus_of k)) ≡ q → is_open_item k.story l.item ≡ true
-        by true f =
-            let none = no_message (bus_of k) (moving_lines (bus_of k) f) in
-            of_link (named_known s k n l (g.was.facts.named n g.stands g.calm re) el none.into none.out) (λ x e. open_before none x e (has_item k.story.sent.over x) refl)
-        by false f = wrong' (sym (ap (λ (x : List ℕ). not (is_nil x)) (h.bytes f)) ∙ z)
+    go (inr z) =
+        by_bool (is_command (bus_of k) || is_data (bus_of k))
+        (λ f.
+        let none = no_message (bus_of k) (moving_lines (bus_of k) f) in
+        of_link (named_known s k n l (g.was.facts.named n g.stands g.calm re) el none.into none.out) (λ x e. open_before none x e (has_item k.story.sent.over x) refl))
+        (λ f. wrong' (sym (ap (λ (x : List ℕ). not (is_nil x)) (h.bytes f)) ∙ z))

@@ -5,9 +5,9 @@ use proofs.Names.{sym, ap, subst, same_Some, is_some, if◌then◌else◌, wrong
 use proofs.Names.{is_command, is_data, is_message_in, is_message_out, is_fault, receiver_in, Change, Connection, Row}
 use proofs.Names.{got_in, got_out, MsgIn, MsgOut, fresh_bytes, is_nil, ScenarioValue, events_link, RowReading}
 use proofs.Names.{row_reading, whole_in, whole_out, message_in, message_out, is_status_phase, row_events_by, Item}
-use proofs.Names.{process, abort, Link, LastMessage, plain, link_of, Story, aim_of, story_on_bus, story_by_change}
+use proofs.Names.{process, abort, Link, plain, link_of, Story, aim_of, story_on_bus, story_by_change}
 use proofs.Names.{story_after_connection, story_with_restored, story_with_sent, bytes_of_messages, phase_of, Phase}
-use proofs.Names.{RunState, bus_of, run_state, in_is_whole, in_connection, none_some, in_out, in_phase, out_phase}
+use proofs.Names.{RunState, bus_of, run_state, in_connection, in_is_whole, none_some, in_out, in_phase, out_phase}
 use proofs.Names.{heard_link, LinkAfter, says, hears, stays, link_crossed, link_still, last_or, LastBy, LastGiven}
 use proofs.Names.{still_stays, to_close, to_save, closed, OpenedValue, is_completion, with_all_out, with_out, with_part}
 use proofs.Names.{with_fault, with_in, with_in_if, with_phase, spoken, broken_off, data_parts, phase_parts, phase_over}

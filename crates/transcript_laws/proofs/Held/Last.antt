@@ -1,14 +1,14 @@
 -- COMMAND COMPLETE is the last message of a connection in the story where a transcript holds it.
 use Rattle.transcript_laws.proofs
 use proofs.Names.{ℕ, ◌≡◌, ◌∙◌, ◌⊎◌, inl, inr, Bool, true, false, not, ◌&&◌, ◌%◌, List, [], ◌∷◌, ◌++◌, Option, Some}
-use proofs.Names.{None, refl, sym, ap, same_Some, is_some, if◌then◌else◌, wrong, wrong', LineSet, changes_phase}
-use proofs.Names.{is_message_in, is_message_out, receiver_in, Change, Connection, Row, got_in, got_out, Got, MsgIn}
-use proofs.Names.{MsgOut, fresh_bytes, left_of, is_nil, reading_out, is_unknown, ScenarioValue, whole_in, whole_out}
-use proofs.Names.{message_in, message_out, Link, last_in, last_out, RunState, bus_of, run_state, in_is_whole, not_both}
-use proofs.Names.{Understanding, nothing_understood, understood_byte, form_messages, IsSpeaking, out_phase, in_out}
-use proofs.Names.{heard_link, LinkAfter, says, hears, stays, link_crossed, link_still, link_unbegun, out_last}
-use proofs.Names.{last_before, TalksBy, IsTaken, talk_of, OpenedValue, is_complete, messages_of, with_all_out, with_in}
-use proofs.{Names.{with_in_if, spoken, phase_over, Broken}, Opened.Bytes.{OpenedBytes, still_keeps, turned}}
+use proofs.Names.{None, refl, sym, ap, same_Some, is_some, if◌then◌else◌, wrong, wrong', and_second, and_first, LineSet}
+use proofs.Names.{changes_phase, is_message_in, is_message_out, receiver_in, Change, Connection, Row, got_in, got_out}
+use proofs.Names.{Got, MsgIn, MsgOut, fresh_bytes, left_of, is_nil, reading_out, is_unknown, ScenarioValue, whole_in}
+use proofs.Names.{whole_out, message_in, message_out, Link, last_in, last_out, RunState, bus_of, run_state, in_is_whole}
+use proofs.Names.{not_both, Understanding, nothing_understood, understood_byte, form_messages, IsSpeaking, out_phase}
+use proofs.Names.{in_out, by_bool, link_unbegun, TalksBy, IsTaken, talk_of, heard_link, LinkAfter, says, hears, stays}
+use proofs.Names.{link_crossed, link_still, out_last, last_before, OpenedValue, is_complete, messages_of, with_all_out}
+use proofs.{Names.{with_in, with_in_if, spoken, phase_over, Broken}, Opened.Bytes.{OpenedBytes, still_keeps, turned}}
 use proofs.Opened.Bytes.{CrossingMade, crossed_out, crossed_in, crossed_status, crossed_else, crossing_made, lines_same}
 use proofs.Opened.{Bytes.{out_same}, Rows.{Going, RowMade, made_still, made_crossing, made_turn, plain_before}}
 use proofs.{Opened.Rows.{knows_before}, Parts.Lists.{none_held}, Said.Words.{SaidWords, said_of}}
@@ -44,10 +44,6 @@ none_said u (b ∷ words) e f = go (got_out (u.half ++ b ∷ [])) refl (λ z. no
     first true y z w = wrong' z
     first false y z w = wrong' w
 
-    rest : (x y : Bool) → (x && y) ≡ true → y ≡ true
-    rest true y z = z
-    rest false y z = wrong' z
-
     go : (g : Got MsgOut) → got_out (u.half ++ b ∷ []) ≡ g
         → (form_messages (understood_byte u b) words ≡ true → said_of (left_of (got_out (u.half ++ b ∷ [])) (u.half ++ b ∷ [])) words ≡ [] → left_of (got_out (u.half ++ b ∷ [])) (u.half ++ b ∷ []) ++ words ≡ [])
         → u.half ++ b ∷ words ≡ []
@@ -58,7 +54,7 @@ none_said u (b ∷ words) e f = go (got_out (u.half ++ b ∷ [])) refl (λ z. no
     go Got.More is before =
         let tail : said_of (left_of (got_out (u.half ++ b ∷ [])) (u.half ++ b ∷ [])) words ≡ [] = ap (λ (x : Got MsgOut). messages_of (whole_out x) ++ said_of (left_of (got_out (u.half ++ b ∷ [])) (u.half ++ b ∷ [])) words) (sym is) ∙ f in
         let left : left_of (got_out (u.half ++ b ∷ [])) (u.half ++ b ∷ []) ≡ u.half ++ b ∷ [] = ap (λ (x : Got MsgOut). left_of x (u.half ++ b ∷ [])) is in
-        nested u.half b words (ap (λ (xs : List ℕ). xs ++ words) (sym left) ∙ before (rest (not (is_unknown (reading_out (got_out (u.half ++ b ∷ []))))) (form_messages (understood_byte u b) words) e) tail)
+        nested u.half b words (ap (λ (xs : List ℕ). xs ++ words) (sym left) ∙ before (and_second (not (is_unknown (reading_out (got_out (u.half ++ b ∷ []))))) (form_messages (understood_byte u b) words) e) tail)
       where
         nested : (xs : List ℕ) (x : ℕ) (ys : List ℕ) → (xs ++ x ∷ []) ++ ys ≡ [] → xs ++ x ∷ ys ≡ []
         nested [] x ys z = some_bytes [] x ys z
@@ -107,7 +103,7 @@ some_said s n k o speaks words here last none =
 pub left_none : (s : ScenarioValue) (p : List Row) (row : Row) (n : Connection) (g : Going s p row n) (o : OpenedValue) → SaidWords (run_state s p) n o
     → changes_phase g.going.change ≡ true → is_message_out g.going.change.before ≡ true → (spoken o).held ≡ None
 left_none s p row n g o words ep x =
-    let speaks = (g.was.stood.books.speaks n g.going.goes.row_is.connection_is g.going.goes.calm).in_message_out (begun k.exchange.begun refl) here in
+    let speaks = (g.was.stood.books.speaks n g.going.goes.row_is.connection_is g.going.goes.calm).in_message_out (by_bool k.exchange.begun (λ z. z) (λ z. wrong' (sym (unbegun_out s p row n g z) ∙ here))) here in
     gone_held o o.said (some_said s n k o speaks words here (left_last s p row n g ep x))
   where
     k : RunState
@@ -116,19 +112,9 @@ left_none s p row n g o words ep x =
     here : is_message_out (bus_of k) ≡ true
     here = ap is_message_out g.going.goes.row_is.bus_is ∙ x
 
-    begun : (q : Bool) → k.exchange.begun ≡ q → k.exchange.begun ≡ true
-    begun true z = z
-    begun false z = wrong' (sym (unbegun_out s p row n g z) ∙ here)
-
 last_same : (m : MsgIn) → story_of.is_complete (last_in m) ≡ is_complete (Some (Whole m))
 last_same MsgIn.CommandComplete = refl
-last_same MsgIn.SavePointer = refl
-last_same MsgIn.RestorePointers = refl
-last_same MsgIn.Disconnect = refl
-last_same (MsgIn.Identify lun) = refl
-last_same (MsgIn.SimpleTag tag) = refl
-last_same (MsgIn.Sdtr a) = refl
-last_same MsgIn.Reject = refl
+last_same _ = refl
 
 -- ---- row by row
 
@@ -165,9 +151,6 @@ held_row s p row n g o after (made_crossing dev ep er e) bytes words h = go (cro
     el : k.story.link ≡ Some l
     el = (knows_before s p row n g).link_is
 
-    on : bus_of k ≡ c.before
-    on = g.going.goes.row_is.bus_is
-
     lines : is_message_out (bus_of j) ≡ is_message_out (bus_of k)
     lines = out_same (bus_of k) (bus_of j) (lines_same s p row n g ep)
 
@@ -202,7 +185,7 @@ held_row s p row n g o after (made_crossing dev ep er e) bytes words h = go (cro
     go : CrossingMade o after k.story.bus_state.dialogue.is_last c.before (c.after.data_bits % 256) (message_out k.story.bus_state.dialogue c true) (message_in k.story.bus_state.dialogue c true)
         → LinkAfter s k.story l (message_out k.story.bus_state.dialogue c true) (message_in k.story.bus_state.dialogue c true) j.story.link → HeldLast j after
     go (crossed_out x f) (says m a link) = record {
-      same = λ no q eq. wrong (sym (lines ∙ ap is_message_out on ∙ x) ∙ no);
+      same = λ no q eq. wrong (sym (lines ∙ ap is_message_out g.going.goes.row_is.bus_is ∙ x) ∙ no);
       out = λ q eq z. wrong' (sym (out_last m l (last_before _ l t.last)) ∙ ap (λ (y : Link). story_of.is_complete y.last) (same_Some (record l { last = last_out m l }) q (sym link ∙ eq)) ∙ z);
     }
     go (crossed_out x f) (hears m a b link) = no_inc m (sym (no_in (in_out c.before x)) ∙ b)
@@ -274,17 +257,9 @@ held_row s p row n g o after (made_turn ep none ef e) bytes words h = go (is_mes
     go true x true y = wrong' (sym (λ i. in_out c.before x i && not (is_nil half)) ∙ y)
     go true x false y = by (incomplete (story_of.is_complete l.last) refl x ∙ sym (ap is_complete (held ∙ ap (λ (q : Bool). if q then Some Broken else (spoken o).held) y ∙ left_none s p row n g o words ep x)))
     go false x true y =
-        by (unended (story_of.is_complete l.last) refl (first_of (is_message_in c.before) (not (is_nil half)) y) (turned_of (is_nil half) (second_of (is_message_in c.before) (not (is_nil half)) y))
+        by (unended (story_of.is_complete l.last) refl (and_first (is_message_in c.before) (not (is_nil half)) y) (turned_of (is_nil half) (and_second (is_message_in c.before) (not (is_nil half)) y))
         ∙ sym (ap is_complete (held ∙ ap (λ (q : Bool). if q then Some Broken else (spoken o).held) y)))
       where
-        first_of : (a b : Bool) → (a && b) ≡ true → a ≡ true
-        first_of true b z = refl
-        first_of false b z = wrong' z
-
-        second_of : (a b : Bool) → (a && b) ≡ true → b ≡ true
-        second_of true b z = z
-        second_of false b z = wrong' z
-
         turned_of : (a : Bool) → not a ≡ true → a ≡ false
         turned_of true z = wrong' z
         turned_of false z = refl

@@ -9,13 +9,13 @@ use proofs.Names.{MsgIn, MsgOut, fresh_bytes, byte_out, byte_in, byte_else, left
 use proofs.Names.{Reading, is_unknown, ScenarioValue, whole_in, whole_out, message_in, message_out, is_status_phase}
 use proofs.Names.{carried_if, Item, process, abort, has_item, Link, last_out, Exchange, plan_anew, plan_after_message}
 use proofs.Names.{struck_plan, plan_in_message_out, Cause, RunState, bus_of, run_state, hearing_of, leaving}
-use proofs.Names.{in_is_known, in_io, not_both, InConnection, in_connection, SamePhase, Knows}
-use proofs.Names.{reading_in as row_reading_in, IsAboutToSpeak, is_selected, counted_row, turn_handshakes, in_phase}
-use proofs.Names.{message_line, out_in, in_out, out_line, out_lines, out_no_status, Grows, heard_link, LinkAfter, says}
-use proofs.Names.{hears, stays, link_crossed, over_after, link_still, Named, known, said, refused, IsServed}
-use proofs.Names.{OpenedValue, is_complete, is_completion, with_all_out, with_in, with_in_if, with_part, with_fault}
-use proofs.Names.{with_still_row, spoken, broken_off, data_parts, phase_entered, phase_over, Incoming, Broken, Part}
-use proofs.Names.{Command, Completion, StatusPhase, are_talk, base_parts, is_known, is_broken}
+use proofs.Names.{InConnection, in_connection, SamePhase, in_is_known, in_io, not_both, Knows}
+use proofs.Names.{reading_in as row_reading_in, IsAboutToSpeak, is_selected, in_phase, message_line, out_in, in_out}
+use proofs.Names.{out_line, out_lines, out_no_status, by_bool, IsServed, Grows, heard_link, LinkAfter, says, hears}
+use proofs.Names.{stays, link_crossed, over_after, link_still, Named, known, said, refused, counted_row}
+use proofs.Names.{turn_handshakes, OpenedValue, is_complete, is_completion, with_all_out, with_in, with_in_if}
+use proofs.Names.{with_part, with_fault, with_still_row, spoken, broken_off, data_parts, phase_entered, phase_over}
+use proofs.Names.{Incoming, Broken, Part, Command, Completion, StatusPhase, are_talk, base_parts, is_known, is_broken}
 use proofs.{Fits.Turns.{item_served}, Held.Last.{HeldLast, still_held, over_held}, Opened.Bytes.{OpenedBytes}}
 use proofs.Opened.Bytes.{KeepsTalk, still_keeps, turned, CrossingMade, crossed_out, crossed_in, crossed_status}
 use proofs.Opened.Bytes.{crossed_else, crossing_made, lines_same, out_same, in_same, begun_same, begun_crossing}
@@ -23,7 +23,7 @@ use proofs.{Opened.Rows.{Going, RowMade, made_still, made_crossing, made_turn, k
 use proofs.Talks.Named.{TalkNamed, base_talk, in_talk, turn_talk}
 use Rattle.bus_due.specs.bus_phases.specs.Reading.{reading_in}
 use Rattle.bus_transcript.specs.declared.part.Incoming.TheVariants.{Whole}
-use Rattle.progress_laws.specs.trace_laws.specs.Tells.{of_process, of_abort}
+use Rattle.progress_laws.specs.row_laws.specs.Tells.{of_process, of_abort}
 use Rattle.bus_due.specs.bus_story.specs.HistoryEvents as story_of
 
 -- In MESSAGE IN, with no message half heard, once a byte has crossed; and in a MESSAGE OUT that follows.
@@ -141,7 +141,10 @@ known_process s p row n g o l bytes named el begun here kn = go l.item refl (som
 pub since_still : (s : ScenarioValue) (p : List Row) (row : Row) (n : Connection) (g : Going s p row n) (o after : OpenedValue) → changes_phase g.going.change ≡ false
     → is_some (receiver_in n g.going.change) ≡ false → after ≡ with_still_row o (run_state s p).story.bus_state g.going.change row.kind → HeldLast (run_state s p) o
     → OpenedBytes (run_state s p) n o → TalkNamed (run_state s p) n o → HeldSince (run_state s p) o → HeldSince (run_state s (row ∷ p)) after
-since_still s p row n g o after ep none e last bytes named h = go (is_completion o k.story.bus_state.dialogue.half c) refl
+since_still s p row n g o after ep none e last bytes named h =
+    by_bool (is_completion o k.story.bus_state.dialogue.half c)
+    (λ z. taken z)
+    (λ z. quiet z)
   where
     k : RunState
     k = run_state s p
@@ -310,10 +313,6 @@ since_still s p row n g o after ep none e last bytes named h = go (is_completion
           where
             not_nil : (v : Part) (zs : List Part) → v ∷ zs ≡ [] → ⊥
             not_nil v zs q = cc
-
-    go : (q : Bool) → is_completion o k.story.bus_state.dialogue.half c ≡ q → HeldSince j after
-    go true z = taken z
-    go false z = quiet z
 
 -- A byte that crosses.
 pub since_crossing : (s : ScenarioValue) (p : List Row) (row : Row) (n : Connection) (g : Going s p row n) (o after : OpenedValue) (dev : ℕ) → changes_phase g.going.change ≡ false

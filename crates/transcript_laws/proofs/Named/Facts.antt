@@ -7,7 +7,7 @@ use proofs.Names.{Handshakes, no_handshakes, MsgIn, ScenarioValue, Obeys, row_re
 use proofs.Names.{aim_of, no_messages, bytes_of_messages, first_plan, naming_messages, is_naming, Plan, run_state_plain}
 use proofs.Names.{IsPrompt, IsPlain, RunState, bus_of, process_item, run_state, exchange_after, leaving_of}
 use proofs.Names.{served_after, item_if, may_negotiate, messages_if, ready_of, obeys_fits, units_are, in_connection}
-use proofs.Names.{AreGiven, OnMessage, IsNoName, half_after, Begins, IsReadyFor, beginning, items_found, Whole}
+use proofs.Names.{AreGiven, OnMessage, IsNoName, half_after, Begins, IsReadyFor, by_bool, beginning, items_found, Whole}
 use proofs.Names.{no_summary, OpenedValue, opened_connection, transcribed, are_talk, base_parts, out_parts, parts_now}
 use proofs.{Names.{summary_by, name_process, is_named}, Fits.Named.{Standing, standing, item_is_served, served_process}}
 use proofs.Named.Heard.{ins_of, heard_names, AreNames, again_abort, names_of_parts, none_said, says_name, repeats_name}
@@ -127,11 +127,10 @@ again_names s p n o id q h since re sv of was = record {
     mild = h.names.again re
 
     talking : is_naming k.exchange.plan.messages.first ≡ true → (are_talk (parts_now o) || name_process s n (parts_now o) id) ≡ true
-    talking e = go (are_talk (base_parts o)) refl
-      where
-        go : (r : Bool) → are_talk (base_parts o) ≡ r → (are_talk (parts_now o) || name_process s n (parts_now o) id) ≡ true
-        go true z = ap (λ (x : Bool). x || name_process s n (parts_now o) id) (talk_more (base_parts o) (out_parts o.said) ∙ (λ i. z i && outs_talk o.said i))
-        go false z = no_names k.exchange.plan.messages.first (h.names.all.named.nameless re z).0 e
+    talking e =
+        by_bool (are_talk (base_parts o))
+        (λ z. ap (λ (x : Bool). x || name_process s n (parts_now o) id) (talk_more (base_parts o) (out_parts o.said) ∙ (λ i. z i && outs_talk o.said i)))
+        (λ z. no_names k.exchange.plan.messages.first (h.names.all.named.nameless re z).0 e)
 
     by : AgainNames q k o → (are_talk (parts_now o) || name_process s n (parts_now o) id) ≡ true
     by (saying e here says) = talking (says_name q k.exchange.plan.messages k.handshakes.requests k.story.bus_state.dialogue.half (ins_of o.parts) (ins_held o) says)

@@ -103,14 +103,8 @@ pub record AreNames (a : Summary) (q : Process) : Type 0 where
   pub awaits : a.awaits_tag ≡ true → tag_number q.tag ≡ None
 
 no_tag : (m : MsgIn) → is_name m ≡ false → tag_in m ≡ None
-no_tag MsgIn.CommandComplete e = refl
-no_tag MsgIn.SavePointer e = refl
-no_tag MsgIn.RestorePointers e = refl
-no_tag MsgIn.Disconnect e = refl
-no_tag (MsgIn.Identify lun) e = refl
 no_tag (MsgIn.SimpleTag tag) e = wrong e
-no_tag (MsgIn.Sdtr offer) e = refl
-no_tag MsgIn.Reject e = refl
+no_tag _ e = refl
 
 -- They stay with any message that is no name.
 pub names_stay : (a : Summary) (q : Process) (m : MsgIn) → is_name m ≡ false → AreNames a q → AreNames (named a (unit_in m) (tag_in m)) q

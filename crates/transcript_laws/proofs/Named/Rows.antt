@@ -7,15 +7,15 @@ use proofs.Names.{rises, changes_phase, is_message_in, is_message_out, is_fault,
 use proofs.Names.{got_in, got_out, MsgIn, MsgOut, byte_in, byte_out, byte_else, left_of, reading_out, Dialogue, Reading}
 use proofs.Names.{is_unknown, ScenarioValue, whole_in, message_in, message_out, is_parity_error, Exchange}
 use proofs.Names.{bytes_of_messages, plan_after_message, struck_plan, Cause, Messages, Next, RunState, bus_of}
-use proofs.Names.{run_state, in_is_known, counted, few_messages, in_io, InConnection, in_connection, SamePhase}
-use proofs.Names.{OnMessages, IsNoName, IsSpeaking, counted_row, in_out, on_message, no_summary, OpenedValue, held_part}
-use proofs.{Names.{with_in_if, Incoming, is_void, base_parts}, Fits.Crossings.{whole_on}, Held.Since.{IsHeardIn}}
-use proofs.{Held.Since.{IsAnswering, none_half}, Named.Heard.{ins_of, heard_names, heard_append, AreNames, names_stay}}
-use proofs.Named.{Heard.{Says, Repeats, settled_with, held_with, says_on}, Parts.{ins_held, heard_parts, heard_held}}
-use proofs.{Named.Parts.{base_names, void_names}, Opened.Bytes.{KeepsTalk, CrossingMade, crossed_out, crossed_in}}
-use proofs.Opened.Bytes.{crossed_status, crossed_else, lines_same, out_same, in_same, begun_same, begun_crossing}
-use proofs.{Opened.Rows.{Going}, Said.{Facts.{Speaking, IsOpened, words_front}, Out.{SaysParity, refusing}}}
-use proofs.Said.Out.{plain_words, says_parity, is_plain_said}
+use proofs.Names.{run_state, InConnection, in_connection, SamePhase, in_is_known, counted, few_messages, in_io}
+use proofs.Names.{OnMessages, IsNoName, IsSpeaking, in_out, by_bool, on_message, counted_row, no_summary, OpenedValue}
+use proofs.{Names.{held_part, with_in_if, Incoming, is_void, base_parts}, Fits.Crossings.{whole_on}}
+use proofs.{Held.Since.{IsHeardIn, IsAnswering, none_half}, Named.Heard.{ins_of, heard_names, heard_append, AreNames}}
+use proofs.Named.{Heard.{names_stay, Says, Repeats, settled_with, held_with, says_on}, Parts.{ins_held, heard_parts}}
+use proofs.{Named.Parts.{heard_held, base_names, void_names}, Opened.Bytes.{KeepsTalk, CrossingMade, crossed_out}}
+use proofs.Opened.Bytes.{crossed_in, crossed_status, crossed_else, lines_same, out_same, in_same, begun_same}
+use proofs.{Opened.{Bytes.{begun_crossing}, Rows.{Going}}, Said.Facts.{Speaking, IsOpened, words_front}}
+use proofs.Said.Out.{SaysParity, refusing, plain_words, says_parity, is_plain_said}
 use Rattle.bus_due.specs.bus_phases.specs.Reading.{reading_in}
 use Rattle.bus_due.specs.disk_array.specs.Processes.{Process}
 
@@ -65,11 +65,10 @@ void_answers s k n o h op void = go (is_message_out (bus_of k)) refl
 -- Of the parts so far, whether what is held is void or not.
 pub told_now : (s : ScenarioValue) (q : Process) (k : RunState) (n : Connection) (o : OpenedValue) → Speaking s k n o → IsOpened k → ins_of o.since ≡ [] → AreTold q k o
     → AreNames (heard_names no_summary (ins_of (base_parts o))) q
-told_now s q k n o h op since t = go (is_void o.said) refl
-  where
-    go : (v : Bool) → is_void o.said ≡ v → AreNames (heard_names no_summary (ins_of (base_parts o))) q
-    go true e = subst (λ (x : List MsgIn). AreNames (heard_names no_summary x) q) (sym (void_names o since e)) (t.answered (void_answers s k n o h op e))
-    go false e = subst (λ (x : List MsgIn). AreNames (heard_names no_summary x) q) (sym (base_names o since e)) t.full
+told_now s q k n o h op since t =
+    by_bool (is_void o.said)
+    (λ e. subst (λ (x : List MsgIn). AreNames (heard_names no_summary x) q) (sym (void_names o since e)) (t.answered (void_answers s k n o h op e)))
+    (λ e. subst (λ (x : List MsgIn). AreNames (heard_names no_summary x) q) (sym (base_names o since e)) t.full)
 
 -- ---- no byte crosses, and no phase is left
 
@@ -89,9 +88,6 @@ again_still s p row n g o after q ep none keeps was = by was
     i : InConnection s k row n c false false (is_fault row.kind)
     i = in_connection s k row n c false false (is_fault row.kind) g.going.goes.row_is ep none refl
 
-    on : bus_of k ≡ c.before
-    on = g.going.goes.row_is.bus_is
-
     lines : SamePhase (bus_of k) (bus_of j)
     lines = lines_same s p row n g ep
 
@@ -105,7 +101,7 @@ again_still s p row n g o after q ep none keeps was = by was
     held = ap (λ (x : Option Incoming). ins_of (held_part x)) keeps.held
 
     same_requests : is_message_in (bus_of k) ≡ true → j.handshakes.requests ≡ k.handshakes.requests
-    same_requests here = (counted_row s p row n c g.inside g.was.stood.standing.devices g.going.goes ep).requests ∙ same (rises c.before.req c.after.req) (up c.before.io (rises c.before.req c.after.req) (rises c.before.ack c.after.ack) (in_io c.before (ap is_message_in (sym on) ∙ here)) none)
+    same_requests here = (counted_row s p row n c g.inside g.was.stood.standing.devices g.going.goes ep).requests ∙ same (rises c.before.req c.after.req) (up c.before.io (rises c.before.req c.after.req) (rises c.before.ack c.after.ack) (in_io c.before (ap is_message_in (sym g.going.goes.row_is.bus_is) ∙ here)) none)
       where
         same : (r : Bool) → r ≡ false → (if r then counted_on k.handshakes.requests else k.handshakes.requests) ≡ k.handshakes.requests
         same true z = wrong z

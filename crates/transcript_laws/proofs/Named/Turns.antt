@@ -5,19 +5,19 @@ use proofs.Names.{◌-◌, ◌==◌, is_some, if◌then◌else◌, wrong, wrong'
 use proofs.Names.{is_message_out, is_fault, receiver_in, Change, Connection, Row, Handshakes, out_bytes, MsgIn, MsgOut}
 use proofs.Names.{is_nil, Dialogue, ScenarioValue, policy_of, Exchange, from_byte, plan_anew, Serving, phase_of}
 use proofs.Names.{phase_entry, phase_leaving, message_repetition, message_out_leaving, after_messages, next_data_phase}
-use proofs.Names.{with_task, plan_in_message_out, Cause, Leaving, Messages, Next, Phase, Plan, Said, Task, IsPlain}
-use proofs.Names.{RunState, bus_of, run_state, serving_of, hearing_of, leaving, InConnection, in_connection, OnMessages}
-use proofs.Names.{LeavesWhole, is_out_phase, is_in_phase, IsNoName, reading_in, turn_handshakes, is_command_next}
-use proofs.Names.{in_phase, out_phase, in_out, out_in, stage_of_connection, link_phase, is_in_message, in_lines}
-use proofs.Names.{refusal_is, all_said, parity_said, left_is, out_by_phase, IsHeardOut, repeats, answers_it, detects}
-use proofs.Names.{is_detected, no_summary, OpenedValue, phase_entered, phase_over, is_void, base_parts}
+use proofs.Names.{with_task, plan_in_message_out, Cause, Leaving, Messages, Next, Phase, Plan, Said, Task, RunState}
+use proofs.Names.{bus_of, run_state, serving_of, hearing_of, leaving, InConnection, in_connection, OnMessages}
+use proofs.Names.{LeavesWhole, is_out_phase, is_in_phase, IsNoName, reading_in, in_phase, out_phase, in_out, out_in}
+use proofs.Names.{by_bool, stage_of_connection, link_phase, is_in_message, IsHeardOut, repeats, answers_it, detects}
+use proofs.Names.{is_detected, is_command_next, in_lines, refusal_is, all_said, parity_said, left_is, out_by_phase}
+use proofs.Names.{turn_handshakes, no_summary, OpenedValue, phase_entered, phase_over, is_void, base_parts}
 use proofs.{Held.Since.{IsHeardIn, IsAnswering, follows_in}, Named.Heard.{ins_of, heard_names, AreNames, Says, Repeats}}
 use proofs.Named.{Heard.{says_again, names_said, repeats_from, repeats_name, settled_half}, Parts.{ins_held}}
 use proofs.Named.{Parts.{base_names, turned_names, in_turned, void_turned}, Rows.{AreTold, AgainNames, saying, refused}}
 use proofs.{Named.Rows.{known, told_now}, Opened.{Facts.{OpenedAll}, Rows.{Going, plain_before}}, Said.Facts.{Speaking}}
 use proofs.{Said.{Facts.{IsOpened}, Out.{said_one}, Words.{said_of}}, Talks.Named.{known_plan}}
 use Rattle.bus_due.specs.disk_array.specs.Processes.{Process}
-use Rattle.progress_laws.specs.trace_laws.specs.Offers.{opens}
+use Rattle.progress_laws.specs.row_laws.specs.Offers.{opens}
 
 -- ---- how MESSAGE IN and MESSAGE OUT are left
 
@@ -67,9 +67,6 @@ again_turn s p row n g o after q ep none ef e all sp op since since' was = by wa
     on : bus_of k ≡ c.before
     on = g.going.goes.row_is.bus_is
 
-    pl : IsPlain s p k
-    pl = plain_before s p row n g
-
     leaves : LeavesWhole s k n
     leaves = g.going.goes.leaves (ap changes_phase g.going.goes.row_is.change_is ∙ ep)
 
@@ -87,7 +84,7 @@ again_turn s p row n g o after q ep none ef e all sp op since since' was = by wa
     there z = ap (λ (x : Change). x.after.cd) g.going.change_is ∙ (link_phase s (row ∷ p) n (stage_of_connection s (row ∷ p) n g.now.stood g.after g.calm_after) (ap (λ (x : Change). x.after.msg) (sym g.going.change_is) ∙ z)).0
 
     whereto : l.to ≡ Some (phase_of c.after)
-    whereto = g.going.lines.whereto (ap changes_phase g.going.lines_are ∙ ep) (sym pl.begun ∙ op.begun) ∙ ap (λ (x : Change). Some (phase_of x.after)) g.going.lines_are
+    whereto = g.going.lines.whereto (ap changes_phase g.going.lines_are ∙ ep) (sym (plain_before s p row n g).begun ∙ op.begun) ∙ ap (λ (x : Change). Some (phase_of x.after)) g.going.lines_are
 
     left : l ≡ phase_leaving (serving_of s k n.target) c.before.atn (phase_of c.before)
     left = left_is s k n c on op.begun
@@ -197,13 +194,12 @@ again_turn s p row n g o after q ep none ef e all sp op since since' was = by wa
             subst (λ (v : List MsgIn). AreNames (heard_names no_summary v) q) (sym (in_parts f.1 ∙ ap (λ (x : Bool). if x then ins_of o.parts else ins_of o.parts ++ ins_held o) r)) t.full
 
     by : AgainNames q k o → AgainNames q j after
-    by (saying en here says) = go (is_message_out c.after) refl
+    by (saying en here says) =
+        by_bool (is_message_out c.after)
+        (λ x. refuses y en says x)
+        (λ x. tells y en says x c.before.atn refl)
       where
         y : is_message_in c.before ≡ true
         y = ap is_message_in (sym on) ∙ here
-
-        go : (r : Bool) → is_message_out c.after ≡ r → AgainNames q j after
-        go true x = refuses y en says x
-        go false x = tells y en says x c.before.atn refl
     by (refused en here ec repeats_here) = repeated (ap is_message_out (sym on) ∙ here) en ec repeats_here
     by (known nameless t) = stay nameless t

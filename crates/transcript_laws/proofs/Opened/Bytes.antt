@@ -8,8 +8,8 @@ use proofs.Names.{RunState, bus_of, run_state, reading_is, in_connection, SamePh
 use proofs.Names.{OpenedValue, with_part, with_in_if, with_said, with_crossing, with_fault, is_completion}
 use proofs.{Names.{with_still_row, phase_entered, phase_over, Completion, StatusPhase, Status}, Opened.Rows.{Going}}
 use proofs.{Opened.Rows.{RowMade, made_still, made_crossing, made_turn, Holds}, Parts.Lists.{over_keeps}}
-pub use Rattle.progress_laws.specs.bus_books.proofs.Gives.{in_same}
-pub use Rattle.progress_laws.specs.bus_books.proofs.Speaks.{out_same}
+pub use Rattle.progress_laws.specs.bus_books.proofs.Given.Rows.{in_same}
+pub use Rattle.progress_laws.specs.bus_books.proofs.Said.Rows.{out_same}
 
 pub record OpenedBytes (k : RunState) (n : Connection) (o : OpenedValue) : Type 0 where
   pub connection_is : o.connection ≡ n
@@ -67,10 +67,6 @@ crossing_made o after w n c e = go (is_message_out c.before) (is_message_in c.be
 
     into : Option MsgIn
     into = message_in w.dialogue c true
-
-    chosen : Bool → Bool → Bool → OpenedValue
-    chosen x y z =
-        if x then with_said o w.dialogue.is_last out else if y then with_in_if o into else if z then with_part o (Status byte) else record o { bytes = o.bytes ++ byte ∷ [] }
 
     go : (x y z : Bool) → is_message_out c.before ≡ x → is_message_in c.before ≡ y → is_status_phase c.before ≡ z → CrossingMade o after w.dialogue.is_last c.before byte out into
     go true y z f g h = crossed_out f (e ∙ (λ i. if f i then with_said o w.dialogue.is_last out else if is_message_in c.before then with_in_if o into else if is_status_phase c.before then with_part o (Status byte) else record o { bytes = o.bytes ++ byte ∷ [] }))

@@ -5,10 +5,10 @@ use proofs.Names.{is_some, if◌then◌else◌, change_of, changes_phase, is_mes
 use proofs.Names.{connection_after, receiver_in, bus, Change, Connection, Row, no_handshakes, ScenarioValue, Obeys}
 use proofs.Names.{BusState, RowReading, row_reading, run_state_plain, IsPrompt, IsPlain, RunState, bus_of, run_state}
 use proofs.Names.{reading_is, Knows, RowKind, still, strikes, crosses, turns, reading_in, change_plain, least_is}
-use proofs.Names.{BeginsConnection, by_selection, by_reselection, first_handshakes, none_some, ConnectionRow}
-use proofs.Names.{connection_row, GoingRow, going_row, RowKindOf, begins_now, goes_now, row_kind, Whole, whole}
-use proofs.Names.{standing_next, OpenedValue, opened_connection, with_crossing, phase_entered, phase_over}
-use proofs.{Names.{with_still_row, with_row, transcribed}, Standing.Opened.{opened_first, was_opened}}
+use proofs.Names.{BeginsConnection, by_selection, by_reselection, none_some, ConnectionRow, connection_row, GoingRow}
+use proofs.Names.{going_row, RowKindOf, begins_now, goes_now, row_kind, first_handshakes, Whole, whole, standing_next}
+use proofs.Names.{OpenedValue, opened_connection, with_crossing, phase_entered, phase_over, with_still_row, with_row}
+use proofs.{Names.{transcribed}, Standing.Opened.{opened_first, was_opened}}
 
 -- ---- a row with which a connection goes on
 
@@ -48,7 +48,7 @@ going_at s p row n o prompt con off after calm =
 
 -- What is known of the states before it and after it.
 pub plain_before : (s : ScenarioValue) (p : List Row) (row : Row) (n : Connection) → Going s p row n → IsPlain s p (run_state s p)
-plain_before s p row n g = run_state_plain s p g.was.stood.standing.devices
+plain_before s p row n g = g.was.stood.plain
 
 pub knows_before : (s : ScenarioValue) (p : List Row) (row : Row) (n : Connection) → Going s p row n → Knows s (run_state s p) n
 knows_before s p row n g = g.was.stood.books.knows n g.going.goes.row_is.connection_is g.going.goes.calm
@@ -124,7 +124,7 @@ always s q o h (row ∷ p) prompt n con calm k there = go (row_kind s p row n o 
     now = whole s (row ∷ p) o prompt
 
     pl : IsPlain s p (run_state s p)
-    pl = run_state_plain s p was.stood.standing.devices
+    pl = was.stood.plain
 
     d : RowReading
     d = row_reading (run_state s p).story.bus_state row

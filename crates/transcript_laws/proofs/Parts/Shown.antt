@@ -55,13 +55,7 @@ cdb_whole a (b ∷ bytes) = refl
 
 in_items : (a : AccountValue) (m : MsgIn) → (after_in a m).items ≡ a.items
 in_items a MsgIn.CommandComplete = refl
-in_items a MsgIn.SavePointer = refl
-in_items a MsgIn.RestorePointers = refl
-in_items a MsgIn.Disconnect = refl
-in_items a (MsgIn.Identify lun) = refl
-in_items a (MsgIn.SimpleTag tag) = refl
-in_items a (MsgIn.Sdtr offer) = refl
-in_items a MsgIn.Reject = refl
+in_items a _ = refl
 
 pub part_more : (refused : List Name) (a : AccountValue) (part : Part) → ShowsMore refused a (account_after a part) (part_shown refused a part)
 part_more refused a (Part.Out m) = item_more refused a (Item.Out m) refl
@@ -94,11 +88,7 @@ talk_shown : (refused : List Name) (a : AccountValue) (part : Part) → is_talk 
 talk_shown refused a (Part.Out m) e = refl
 talk_shown refused a (Part.In m) e = refl
 talk_shown refused a Part.BrokenOff e = refl
-talk_shown refused a (Part.Command bytes struck left) e = wrong' e
-talk_shown refused a (Part.Data out bytes) e = wrong' e
-talk_shown refused a Part.StatusPhase e = wrong' e
-talk_shown refused a (Part.Status byte) e = wrong' e
-talk_shown refused a Part.Completion e = wrong' e
+talk_shown refused a _ e = wrong' e
 
 pub talk_more : (refused : List Name) (a : AccountValue) (parts : List Part) → are_talk parts ≡ true → ShowsMore refused a (account_after_all a parts) []
 talk_more refused a [] e = none_more refused a a refl

@@ -60,14 +60,8 @@ any_later t [] history e = e
 any_later t (x ∷ conn) history e = or_right (t x) (list_any t (conn ++ history)) (any_later t conn history e)
 
 one_refusal : (sent : List told.Item) (event : Event) (id : ProcId) → IsEventSent sent event → is_refusal id event ≡ true → has_item sent (process id) ≡ true
-one_refusal sent (Event.Accept x) id known e = wrong' e
 one_refusal sent (Event.Refuse x) id known e = ap (λ (y : ProcId). has_item sent (process y)) (sym (id_is x id e)) ∙ known
-one_refusal sent (Event.Run x) id known e = wrong' e
-one_refusal sent (Event.Fail x code) id known e = wrong' e
-one_refusal sent (Event.End x status) id known e = wrong' e
-one_refusal sent (Event.Lost x) id known e = wrong' e
-one_refusal sent (Event.Aborted host target unit what) id known e = wrong' e
-one_refusal sent (Event.Reset dev) id known e = wrong' e
+one_refusal sent _ id known e = wrong' e
 
 refusal_sent : (sent : List told.Item) (list : List Event) (id : ProcId) → AreEventsSent sent list → has_refusal list id ≡ true → has_item sent (process id) ≡ true
 refusal_sent sent [] id known e = wrong' e
@@ -79,14 +73,9 @@ refusal_sent sent (event ∷ list) id known e = go (is_refusal id event) refl e 
     go false f z rest = rest z
 
 one_answer : (sent : List told.Item) (event : Event) (id : ProcId) → IsEventSent sent event → is_answer id event ≡ true → has_item sent (process id) ≡ true
-one_answer sent (Event.Accept x) id known e = wrong' e
-one_answer sent (Event.Refuse x) id known e = wrong' e
 one_answer sent (Event.Run x) id known e = ap (λ (y : ProcId). has_item sent (process y)) (sym (id_is x id e)) ∙ known
 one_answer sent (Event.Fail x code) id known e = ap (λ (y : ProcId). has_item sent (process y)) (sym (id_is x id e)) ∙ known
-one_answer sent (Event.End x status) id known e = wrong' e
-one_answer sent (Event.Lost x) id known e = wrong' e
-one_answer sent (Event.Aborted host target unit what) id known e = wrong' e
-one_answer sent (Event.Reset dev) id known e = wrong' e
+one_answer sent _ id known e = wrong' e
 
 answer_sent : (sent : List told.Item) (list : List Event) (id : ProcId) → AreEventsSent sent list → has_answer list id ≡ true → has_item sent (process id) ≡ true
 answer_sent sent [] id known e = wrong' e

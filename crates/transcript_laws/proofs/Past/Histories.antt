@@ -1,21 +1,17 @@
 -- Where all connections show their events, the transcript has the events of the history.
 use Rattle.transcript_laws.proofs
 use proofs.Names.{◌≡◌, ◌∙◌, Bool, true, false, ◌||◌, List, [], ◌∷◌, ◌++◌, reverse, Option, Some, None, refl, sym, ap}
-use proofs.Names.{or_right, reverse-append, flat_map, list_any, wrong', Event, ProcId, Row, ScenarioValue, story}
-use proofs.Names.{trace_history, self_id, id_is, name_same, same_name, names_begun, name_sent, named_if, refused_name}
-use proofs.Names.{refused_names, TellsHistory, transcript_of, Name, IsPast, AreApart, is_refusal, has_refusal}
-use proofs.{Names.{is_listed}, Processes.Sent.{or_turned}}
+use proofs.Names.{or_right, reverse-append, flat_map, list_any, wrong', or_later, Event, ProcId, Row, ScenarioValue}
+use proofs.Names.{story, trace_history, self_id, id_is, name_same, same_name, names_begun, name_sent, named_if}
+use proofs.Names.{refused_name, refused_names, TellsHistory, transcript_of, Name, IsPast, AreApart, is_refusal}
+use proofs.{Names.{has_refusal, is_listed}, Processes.Sent.{or_turned}}
 use Rattle.bus_due.specs.bus_story.specs.Items as told
 
 -- ---- lists
 
 any_append : {T : Type 0} (t : T → Bool) (xs ys : List T) → list_any t (xs ++ ys) ≡ (list_any t xs || list_any t ys)
 any_append t [] ys = refl
-any_append t (x ∷ xs) ys = ap (λ (q : Bool). t x || q) (any_append t xs ys) ∙ in_turn (t x) (list_any t xs) (list_any t ys)
-  where
-    in_turn : (a b c : Bool) → (a || (b || c)) ≡ ((a || b) || c)
-    in_turn true b c = refl
-    in_turn false b c = refl
+any_append t (x ∷ xs) ys = ap (λ (q : Bool). t x || q) (any_append t xs ys) ∙ or_later (t x) (list_any t xs) (list_any t ys)
 
 any_reverse : (t : Event → Bool) (xs : List Event) → list_any t (reverse xs) ≡ list_any t xs
 any_reverse t [] = refl
@@ -29,15 +25,9 @@ any_reverse t (x ∷ xs) =
 
 one_listed : (sent : List told.Item) (names : List Name) (event : Event) (id : ProcId) (name : Name) → is_refusal id event ≡ true
     → name_sent sent names id ≡ Some name → is_listed (refused_name sent names event) name ≡ true
-one_listed sent names (Event.Accept x) id name e named = wrong' e
 one_listed sent names (Event.Refuse x) id name e named =
     ap (λ (n : Option Name). is_listed (named_if n) name) (ap (λ (y : ProcId). name_sent sent names y) (id_is x id e) ∙ named) ∙ ap (λ (q : Bool). q || false) (name_same name)
-one_listed sent names (Event.Run x) id name e named = wrong' e
-one_listed sent names (Event.Fail x code) id name e named = wrong' e
-one_listed sent names (Event.End x status) id name e named = wrong' e
-one_listed sent names (Event.Lost x) id name e named = wrong' e
-one_listed sent names (Event.Aborted host target unit what) id name e named = wrong' e
-one_listed sent names (Event.Reset dev) id name e named = wrong' e
+one_listed sent names _ id name e named = wrong' e
 
 listed : (sent : List told.Item) (names : List Name) (list : List Event) (id : ProcId) (name : Name) → has_refusal list id ≡ true
     → name_sent sent names id ≡ Some name → is_listed (flat_map (λ event. refused_name sent names event) list) name ≡ true
@@ -61,14 +51,8 @@ unnamed (Some a) name other = ap (λ (q : Bool). q || false) (other a refl)
 
 one_unlisted : (sent : List told.Item) (names : List Name) (event : Event) (name : Name) → IsOther sent names (event ∷ []) name
     → is_listed (refused_name sent names event) name ≡ false
-one_unlisted sent names (Event.Accept x) name other = refl
 one_unlisted sent names (Event.Refuse x) name other = unnamed (name_sent sent names x) name (λ a e. other x a (ap (λ (q : Bool). q || false) (self_id x)) e)
-one_unlisted sent names (Event.Run x) name other = refl
-one_unlisted sent names (Event.Fail x code) name other = refl
-one_unlisted sent names (Event.End x status) name other = refl
-one_unlisted sent names (Event.Lost x) name other = refl
-one_unlisted sent names (Event.Aborted host target unit what) name other = refl
-one_unlisted sent names (Event.Reset dev) name other = refl
+one_unlisted sent names _ name other = refl
 
 or_left : (p q : Bool) → (p || false) ≡ true → (p || q) ≡ true
 or_left true q e = refl

@@ -34,14 +34,9 @@ own_named sent names id name (event ∷ list) e named =
     λ i. (sym (append-nil _) ∙ one_named sent names id name event e.0 named ∙ append-nil (items_named name event)) i ++ own_named sent names id name list e.1 named i
 
 one_sent : (sent : List told.Item) (id : ProcId) (event : Event) → has_item sent (process id) ≡ true → IsOwnEvent id event → IsEventSent sent event
-one_sent sent id (Event.Accept x) has e = ap (λ (y : ProcId). has_item sent (process y)) e ∙ has
-one_sent sent id (Event.Refuse x) has e = ap (λ (y : ProcId). has_item sent (process y)) e ∙ has
-one_sent sent id (Event.Run x) has e = ap (λ (y : ProcId). has_item sent (process y)) e ∙ has
-one_sent sent id (Event.Fail x code) has e = ap (λ (y : ProcId). has_item sent (process y)) e ∙ has
-one_sent sent id (Event.End x status) has e = ap (λ (y : ProcId). has_item sent (process y)) e ∙ has
-one_sent sent id (Event.Lost x) has e = ap (λ (y : ProcId). has_item sent (process y)) e ∙ has
 one_sent sent id (Event.Aborted host target unit what) has e = absurd e
 one_sent sent id (Event.Reset dev) has e = absurd e
+one_sent sent id _ has e = ap (λ (y : ProcId). has_item sent (process y)) e ∙ has
 
 own_sent : (sent : List told.Item) (id : ProcId) (list : List Event) → has_item sent (process id) ≡ true → AreOwnEvents id list → AreEventsSent sent list
 own_sent sent id [] has e = tt

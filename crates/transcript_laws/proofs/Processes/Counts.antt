@@ -2,10 +2,10 @@
 use Rattle.transcript_laws.proofs
 use proofs.Names.{ℕ, zero, suc, ◌≡◌, ◌∙◌, ◌+◌, ◌≤◌, Bool, true, false, List, [], ◌∷◌, ◌++◌, length, Option, Some, None}
 use proofs.Names.{refl, sym, ap, subst, arith, ◌||◌, or_left, length-append, same_Some, if◌then◌else◌, ⊤, wrong, wrong'}
-use proofs.Names.{or_true, ProcId, connection, connection_after, Row, ScenarioValue, Obeys, AbortDef, CmdDef, none_at}
-use proofs.Names.{command_at, process_if, row_reading, abort_line_at, Item, process, abort, same_item, has_item}
-use proofs.Names.{command_item, sense_item, run_state_plain, IsPrompt, IsPlain, RunState, run_state, obeys_fits}
-use proofs.Names.{aims_are, IsItem, is_process, change_plain, least_is, none_some, items_fresh, item_is, own_has}
+use proofs.Names.{or_true, plus_none, ProcId, connection, connection_after, Row, ScenarioValue, Obeys, AbortDef, CmdDef}
+use proofs.Names.{none_at, command_at, process_if, row_reading, abort_line_at, Item, process, abort, same_item}
+use proofs.Names.{has_item, command_item, sense_item, IsPrompt, IsPlain, RunState, run_state, obeys_fits, aims_are}
+use proofs.Names.{IsItem, is_process, change_plain, least_is, none_some, plus_one, items_fresh, item_is, own_has}
 use proofs.{Names.{more_has, Whole, whole}, Fits.Sent.{SentAfter, as_before, one_more, row_sends}}
 use proofs.Processes.Sent.{has_append}
 use Rattle.bus_due.specs.disk_array.specs.Processes.{Process, process_of}
@@ -83,32 +83,20 @@ command_there : (commands : List CmdDef) (n i m : ℕ) (c : CmdDef) → m ≡ n 
     → (has_item (items_from n commands) (command_item m) ≡ true) × (has_item (items_from n commands) (sense_item m) ≡ true)
 command_there [] n i m c e f = none_some c f
 command_there (d ∷ commands) n zero m c e f =
-    let is : m ≡ n = e ∙ plain_sum n in (
+    let is : m ≡ n = e ∙ plus_none n in (
       ap (λ (x : ℕ). has_item (items_from n (d ∷ commands)) (command_item x)) is ∙ own_has (command_item n) (sense_item n ∷ items_from (n + 1) commands),
       ap (λ (x : ℕ). has_item (items_from n (d ∷ commands)) (sense_item x)) is ∙ more_has (command_item n) (sense_item n) (sense_item n ∷ items_from (n + 1) commands) (own_has (sense_item n) (items_from (n + 1) commands)),
     )
-  where
-    plain_sum : (x : ℕ) → x + 0 ≡ x
-    plain_sum x = omega arith
 command_there (d ∷ commands) n (suc i) m c e f =
-    let r = command_there commands (n + 1) i m c (e ∙ move n i) f in (
+    let r = command_there commands (n + 1) i m c (e ∙ plus_one n i) f in (
       more_has (command_item n) (command_item m) (sense_item n ∷ items_from (n + 1) commands) (more_has (sense_item n) (command_item m) (items_from (n + 1) commands) r.0),
       more_has (command_item n) (sense_item m) (sense_item n ∷ items_from (n + 1) commands) (more_has (sense_item n) (sense_item m) (items_from (n + 1) commands) r.1),
     )
-  where
-    move : (x y : ℕ) → x + suc y ≡ x + 1 + y
-    move x y = omega arith
 
 abort_there : (aborts : List AbortDef) (n i m : ℕ) (a : AbortDef) → m ≡ n + i → abort_line_at aborts (suc i) ≡ Some a → has_item (aborts_from n aborts) (abort m) ≡ true
 abort_there [] n i m a e f = none_some a f
-abort_there (d ∷ aborts) n zero m a e f = ap (λ (x : ℕ). has_item (aborts_from n (d ∷ aborts)) (abort x)) (e ∙ plain_sum n) ∙ own_has (abort n) (aborts_from (n + 1) aborts)
-  where
-    plain_sum : (x : ℕ) → x + 0 ≡ x
-    plain_sum x = omega arith
-abort_there (d ∷ aborts) n (suc i) m a e f = more_has (abort n) (abort m) (aborts_from (n + 1) aborts) (abort_there aborts (n + 1) i m a (e ∙ move n i) f)
-  where
-    move : (x y : ℕ) → x + suc y ≡ x + 1 + y
-    move x y = omega arith
+abort_there (d ∷ aborts) n zero m a e f = ap (λ (x : ℕ). has_item (aborts_from n (d ∷ aborts)) (abort x)) (e ∙ plus_none n) ∙ own_has (abort n) (aborts_from (n + 1) aborts)
+abort_there (d ∷ aborts) n (suc i) m a e f = more_has (abort n) (abort m) (aborts_from (n + 1) aborts) (abort_there aborts (n + 1) i m a (e ∙ plus_one n i) f)
 
 suc_is : (i : ℕ) → suc i ≡ 1 + i
 suc_is i = omega arith
@@ -164,7 +152,7 @@ sent_once s (row ∷ p) o prompt = go (sent_once s p o prompt.0) (row_sends s (r
     was = whole s p o prompt.0
 
     pl : IsPlain s p k
-    pl = run_state_plain s p was.stood.standing.devices
+    pl = was.stood.plain
 
     go : SentOnce s k.story.sent.sent → SentAfter k.story (row_reading k.story.bus_state row) (run_state s (row ∷ p)).story.sent.sent
         → SentOnce s (run_state s (row ∷ p)).story.sent.sent

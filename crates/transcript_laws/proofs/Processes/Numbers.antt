@@ -2,9 +2,9 @@
 use Rattle.transcript_laws.proofs
 use proofs.Names.{ℕ, ◌≡◌, ◌∙◌, ◌+◌, ◌<◌, ◌≤◌, ◌==◌, Bool, true, false, not, ◌&&◌, List, [], ◌∷◌, ◌++◌, length, Option}
 use proofs.Names.{Some, None, refl, sym, ap, arith, subst, eq-eqb, and_from, nat_tests, length-append, same_Some}
-use proofs.Names.{if◌then◌else◌, wrong, number_same, none_some, same_name, Key, next_number, process_of, with_last}
-use proofs.Names.{same_nexus, process_after, Name, Process, OnNames, AreOther, AreDistinct, HasLast, AreNumbered}
-use proofs.Processes.Last.{is_last, nexus_is, nexus_turned}
+use proofs.Names.{if◌then◌else◌, wrong, and_false, number_same, none_some, by_bool, same_name, Key, next_number}
+use proofs.Names.{process_of, with_last, same_nexus, process_after, Name, Process, OnNames, AreOther, AreDistinct}
+use proofs.{Names.{HasLast, AreNumbered}, Processes.Last.{is_last, nexus_is, nexus_turned}}
 
 -- ---- numbers
 
@@ -82,21 +82,16 @@ put_counted last p count small h name q e = go (same_nexus p.name name) (sym (is
     go false z = h name q z
 
 put_last : (last : List (Key × Process)) (p : Process) (m : Name) → (same_nexus p.name m ≡ true → m.number ≤ p.name.number) → HasLast last m → HasLast (with_last last p) m
-put_last last p m above h = go (same_nexus p.name m) refl
-  where
-    go : (r : Bool) → same_nexus p.name m ≡ r → HasLast (with_last last p) m
-    go true f = record { process = p; last_is = is_last last p m ∙ ap (λ (q : Bool). if q then Some p else process_of last m) f; number = above f }
-    go false f = record { process = h.process; last_is = is_last last p m ∙ ap (λ (q : Bool). if q then Some p else process_of last m) f ∙ h.last_is; number = h.number }
+put_last last p m above h =
+    by_bool (same_nexus p.name m)
+    (λ f. record { process = p; last_is = is_last last p m ∙ ap (λ (q : Bool). if q then Some p else process_of last m) f; number = above f })
+    (λ f. record { process = h.process; last_is = is_last last p m ∙ ap (λ (q : Bool). if q then Some p else process_of last m) f ∙ h.last_is; number = h.number })
 
 other_number : (a b : Name) → a.number < b.number → same_name a b ≡ false
-other_number a b less = ap (λ (q : Bool). same_nexus a b && q) (unlike a.number b.number less) ∙ none (same_nexus a b)
+other_number a b less = ap (λ (q : Bool). same_nexus a b && q) (unlike a.number b.number less) ∙ and_false (same_nexus a b)
   where
     unlike : (m n : ℕ) → m < n → (m == n) ≡ false
     unlike m n l = grind (arith, nat_tests, l)
-
-    none : (q : Bool) → (q && false) ≡ false
-    none true = refl
-    none false = refl
 
 -- An initiator began it, for a process.
 pub first_numbered : (last : List (Key × Process)) (names : List Name) (name : Name) (p : Process) → length names < 4294967290
@@ -122,11 +117,10 @@ first_numbered last names name p less is h =
     below g m x f = let l = less_than g m x f in omega (arith, l)
 
     other : IsNext last (length names + 1) name p.name → (m : Name) → HasLast last m → same_name m p.name ≡ false
-    other g m x = go (same_nexus m p.name) refl
-      where
-        go : (q : Bool) → same_nexus m p.name ≡ q → same_name m p.name ≡ false
-        go true f = other_number m p.name (less_than g m x (nexus_turned p.name m ∙ f))
-        go false f = ap (λ (q : Bool). q && m.number == p.name.number) f
+    other g m x =
+        by_bool (same_nexus m p.name)
+        (λ f. other_number m p.name (less_than g m x (nexus_turned p.name m ∙ f)))
+        (λ f. ap (λ (q : Bool). q && m.number == p.name.number) f)
 
 -- A target began it: the last process of the nexus goes on, or one begins that no initiator has begun.
 pub again_numbered : (last : List (Key × Process)) (names : List Name) (name : Name) (p : Process) (aborts : Bool)

@@ -1,8 +1,8 @@
 -- The names of the processes that were sent: those of the connections that initiators began, in their order.
 use Rattle.transcript_laws.proofs
 use proofs.Names.{◌≡◌, ◌∙◌, Bool, true, false, ◌||◌, List, [], ◌∷◌, ◌++◌, length, reverse, Some, None, refl, ap, arith}
-use proofs.Names.{reverse-append, if◌then◌else◌, wrong, wrong', ProcId, Item, process, same_item, has_item, self_id}
-use proofs.Names.{name_sent, Name}
+use proofs.Names.{reverse-append, if◌then◌else◌, wrong, wrong', or_later, ProcId, Item, process, same_item, has_item}
+use proofs.Names.{self_id, name_sent, Name}
 
 -- What was sent keeps its name.
 pub name_before : (sent more : List Item) (names later : List Name) (id : ProcId) → length names ≡ length sent → has_item sent (process id) ≡ true
@@ -49,11 +49,7 @@ name_own (item ∷ sent) (n ∷ names) name id count fresh = go (same_item item 
 
 pub has_append : (xs ys : List Item) (item : Item) → has_item (xs ++ ys) item ≡ (has_item xs item || has_item ys item)
 has_append [] ys item = refl
-has_append (x ∷ xs) ys item = ap (λ (q : Bool). same_item x item || q) (has_append xs ys item) ∙ in_turn (same_item x item) (has_item xs item) (has_item ys item)
-  where
-    in_turn : (a b c : Bool) → (a || (b || c)) ≡ ((a || b) || c)
-    in_turn true b c = refl
-    in_turn false b c = refl
+has_append (x ∷ xs) ys item = ap (λ (q : Bool). same_item x item || q) (has_append xs ys item) ∙ or_later (same_item x item) (has_item xs item) (has_item ys item)
 
 pub or_turned : (a b : Bool) → (a || (b || false)) ≡ (b || a)
 or_turned true true = refl

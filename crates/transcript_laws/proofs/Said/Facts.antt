@@ -11,16 +11,17 @@ use proofs.Names.{process_opening, Cause, host_of, opening, RunState, bus_of, pr
 use proofs.Names.{item_if, hearing_of, leaving, ready_of, obeys_fits, units_are, AreUnits, InConnection, in_connection}
 use proofs.Names.{reading_in, AreWordsFor, AreWordsHeard, IsSpeaking, opens, refuses, answers, rejects_data}
 use proofs.Names.{rejects_status, is_selected, Begins, connected_bus, ends_selected, in_out, out_no_status, out_phase}
-use proofs.Names.{aimed_next, beginning, calm_before, link_unbegun, Whole, IsNext, is_abort, is_sense, is_next_command}
-use proofs.Names.{OpenedValue, held_part, is_complete, is_completion, with_part, with_fault, with_in_if, phase_entered}
-use proofs.Names.{phase_over, phase_parts, data_parts, Part, are_talk, base_parts, out_parts, parts_now}
-use proofs.Opened.Bytes.{CrossingMade, crossed_out, crossed_in, crossed_status, crossed_else, crossing_made, lines_same}
-use proofs.Opened.{Bytes.{out_same, begun_same, begun_turned, begun_crossing}, Facts.{OpenedAll, all_hold}}
-use proofs.Opened.Rows.{Going, Starts, Holds, RowMade, made_still, made_crossing, made_turn, plain_before}
-use proofs.{Parts.{Base.{base_more, base_turned}, Lists.{broken_parts}}, Said.Naming.{outs_of, outs_append, outs_base}}
-use proofs.Said.Naming.{outs_now, are_mild, mild_more, mild_front, offers_mild, IsOpening, opening_more}
-use proofs.Said.{Out.{process_said, said_one, offers_if, unit_small}, Words.{SaidWords, said_of, said_append}}
-use proofs.{Said.Words.{left_half}, Serving.TurnSteps.{outs_talk}, Talks.Named.{base_talk, talk_more}}
+use proofs.Names.{by_bool, link_unbegun, IsNext, is_abort, is_sense, is_next_command, aimed_next, beginning}
+use proofs.Names.{calm_before, Whole, OpenedValue, held_part, is_complete, is_completion, with_part, with_fault}
+use proofs.Names.{with_in_if, phase_entered, phase_over, phase_parts, data_parts, Part, are_talk, base_parts, out_parts}
+use proofs.{Names.{parts_now}, Opened.Bytes.{CrossingMade, crossed_out, crossed_in, crossed_status, crossed_else}}
+use proofs.Opened.Bytes.{crossing_made, lines_same, out_same, begun_same, begun_turned, begun_crossing}
+use proofs.Opened.{Facts.{OpenedAll, all_hold}, Rows.{Going, Starts, Holds, RowMade, made_still, made_crossing}}
+use proofs.{Opened.Rows.{made_turn, plain_before}, Parts.{Base.{base_more, base_turned}, Lists.{broken_parts}}}
+use proofs.Said.Naming.{outs_of, outs_append, outs_base, outs_now, are_mild, mild_more, mild_front, offers_mild}
+use proofs.Said.{Naming.{IsOpening, opening_more}, Out.{process_said, said_one, offers_if, unit_small}}
+use proofs.{Said.Words.{SaidWords, said_of, said_append, left_half}, Serving.TurnSteps.{outs_talk}}
+use proofs.Talks.Named.{base_talk, talk_more}
 use Rattle.bus_due.specs.disk_array.specs.Processes.{Process, process_of}
 
 -- ---- what is kept
@@ -135,10 +136,7 @@ mild_words s n served x _ (rejects_status e) z = ap (λ (w : List ℕ). are_mild
 pub opening_words : (s : ScenarioValue) (n : Connection) (served : Option Item) (x : Exchange) (cause : Cause) → AreWordsFor s n served x cause → cause ≡ Cause.Selected
     → x.speech.words ≡ opening s n.initiator x.plan.negotiates served
 opening_words s n served x _ (opens e) z = e
-opening_words s n served x _ (refuses e) z = wrong' (ap is_selected z)
-opening_words s n served x _ (answers e) z = wrong' (ap is_selected z)
-opening_words s n served x _ (rejects_data e) z = wrong' (ap is_selected z)
-opening_words s n served x _ (rejects_status e) z = wrong' (ap is_selected z)
+opening_words s n served x _ _ z = wrong' (ap is_selected z)
 
 pub opening_is : (s : ScenarioValue) (n : Connection) (x : Exchange) (cause : Cause) (served : Option Item) (id : ProcId) (q : Process) → AreUnits s
     → AreWordsFor s n served x cause → cause ≡ Cause.Selected → served ≡ Some (process id) → process_of s id ≡ Some q → IsOpening q (said_of [] x.speech.words)
@@ -159,14 +157,13 @@ pub record Speaking (s : ScenarioValue) (k : RunState) (n : Connection) (o : Ope
   pub speaks : k.exchange.begun ≡ true → is_message_out (bus_of k) ≡ true → IsSpeaking s n k.served k.exchange k.story.bus_state.dialogue
 
 pub mild_said : (s : ScenarioValue) (k : RunState) (n : Connection) (o : OpenedValue) → Speaking s k n o → IsOpened k → are_mild o.said ≡ true
-mild_said s k n o h op = go (is_message_out (bus_of k)) refl
-  where
-    go : (q : Bool) → is_message_out (bus_of k) ≡ q → are_mild o.said ≡ true
-    go false e = ap are_mild (h.bytes e)
-    go true e =
-        let sp = h.speaks op.begun e in
-        let f = words_front k n o h.words e sp.heard in
-        mild_front o.said f.more (ap are_mild (sym f.is) ∙ mild_words s n k.served k.exchange k.exchange.plan.cause sp.words_for (op.cause e))
+mild_said s k n o h op =
+    by_bool (is_message_out (bus_of k))
+    (λ e.
+    let sp = h.speaks op.begun e in
+    let f = words_front k n o h.words e sp.heard in
+    mild_front o.said f.more (ap are_mild (sym f.is) ∙ mild_words s n k.served k.exchange k.exchange.plan.cause sp.words_for (op.cause e)))
+    (λ e. ap are_mild (h.bytes e))
 
 -- ---- a phase of no opening stays one
 
@@ -354,24 +351,23 @@ names_row s p row n g o after made h id q sv of was = by made was
     turn ep none e (told a b) =
         told (subst (λ (x : List MsgOut). IsOpening q x) (sym (outs_turned o after c k.story.bus_state.dialogue.half e)) (opening_more q (outs_of (base_parts o)) o.said a (mild_said s k n o sp b)))
         (opened_turned s p row n g ep none b.begun)
-    turn ep none e (unsaid a t f) = begun k.exchange.begun refl
-      where
-        begun : (b : Bool) → k.exchange.begun ≡ b → OutNames q j after
-        begun true b =
-            let w = f b in
-            let out : is_message_out (bus_of k) ≡ true = w.0 in
-            let last = (g.going.goes.leaves (ap changes_phase g.going.goes.row_is.change_is ∙ ep)).out (out_phase (bus_of k) out) in
-            told (subst (λ (x : List MsgOut). IsOpening q x)
-            (sym (outs_turned o after c k.story.bus_state.dialogue.half e ∙ ap (λ (x : List MsgOut). x ++ o.said) a ∙ h.words.whole out last))
-            (opening_is s n k.exchange k.exchange.plan.cause k.served id q sp.units (sp.speaks b out).words_for w.1 sv of))
-            (opened_turned s p row n g ep none b)
-        begun false b =
-            let first = first_out s p row n g ep none b in
-            let silent : o.said ≡ [] = h.bytes.said (ap is_message_out (selected_lines b)) in
-            let i = in_connection s k row n c true false (is_fault row.kind) g.going.goes.row_is ep none refl in
-            unsaid (outs_turned o after c k.story.bus_state.dialogue.half e ∙ (λ u. a u ++ silent u))
-            (first_talk o after c k.story.bus_state.dialogue.half e (ap is_command (sym on) ∙ ap is_command (selected_lines b)) (no_in false b f) (h.bytes.unbegun b) (out_no_status c.after (ap is_message_out (sym i.bus_is) ∙ first.0)) ∙ t)
-            (λ z. first)
+    turn ep none e (unsaid a t f) =
+        by_bool k.exchange.begun
+        (λ b.
+        let w = f b in
+        let out : is_message_out (bus_of k) ≡ true = w.0 in
+        let last = (g.going.goes.leaves (ap changes_phase g.going.goes.row_is.change_is ∙ ep)).out (out_phase (bus_of k) out) in
+        told (subst (λ (x : List MsgOut). IsOpening q x)
+        (sym (outs_turned o after c k.story.bus_state.dialogue.half e ∙ ap (λ (x : List MsgOut). x ++ o.said) a ∙ h.words.whole out last))
+        (opening_is s n k.exchange k.exchange.plan.cause k.served id q sp.units (sp.speaks b out).words_for w.1 sv of))
+        (opened_turned s p row n g ep none b))
+        (λ b.
+        let first = first_out s p row n g ep none b in
+        let silent : o.said ≡ [] = h.bytes.said (ap is_message_out (selected_lines b)) in
+        let i = in_connection s k row n c true false (is_fault row.kind) g.going.goes.row_is ep none refl in
+        unsaid (outs_turned o after c k.story.bus_state.dialogue.half e ∙ (λ u. a u ++ silent u))
+        (first_talk o after c k.story.bus_state.dialogue.half e (ap is_command (sym on) ∙ ap is_command (selected_lines b)) (no_in false b f) (h.bytes.unbegun b) (out_no_status c.after (ap is_message_out (sym i.bus_is) ∙ first.0)) ∙ t)
+        (λ z. first))
 
     by : RowMade k row n c o after → OutNames q k o → OutNames q j after
     by (made_still ep none e) = same ep
@@ -424,7 +420,20 @@ next_host s b dev _ id q (is_next_command m time c at own z may none) e of = hos
 
 ends_first : (s : ScenarioValue) (p : List Row) (row : Row) (n : Connection) → Starts s p row n → Whole s (row ∷ p) → connection (row ∷ p) ≡ Some n → (id : ProcId) (q : Process)
     → (run_state s (row ∷ p)).served ≡ Some (process id) → process_of s id ≡ Some q → (q.initiator ≡ n.initiator) × (q.target ≡ n.target)
-ends_first s p row n h now con id q sv of = go n.reselected refl
+ends_first s p row n h now con id q sv of =
+    by_bool n.reselected
+    (λ re.
+    let a = b.reselects re in
+    let made : Some (process a.ready.process.id) ≡ Some (process id) =
+    sym (ap item_if a.ready_is) ∙ sym (ap (λ (x : Bool). if x then item_if (ready_of s k n.target) else aim_of k.story.aims n.initiator) re) ∙ sym served ∙ sv in
+    let same : a.process ≡ q = same_Some a.process q (sym a.process_is ∙ ap (process_item s) made ∙ of) in
+    (ap (λ (x : Process). x.initiator) (sym same) ∙ a.initiator_is, ap (λ (x : Process). x.target) (sym same) ∙ a.target_is))
+    (λ sel.
+    let a = b.selects sel in
+    let aim : Some a.item ≡ Some (process id) = sym a.aim_is ∙ sym (ap (λ (x : Bool). if x then item_if (ready_of s k n.target) else aim_of k.story.aims n.initiator) sel) ∙ sym served ∙ sv in
+    let off = calm_before s p row n h.obeys h.prompt h.was.stood h.free con in
+    let next = aimed_next s p row n h.free con sel (h.was.stood.called h.free off) (h.was.facts.items.aims h.free off) a.item a.aim_is in
+    (next_host s k.story.sent n.initiator a.item id q next (same_Some a.item (process id) aim) of, a.target_is q (ap (process_item s) aim ∙ of)))
   where
     k : RunState
     k = run_state s p
@@ -434,20 +443,6 @@ ends_first s p row n h now con id q sv of = go n.reselected refl
 
     served : (run_state s (row ∷ p)).served ≡ (if n.reselected then item_if (ready_of s k n.target) else aim_of k.story.aims n.initiator)
     served = λ i. served_after s k (h.alone i) (h.next i)
-
-    go : (r : Bool) → n.reselected ≡ r → (q.initiator ≡ n.initiator) × (q.target ≡ n.target)
-    go true re =
-        let a = b.reselects re in
-        let made : Some (process a.ready.process.id) ≡ Some (process id) =
-        sym (ap item_if a.ready_is) ∙ sym (ap (λ (x : Bool). if x then item_if (ready_of s k n.target) else aim_of k.story.aims n.initiator) re) ∙ sym served ∙ sv in
-        let same : a.process ≡ q = same_Some a.process q (sym a.process_is ∙ ap (process_item s) made ∙ of) in
-        (ap (λ (x : Process). x.initiator) (sym same) ∙ a.initiator_is, ap (λ (x : Process). x.target) (sym same) ∙ a.target_is)
-    go false sel =
-        let a = b.selects sel in
-        let aim : Some a.item ≡ Some (process id) = sym a.aim_is ∙ sym (ap (λ (x : Bool). if x then item_if (ready_of s k n.target) else aim_of k.story.aims n.initiator) sel) ∙ sym served ∙ sv in
-        let off = calm_before s p row n h.obeys h.prompt h.was.stood h.free con in
-        let next = aimed_next s p row n h.free con sel (h.was.stood.called h.free off) (h.was.facts.items.aims h.free off) a.item a.aim_is in
-        (next_host s k.story.sent n.initiator a.item id q next (same_Some a.item (process id) aim) of, a.target_is q (ap (process_item s) aim ∙ of))
 
 pub names_hold : (s : ScenarioValue) → Holds s (SaidNames s)
 names_hold s = record {

@@ -97,9 +97,7 @@ pub record IsOpening (p : Process) (outs : List MsgOut) : Type 0 where
 
 tag_more : (tag : Tag) (rest more : List MsgOut) → tag_messages tag rest ++ more ≡ tag_messages tag (rest ++ more)
 tag_more Tag.Untagged rest more = refl
-tag_more (Tag.Simple n) rest more = refl
-tag_more (Tag.Ordered n) rest more = refl
-tag_more (Tag.Head n) rest more = refl
+tag_more _ rest more = refl
 
 pub opening_more : (p : Process) (outs more : List MsgOut) → IsOpening p outs → are_mild more ≡ true → IsOpening p (outs ++ more)
 opening_more p outs more h e = record {
@@ -111,9 +109,7 @@ opening_more p outs more h e = record {
 
 tame_tag : (tag : Tag) (rest : List MsgOut) → are_tame rest ≡ true → are_tame (tag_messages tag rest) ≡ true
 tame_tag Tag.Untagged rest e = e
-tame_tag (Tag.Simple n) rest e = e
-tame_tag (Tag.Ordered n) rest e = e
-tame_tag (Tag.Head n) rest e = e
+tame_tag _ rest e = e
 
 pub opening_tame : (p : Process) (outs : List MsgOut) → IsOpening p outs → are_tame outs ≡ true
 opening_tame p outs h = ap are_tame h.is ∙ tame_tag p.tag h.rest (mild_tame h.rest h.mild)

@@ -7,7 +7,7 @@ use proofs.Names.{is_parity_error, Exchange, offer_if, tag_bytes, abort_bytes, p
 use proofs.Names.{parity_error, host_answer, Cause, host_of, opening, AreUnits, AreWordsFor, opens, refuses, answers}
 use proofs.{Names.{rejects_data, rejects_status}, Said.Words.{said_of}}
 use Rattle.bus_due.specs.disk_array.specs.Processes.{Process, process_of}
-pub use Rattle.progress_laws.specs.bus_books.proofs.FirstWords.{process_unit as unit_small}
+pub use Rattle.progress_laws.specs.bus_books.proofs.Said.First.{process_unit as unit_small}
 
 -- ---- one message after another
 
@@ -120,15 +120,11 @@ plain_offer true (Some h) = go (h.offers && nat_lt 0 h.period)
 
 plain_tag : (tag : Tag) (more : List MsgOut) → is_plain_said more ≡ true → is_plain_said (tag_messages tag more) ≡ true
 plain_tag Tag.Untagged more e = e
-plain_tag (Tag.Simple n) more e = e
-plain_tag (Tag.Ordered n) more e = e
-plain_tag (Tag.Head n) more e = e
+plain_tag _ more e = e
 
 plain_abort : (what : AbortKind) → is_plain_said (abort_messages what) ≡ true
 plain_abort AbortKind.All = refl
-plain_abort (AbortKind.Tag n) = refl
-plain_abort AbortKind.WholeQueue = refl
-plain_abort AbortKind.Device = refl
+plain_abort _ = refl
 
 pub opening_plain : (s : ScenarioValue) (dev : ℕ) (negotiates : Bool) (served : Option Item) → AreUnits s → is_plain_said (said_of [] (opening s dev negotiates served)) ≡ true
 opening_plain s dev negotiates None u = refl

@@ -159,13 +159,10 @@ on_row s p row n g o after (made_crossing dev ep er e) h = go (crossing_made o a
               said
               ∙ ap (λ (y : List ℕ). said_of [] y)
               (split_same (a.before ++ byte ∷ []) a.rest before rest (sym words ∙ words')
-              (more a.before byte ∙ ap (λ (m : ℕ). m + 1) (sym a.place_is) ∙ sym (v.goes z) ∙ ap (λ (y : Speech). y.place) (sym speech) ∙ place));
+              (length_more a.before byte ∙ ap (λ (m : ℕ). m + 1) (sym a.place_is) ∙ sym (v.goes z) ∙ ap (λ (y : Speech). y.place) (sym speech) ∙ place));
           place = λ here z. ap (λ (y : Speech). y.place) speech ∙ v.begins z;
           whole = λ here z. said ∙ ap (λ (y : List ℕ). said_of [] y) (sym (append-nil (a.before ++ byte ∷ [])) ∙ ap (λ (y : List ℕ). (a.before ++ byte ∷ []) ++ y) (sym (v.ends z)) ∙ sym words);
         }
-      where
-        more : (xs : List ℕ) (m : ℕ) → length (xs ++ m ∷ []) ≡ length xs + 1
-        more xs m = length_more xs m
 on_row s p row n g o after (made_turn ep none ef e) h =
     let k : RunState = run_state s p in
     let j : RunState = run_state s (row ∷ p) in

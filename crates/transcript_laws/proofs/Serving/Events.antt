@@ -2,7 +2,7 @@
 use Rattle.transcript_laws.proofs
 use proofs.Names.{ℕ, ◌≡◌, ◌∙◌, Bool, true, false, ◌&&◌, ◌||◌, not, List, [], ◌∷◌, ◌++◌, Option, Some, None, refl, sym}
 use proofs.Names.{ap, ◌==◌, append-nil, list_any, if◌then◌else◌, wrong, and_false, Event, ProcId, is_nil, same_id}
-use proofs.Names.{CarriedBytes, is_refuse, status_event, marked_refused, marked_shown, self_id, AccountValue}
+use proofs.Names.{CarriedBytes, is_refuse, status_event, marked_refused, marked_shown, self_id, by_bool, AccountValue}
 use proofs.Names.{account_after_all, items_named, Name, Part, IsRefused, marked_with, first_byte, IsAccountOf}
 use proofs.{Names.{is_refusal, is_answer, has_refusal, has_answer, is_listed, shown_items}, Accounts.Steps.{shown_step}}
 use proofs.{Accounts.Steps.{told_step, refused_step}, Parts.Shown.{part_more}, Past.Events.{any_later}}
@@ -98,11 +98,7 @@ ready_turn : (refused : List Name) (a : AccountValue) (c : CarriedBytes) (name :
     → c.refused ≡ has_refusal history id → IsAccountOf a c → Turn c arrived shown → IsRefused refused name id (shown ++ history)
     → conn_items name shown ≡ conn_items name arrived ++ ready refused a.process.shown name
 ready_turn refused a c name id arrived shown history own marked h (quiet same told) r =
-    ap (λ (list : List Event). conn_items name list) same ∙ sym (append-nil (conn_items name arrived)) ∙ ap (λ (list : List Item). conn_items name arrived ++ list) (sym (go c.refused refl))
-  where
-    go : (v : Bool) → c.refused ≡ v → ready refused a.process.shown name ≡ []
-    go true e = ready_none refused a.process.shown name (r.refusal (any_later (λ x. is_refusal id x) shown history (sym marked ∙ e)))
-    go false e = ap (λ (q : Bool). ready refused q name) (h.shown e ∙ told e)
+    ap (λ (list : List Event). conn_items name list) same ∙ sym (append-nil (conn_items name arrived)) ∙ ap (λ (list : List Item). conn_items name arrived ++ list) (sym (by_bool c.refused (λ e. ready_none refused a.process.shown name (r.refusal (any_later (λ x. is_refusal id x) shown history (sym marked ∙ e)))) (λ e. ap (λ (q : Bool). ready refused q name) (h.shown e ∙ told e))))
 ready_turn refused a c name id arrived shown history own marked h (shows same unrefused unshown) r =
     ap (λ (list : List Event). conn_items name list) same
     ∙ conn_more name (status_event c.id c.failure) arrived

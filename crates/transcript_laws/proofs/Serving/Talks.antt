@@ -1,13 +1,13 @@
 -- While nothing but messages has come in a connection, its account is as it began, and shows no event.
 use Rattle.transcript_laws.proofs
 use proofs.Names.{ℕ, ◌≡◌, ◌∙◌, ◌==◌, Bool, true, false, ◌&&◌, not, List, [], ◌∷◌, ◌++◌, Option, refl, sym, ap}
-use proofs.Names.{and_parts, if◌then◌else◌, wrong', Event, ProcId, LineSet, is_command, is_data, is_message_in, MsgIn}
-use proofs.Names.{is_nil, CarriedBytes, is_status_phase, AccountValue, account_of, after_in, account_after}
-use proofs.Names.{account_after_all, OpenedValue, with_in, data_parts, phase_parts, phase_over, phase_entered, Part}
-use proofs.Names.{Process, is_talk, are_talk, held_parts, base_parts, out_parts, parts_now, IsAsBegun, IsServing}
-use proofs.{Names.{IsBlank, first_byte, IsAccountOf, IsKeptOf, account_base}, Parts.Base.{base_in, base_turned}}
-use proofs.{Parts.{Lists.{broken_parts}, Shown.{talk_more}}, Serving.{Steps.{no_block}, TurnSteps.{outs_talk}}}
-use proofs.Serving.TurnSteps.{broken_talk}
+use proofs.Names.{and_parts, if◌then◌else◌, wrong', and_false, Event, ProcId, LineSet, is_command, is_data}
+use proofs.Names.{is_message_in, MsgIn, is_nil, CarriedBytes, is_status_phase, AccountValue, account_of, after_in}
+use proofs.Names.{account_after, account_after_all, OpenedValue, with_in, data_parts, phase_parts, phase_over}
+use proofs.Names.{phase_entered, Part, Process, is_talk, are_talk, held_parts, base_parts, out_parts, parts_now}
+use proofs.Names.{IsAsBegun, IsServing, IsBlank, first_byte, IsAccountOf, IsKeptOf, account_base}
+use proofs.{Parts.{Base.{base_in, base_turned}, Lists.{broken_parts}, Shown.{talk_more}}, Serving.Steps.{no_block}}
+use proofs.Serving.TurnSteps.{outs_talk, broken_talk}
 use Rattle.bus_transcript.specs.declared.part.Incoming.TheVariants.{Whole}
 
 -- ---- the account
@@ -20,25 +20,16 @@ record IsUntouched (a : AccountValue) (was : Bool) (st : Option ℕ) : Type 0 wh
   status : a.process.status ≡ st
 
 in_untouched : (a : AccountValue) (was : Bool) (st : Option ℕ) (m : MsgIn) → IsUntouched a was st → IsUntouched (after_in a m) was st
-in_untouched a was st MsgIn.CommandComplete h = h
 in_untouched a was st MsgIn.SavePointer h = record { block = h.block; struck = h.struck; first = h.first; shown = h.shown; status = h.status }
 in_untouched a was st MsgIn.RestorePointers h = record { block = refl; struck = refl; first = refl; shown = h.shown; status = h.status }
-in_untouched a was st MsgIn.Disconnect h = h
-in_untouched a was st (MsgIn.Identify lun) h = h
-in_untouched a was st (MsgIn.SimpleTag tag) h = h
-in_untouched a was st (MsgIn.Sdtr offer) h = h
-in_untouched a was st MsgIn.Reject h = h
+in_untouched a was st _ h = h
 
 part_untouched : (a : AccountValue) (was : Bool) (st : Option ℕ) (part : Part) → is_talk part ≡ true → IsUntouched a was st → IsUntouched (account_after a part) was st
 part_untouched a was st (Part.Out m) e h = record { block = h.block; struck = h.struck; first = h.first; shown = h.shown; status = h.status }
 part_untouched a was st (Part.In m) e h =
     in_untouched _ was st m (record { block = h.block; struck = h.struck; first = h.first; shown = h.shown; status = h.status })
 part_untouched a was st Part.BrokenOff e h = h
-part_untouched a was st (Part.Command bytes struck left) e h = wrong' e
-part_untouched a was st (Part.Data out bytes) e h = wrong' e
-part_untouched a was st Part.StatusPhase e h = wrong' e
-part_untouched a was st (Part.Status byte) e h = wrong' e
-part_untouched a was st Part.Completion e h = wrong' e
+part_untouched a was st _ e h = wrong' e
 
 all_untouched : (a : AccountValue) (was : Bool) (st : Option ℕ) (parts : List Part) → are_talk parts ≡ true → IsUntouched a was st → IsUntouched (account_after_all a parts) was st
 all_untouched a was st [] e h = h
@@ -56,13 +47,9 @@ talk_account p parts was st c talk b blank status shown =
       first = h.first ∙ (λ i. sym blank.active i == 0);
       saved = blank.saved;
       status = h.status ∙ status;
-      begun = ap (λ (n : ℕ). is_nil c.status.bytes && not (n == 0)) blank.active ∙ none (is_nil c.status.bytes);
+      begun = ap (λ (n : ℕ). is_nil c.status.bytes && not (n == 0)) blank.active ∙ and_false (is_nil c.status.bytes);
       shown = λ e. h.shown ∙ shown e;
     }
-  where
-    none : (q : Bool) → (q && false) ≡ false
-    none true = refl
-    none false = refl
 
 -- ---- lists of messages
 

@@ -3,7 +3,7 @@ use Rattle.transcript_laws.proofs
 use proofs.Names.{ℕ, ◌≡◌, ◌∙◌, Bool, true, false, ◌&&◌, ◌||◌, not, List, [], ◌∷◌, ◌++◌, reverse, Option, Some, refl}
 use proofs.Names.{sym, ap, subst, and_right, flat_map-append, append_assoc, append-nil, reverse-append, flat_map}
 use proofs.Names.{if◌then◌else◌, wrong', and_first, Event, ProcId, LineSet, is_command, is_data, is_message_in, is_nil}
-use proofs.Names.{CarriedBytes, is_whole_block, is_status_phase, AccountValue, account_of, with_block}
+use proofs.Names.{CarriedBytes, is_whole_block, is_status_phase, by_bool, AccountValue, account_of, with_block}
 use proofs.Names.{account_after_all, items_named, OpenedValue, settled, with_part, with_in, spoken, data_parts}
 use proofs.Names.{phase_parts, phase_over, phase_entered, Name, Incoming, Broken, Part, Process, base_parts, out_parts}
 use proofs.Names.{parts_now, IsAsBegun, IsRefused, IsServing, marked_with, IsAccountOf, is_refusal, is_answer}
@@ -70,11 +70,10 @@ new_account a c bytes struck e f h = record {
 -- ---- what MESSAGE PARITY ERROR would bring back
 
 pub in_no_command : (s : LineSet) → is_message_in s ≡ true → is_command s ≡ false
-in_no_command s e = go s.msg refl
-  where
-    go : (m : Bool) → s.msg ≡ m → is_command s ≡ false
-    go true f = ap (λ (q : Bool). not q && s.cd && not s.io) f
-    go false f = wrong' (sym (ap (λ (q : Bool). q && s.cd && s.io) f) ∙ e)
+in_no_command s e =
+    by_bool s.msg
+    (λ f. ap (λ (q : Bool). not q && s.cd && not s.io) f)
+    (λ f. wrong' (sym (ap (λ (q : Bool). q && s.cd && s.io) f) ∙ e))
 
 no_phase_parts : (k : OpenedValue) (s : LineSet) → (is_command s ≡ false → is_data s ≡ false → k.bytes ≡ []) → phase_parts k s true ≡ [] → k.bytes ≡ []
 no_phase_parts k s empty e = go (is_command s) (is_data s) refl refl e

@@ -68,33 +68,16 @@ after_message m c = carried_after_message c m
 
 pub message_marks : (m : MsgIn) (c : CarriedBytes) → KeepsMarks c (after_message m c)
 message_marks MsgIn.CommandComplete c = record { id = refl; refused = refl; shown = refl; saved = refl }
-message_marks MsgIn.SavePointer c = record { id = refl; refused = refl; shown = refl; saved = refl }
-message_marks MsgIn.RestorePointers c = record { id = refl; refused = refl; shown = refl; saved = refl }
-message_marks MsgIn.Disconnect c = record { id = refl; refused = refl; shown = refl; saved = refl }
-message_marks (MsgIn.Identify lun) c = record { id = refl; refused = refl; shown = refl; saved = refl }
-message_marks (MsgIn.SimpleTag tag) c = record { id = refl; refused = refl; shown = refl; saved = refl }
-message_marks (MsgIn.Sdtr offer) c = record { id = refl; refused = refl; shown = refl; saved = refl }
-message_marks MsgIn.Reject c = record { id = refl; refused = refl; shown = refl; saved = refl }
+message_marks _ c = record { id = refl; refused = refl; shown = refl; saved = refl }
 
 pub message_alike : (m : MsgIn) (c : CarriedBytes) → AreAlike c (after_message m c)
 message_alike MsgIn.CommandComplete c = record { status = refl; refused = refl; shown = refl }
-message_alike MsgIn.SavePointer c = record { status = refl; refused = refl; shown = refl }
-message_alike MsgIn.RestorePointers c = record { status = refl; refused = refl; shown = refl }
-message_alike MsgIn.Disconnect c = record { status = refl; refused = refl; shown = refl }
-message_alike (MsgIn.Identify lun) c = record { status = refl; refused = refl; shown = refl }
-message_alike (MsgIn.SimpleTag tag) c = record { status = refl; refused = refl; shown = refl }
-message_alike (MsgIn.Sdtr offer) c = record { status = refl; refused = refl; shown = refl }
-message_alike MsgIn.Reject c = record { status = refl; refused = refl; shown = refl }
+message_alike _ c = record { status = refl; refused = refl; shown = refl }
 
 pub message_blank : (m : MsgIn) (c : CarriedBytes) → IsBlank c → IsBlank (after_message m c)
-message_blank MsgIn.CommandComplete c h = h
 message_blank MsgIn.SavePointer c h = record { block = h.block; struck = h.struck; active = h.active; saved = h.saved }
 message_blank MsgIn.RestorePointers c h = record { block = refl; struck = refl; active = h.saved; saved = h.saved }
-message_blank MsgIn.Disconnect c h = h
-message_blank (MsgIn.Identify lun) c h = h
-message_blank (MsgIn.SimpleTag tag) c h = h
-message_blank (MsgIn.Sdtr offer) c h = h
-message_blank MsgIn.Reject c h = h
+message_blank _ c h = h
 
 -- The pointers are restored as the target names its process.
 pub restored_blank : (c : CarriedBytes) → c.status.saved ≡ 0 → IsBlank (with_restored_pointers c)

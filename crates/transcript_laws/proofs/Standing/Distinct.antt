@@ -1,11 +1,11 @@
 -- The names in the transcript of any rows are apart, that of the connection that stands among them.
 use Rattle.transcript_laws.proofs
 use proofs.Names.{◌≡◌, ◌∙◌, ◌<◌, Bool, true, false, List, [], ◌∷◌, ◌++◌, length, Option, Some, None, refl, sym, ap}
-use proofs.Names.{subst, append-nil, is_some, if◌then◌else◌, Connection, Row, ScenarioValue, story, names_begun}
-use proofs.Names.{OpenedValue, process_of, process_after, TranscriberValue, name_of, finished_if, transcribed}
-use proofs.Names.{transcript_of, Name, Process, Summary, AreDistinct, AreNumbered, parts_now, summary_by, StandsBy}
-use proofs.{Names.{apart, linked, Standing}, Past.{Closings.{process_for, connection_items}, Events.{names_append}}}
-use proofs.{Past.Own.{connection_names}, Processes.Numbers.{first_numbered, abort_numbered}}
+use proofs.Names.{subst, append-nil, is_some, if◌then◌else◌, Connection, Row, ScenarioValue, story, by_bool}
+use proofs.Names.{names_begun, OpenedValue, process_of, process_after, TranscriberValue, name_of, finished_if}
+use proofs.Names.{transcribed, transcript_of, Name, Process, Summary, AreDistinct, AreNumbered, parts_now, summary_by}
+use proofs.{Names.{StandsBy, apart, linked, Standing}, Past.Closings.{process_for, connection_items}}
+use proofs.{Past.{Events.{names_append}, Own.{connection_names}}, Processes.Numbers.{first_numbered, abort_numbered}}
 use proofs.Standing.Past.{standing_items}
 use Rattle.bus_transcript.specs.declared.item.Item as item_of
 
@@ -17,14 +17,13 @@ zero_number (Some p) name = refl
 
 one_more : (t : TranscriberValue) (n : Connection) (sum : Summary) → n.reselected ≡ false → length (names_begun t.items) < 4294967290
     → AreNumbered t.processes (names_begun t.items) → AreDistinct (names_begun t.items ++ (process_for t n sum).name ∷ [])
-one_more t n sum began less h = go (is_some sum.abort) refl
+one_more t n sum began less h =
+    by_bool (is_some sum.abort)
+    (λ e. (abort_numbered t.processes (names_begun t.items) (process_for t n sum).name (ap (λ (x : Name). x.number) (is true e) ∙ zero_number (process_of t.processes (name_of n sum)) (name_of n sum)) h).distinct)
+    (λ e. (first_numbered t.processes (names_begun t.items) (name_of n sum) (process_for t n sum) less (is false e) h).distinct)
   where
     is : (q : Bool) → is_some sum.abort ≡ q → (process_for t n sum).name ≡ (process_after false q (process_of t.processes (name_of n sum)) (name_of n sum)).name
     is q e = λ i. (process_after (began i) (e i) (process_of t.processes (name_of n sum)) (name_of n sum)).name
-
-    go : (q : Bool) → is_some sum.abort ≡ q → AreDistinct (names_begun t.items ++ (process_for t n sum).name ∷ [])
-    go false e = (first_numbered t.processes (names_begun t.items) (name_of n sum) (process_for t n sum) less (is false e) h).distinct
-    go true e = (abort_numbered t.processes (names_begun t.items) (process_for t n sum).name (ap (λ (x : Name). x.number) (is true e) ∙ zero_number (process_of t.processes (name_of n sum)) (name_of n sum)) h).distinct
 
 -- ---- all names
 

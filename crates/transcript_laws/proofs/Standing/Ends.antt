@@ -95,9 +95,7 @@ leaves_by s l id name sum Loss abortive e f g is = wrong' g
 leaves_by s l id name sum Leave plain e f g is = wrong' g
 leaves_by s l id name sum Leave abortive e f g is = wrong' g
 leaves_by s l id name sum Abortion plain e f g is = wrong' g
-leaves_by s l id name sum Abortion complete e f g is = wrong' g
-leaves_by s l id name sum Abortion disconnect e f g is = wrong' g
-leaves_by s l id name sum Abortion abortive e f g is = wrong' g
+leaves_by s l id name sum Abortion _ e f g is = wrong' g
 
 -- They change nothing that is carried, and no mark.
 leaves_carried : (s : ScenarioValue) (b : Story) (id : ProcId) (name : Name) (list : List item_of.Item) (shown : List Event) → Leaves id name list shown

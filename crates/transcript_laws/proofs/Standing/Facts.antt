@@ -5,17 +5,17 @@ use proofs.Names.{sym, ap, arith, not-true, same_Some, is_some, is_none, if◌th
 use proofs.Names.{and_second, or_second, is_nothing, ProcId, rises, is_command, is_message_in, is_message_out}
 use proofs.Names.{changes_phase, connection_after, Change, Connection, Row, ScenarioValue, same_id, carried_id}
 use proofs.Names.{BusState, RowReading, row_reading, change_by, carried_at, is_status_phase, Item, process, abort}
-use proofs.Names.{has_item, Story, aim_of, story, id_is, none_some, same_name, names_begun, name_sent, TellsHistory}
-use proofs.Names.{OpenedValue, TranscriberValue, transcribed, transcript_of, Name, nexus_of, is_of, is_known, IsPast}
-use proofs.Names.{AreApart, is_fresh, shares_nexus, is_alone, is_no_abort, is_broken, fits_out, fits_in, fits_crossing}
-use proofs.Names.{fits_turn, fits_still, fits_on, fits_end, fits_linked, fits_first, fits_bus, ends_all, fits_row}
-use proofs.Names.{are_named, fit, sent_order, IsAlone, StandsApart, StandsLinked, StandsBy, apart, linked, Standing}
-use proofs.{Names.{has_refusal, has_answer}, Past.Histories.{tells_history}, Processes.Apart.{sent_apart}}
-use proofs.Standing.{Apart.{reset_next, lingers_next}, Begins.{Begins, again_next, abort_next, process_next}}
-use proofs.Standing.{Bytes.{byte_next}, Closed.{parts_left}, Crossings.{Crosses}, Cuts.{cut_next, unlisted}}
-use proofs.Standing.{Distinct.{distinct_names}, Ends.{end_next}, Free.{free_next}, In.{in_next}, Linked.{IsOn}}
-use proofs.Standing.{More.{names_grow, names_end}, Nothing.{standing_first}, Out.{out_next}, Past.{standing_past}}
-use proofs.Standing.{Stays.{still_next}, Turns.{turn_next}}
+use proofs.Names.{has_item, Story, aim_of, story, id_is, none_some, by_bool, same_name, names_begun, name_sent}
+use proofs.Names.{TellsHistory, OpenedValue, TranscriberValue, transcribed, transcript_of, Name, nexus_of, is_of}
+use proofs.Names.{is_known, IsPast, AreApart, is_fresh, shares_nexus, is_alone, is_no_abort, is_broken, fits_out}
+use proofs.Names.{fits_in, fits_crossing, fits_turn, fits_still, fits_on, fits_end, fits_linked, fits_first, fits_bus}
+use proofs.Names.{ends_all, fits_row, are_named, fit, sent_order, IsAlone, StandsApart, StandsLinked, StandsBy, apart}
+use proofs.{Names.{linked, Standing, has_refusal, has_answer}, Past.Histories.{tells_history}}
+use proofs.{Processes.Apart.{sent_apart}, Standing.{Apart.{reset_next, lingers_next}, Begins.{Begins, again_next}}}
+use proofs.Standing.{Begins.{abort_next, process_next}, Bytes.{byte_next}, Closed.{parts_left}, Crossings.{Crosses}}
+use proofs.Standing.{Cuts.{cut_next, unlisted}, Distinct.{distinct_names}, Ends.{end_next}, Free.{free_next}}
+use proofs.Standing.{In.{in_next}, Linked.{IsOn}, More.{names_grow, names_end}, Nothing.{standing_first}}
+use proofs.Standing.{Out.{out_next}, Past.{standing_past}, Stays.{still_next}, Turns.{turn_next}}
 use Rattle.bus_due.specs.disk_array.specs.Processes as array_of
 use Rattle.bus_due.specs.bus_story.specs.HistoryEvents as story_of
 
@@ -30,7 +30,11 @@ begins_next : (s : ScenarioValue) (rows : List Row) (row : Row) (n : Connection)
     → (row_reading (story s rows).bus_state row).change.after.rst ≡ false → (story s rows).bus_state.connection ≡ None
     → (row_reading (story s rows).bus_state row).next ≡ Some n → fits_first s (story s rows) (Some n) (row_reading (story s rows).bus_state row).change ≡ true
     → Standing s (row ∷ rows)
-begins_next s rows row n h x off con next fits = by_kind n.reselected refl
+begins_next s rows row n h x off con next fits =
+    by_bool n.reselected
+    (λ e. again_next s rows row n e g h.numbered h.marked x)
+    (λ e.
+    by_item item refl e (or_second n.reselected (is_fresh b item && is_alone s b item) (and_first (n.reselected || (is_fresh b item && is_alone s b item)) (not (is_command c.after)) two) e))
   where
     b : Story
     b = story s rows
@@ -61,11 +65,6 @@ begins_next s rows row n h x off con next fits = by_kind n.reselected refl
         process_next s rows row n id began e (not-true (has_item b.sent.sent (process id)) (and_first (not (has_item b.sent.sent (process id))) (is_none (carried_at b.carried id)) fresh)) (is_nothing (carried_at b.carried id) (and_second (not (has_item b.sent.sent (process id))) (is_none (carried_at b.carried id)) fresh)) (alone_is s b id (and_second (not (has_item b.sent.sent (process id)) && is_none (carried_at b.carried id)) (is_alone s b (Some (process id))) f)) g h.numbered h.marked x
     by_item (Some (abort j)) e began f =
         abort_next s rows row n j began e (not-true (has_item b.sent.sent (abort j)) (and_first (not (has_item b.sent.sent (abort j))) true f)) g h.numbered h.marked x
-
-    by_kind : (q : Bool) → n.reselected ≡ q → Standing s (row ∷ rows)
-    by_kind true e = again_next s rows row n e g h.numbered h.marked x
-    by_kind false e =
-        by_item item refl e (or_second n.reselected (is_fresh b item && is_alone s b item) (and_first (n.reselected || (is_fresh b item && is_alone s b item)) (not (is_command c.after)) two) e)
 
 -- ---- a connection goes on
 

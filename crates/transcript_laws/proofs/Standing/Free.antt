@@ -1,14 +1,15 @@
 -- A row on the free bus leaves what stands as it is.
 use Rattle.transcript_laws.proofs
 use proofs.Names.{ℕ, ◌≡◌, ◌∙◌, Bool, true, false, not, ◌&&◌, List, [], ◌∷◌, ◌++◌, reverse, Option, Some, None, refl}
-use proofs.Names.{sym, ap, subst, append-nil, is_none, if◌then◌else◌, wrong, Event, ProcId, rises, falls, Change, Row}
-use proofs.Names.{Call, Calling, ScenarioValue, RowReading, row_reading, bus_state_after, CarriedBytes, carried_of}
-use proofs.Names.{link_events, Item, process, has_item, Story, story_on_free_bus, story_on_bus, story_with_history}
-use proofs.Names.{story_with, story_by, story, is_open_in, free_keeps, free_over, names_begun, name_sent, Key}
-use proofs.Names.{process_of, TranscriberValue, unanswered_by, unanswered_items, on_free_bus, under_reset, on_bus}
-use proofs.Names.{by_change, transcribed, Name, Process, IsKept, AreNumbered, nexus_of, IsPast, sent_order, StandsApart}
-use proofs.{Names.{apart, Standing, IsKeptOf, IsMarked}, Past.{Events.{names_append}, Others.{IsOpenly}}}
-use proofs.{Past.Others.{unanswered_openly, openly_past}, Standing.Buses.{reading_same, buses_alike}}
+use proofs.Names.{sym, ap, subst, append-nil, is_none, if◌then◌else◌, wrong, and_first, Event, ProcId, rises, falls}
+use proofs.Names.{Change, Row, Call, Calling, ScenarioValue, RowReading, row_reading, bus_state_after, CarriedBytes}
+use proofs.Names.{carried_of, link_events, Item, process, has_item, Story, story_on_free_bus, story_on_bus}
+use proofs.Names.{story_with_history, story_with, story_by, story, is_open_in, by_bool, free_keeps, free_over}
+use proofs.Names.{names_begun, name_sent, Key, process_of, TranscriberValue, unanswered_by, unanswered_items}
+use proofs.Names.{on_free_bus, under_reset, on_bus, by_change, transcribed, Name, Process, IsKept, AreNumbered}
+use proofs.Names.{nexus_of, IsPast, sent_order, StandsApart, apart, Standing, IsKeptOf, IsMarked}
+use proofs.Past.{Events.{names_append}, Others.{IsOpenly, unanswered_openly, openly_past}}
+use proofs.Standing.Buses.{reading_same, buses_alike}
 use Rattle.bus_transcript.specs.declared.item.Item as item_of
 use Rattle.bus_transcript.specs.declared.item.Item.TheVariants as items
 
@@ -23,21 +24,16 @@ free_story s b row d off con next link =
 -- What is open was open.
 pub was_open : (a b : Story) (id : ProcId) → b.sent.sent ≡ a.sent.sent → ((i : Item) → has_item a.sent.over i ≡ true → has_item b.sent.over i ≡ true)
     → is_open_in b.sent id ≡ true → is_open_in a.sent id ≡ true
-was_open a b id same over e = go (has_item a.sent.over (process id)) refl
+was_open a b id same over e =
+    by_bool (has_item a.sent.over (process id))
+    (λ f. wrong (and_none (has_item b.sent.sent (process id)) (ap (λ (q : Bool). has_item b.sent.sent (process id) && not q) (sym (over (process id) f)) ∙ e)))
+    (λ f.
+    ap (λ (q : Bool). has_item a.sent.sent (process id) && not q) f
+    ∙ ap (λ (q : Bool). q && true) (ap (λ (xs : List Item). has_item xs (process id)) (sym same) ∙ and_first (has_item b.sent.sent (process id)) (not (has_item b.sent.over (process id))) e))
   where
-    and_first : (p q : Bool) → (p && q) ≡ true → p ≡ true
-    and_first true q z = refl
-    and_first false q z = wrong (sym z)
-
     and_none : (p : Bool) → (p && false) ≡ true → true ≡ false
     and_none true z = sym z
     and_none false z = sym z
-
-    go : (q : Bool) → has_item a.sent.over (process id) ≡ q → is_open_in a.sent id ≡ true
-    go true f = wrong (and_none (has_item b.sent.sent (process id)) (ap (λ (q : Bool). has_item b.sent.sent (process id) && not q) (sym (over (process id) f)) ∙ e))
-    go false f =
-        ap (λ (q : Bool). has_item a.sent.sent (process id) && not q) f
-        ∙ ap (λ (q : Bool). q && true) (ap (λ (xs : List Item). has_item xs (process id)) (sym same) ∙ and_first (has_item b.sent.sent (process id)) (not (has_item b.sent.over (process id))) e)
 
 -- ---- the transcript
 

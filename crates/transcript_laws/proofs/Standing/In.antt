@@ -118,12 +118,7 @@ found_process b i t u tag n (c ∷ commands) j e =
 named_abort : (b : Sent) (commands : List CmdDef) (l : Link) (m : MsgIn) (j : ℕ) → (link_after_name b commands l m).item ≡ Some (abort j) → l.item ≡ Some (abort j)
 named_abort b commands l (MsgIn.Identify lun) j e = found_process b l.initiator l.target lun None 1 commands j e
 named_abort b commands l (MsgIn.SimpleTag n) j e = found_process b l.initiator l.target l.unit (Some n) 1 commands j e
-named_abort b commands l MsgIn.CommandComplete j e = e
-named_abort b commands l MsgIn.SavePointer j e = e
-named_abort b commands l MsgIn.RestorePointers j e = e
-named_abort b commands l MsgIn.Disconnect j e = e
-named_abort b commands l (MsgIn.Sdtr offer) j e = e
-named_abort b commands l MsgIn.Reject j e = e
+named_abort b commands l _ j e = e
 
 -- The item that is named is the one before, once its process is known; before that, where both are there.
 item_known : (known : Bool) (was next : Option Item) → names_item known was next ≡ true → known ≡ true → next ≡ was

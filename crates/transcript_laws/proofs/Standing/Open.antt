@@ -1,9 +1,9 @@
 -- What is open after a row was open before it, and what is kept of it stays.
 use Rattle.transcript_laws.proofs
-use proofs.Names.{ℕ, ◌≡◌, ◌∙◌, Bool, true, false, List, Option, refl, sym, ap, subst, if◌then◌else◌, ProcId, Connection}
+use proofs.Names.{ℕ, ◌≡◌, ◌∙◌, Bool, true, false, List, Option, sym, ap, subst, if◌then◌else◌, ProcId, Connection}
 use proofs.Names.{ScenarioValue, same_id, carried_with, CarriedBytes, carried_of, with_carried, Item, Story, id_is}
-use proofs.Names.{is_open_in, names_begun, name_sent, Key, OpenedValue, process_of, TranscriberValue, Name, Process}
-use proofs.Names.{HasProcess, nexus_of, AreKept, AreAlike, IsFrom, anew, kept, first_byte, IsKeptOf}
+use proofs.Names.{is_open_in, by_bool, names_begun, name_sent, Key, OpenedValue, process_of, TranscriberValue, Name}
+use proofs.Names.{Process, HasProcess, nexus_of, AreKept, AreAlike, IsFrom, anew, kept, first_byte, IsKeptOf}
 
 -- ---- what is carried
 
@@ -21,23 +21,21 @@ alike_kept p u c h g = record { status = g.status ∙ ap first_byte h.status; sh
 
 -- One that is alike is put.
 pub alike_put : (all : List CarriedBytes) (c : CarriedBytes) → AreAlike (carried_of all c.id) c → (x : ProcId) → AreAlike (carried_of all x) (carried_of (with_carried all c) x)
-alike_put all c h x = go (same_id c.id x) refl
-  where
-    go : (q : Bool) → same_id c.id x ≡ q → AreAlike (carried_of all x) (carried_of (with_carried all c) x)
-    go true e =
-        alike_on (carried_of all x) (carried_of all c.id) (carried_of (with_carried all c) x) (alike_self _ _ (ap (λ (y : ProcId). carried_of all y) (sym (id_is c.id x e))))
-        (alike_on (carried_of all c.id) c (carried_of (with_carried all c) x) h (alike_self _ _ (sym (carried_with all c x ∙ ap (λ (q : Bool). if q then c else carried_of all x) e))))
-    go false e = alike_self _ _ (sym (carried_with all c x ∙ ap (λ (q : Bool). if q then c else carried_of all x) e))
+alike_put all c h x =
+    by_bool (same_id c.id x)
+    (λ e.
+    alike_on (carried_of all x) (carried_of all c.id) (carried_of (with_carried all c) x) (alike_self _ _ (ap (λ (y : ProcId). carried_of all y) (sym (id_is c.id x e))))
+    (alike_on (carried_of all c.id) c (carried_of (with_carried all c) x) h (alike_self _ _ (sym (carried_with all c x ∙ ap (λ (q : Bool). if q then c else carried_of all x) e)))))
+    (λ e. alike_self _ _ (sym (carried_with all c x ∙ ap (λ (q : Bool). if q then c else carried_of all x) e)))
 
 -- What holds of all holds where one is put of which it holds.
 pub put_each : (P : CarriedBytes → Type 0) (all : List CarriedBytes) (c : CarriedBytes) (x : ProcId) → (P (carried_of all c.id) → P c) → P (carried_of all x)
     → P (carried_of (with_carried all c) x)
-put_each P all c x f h = go (same_id c.id x) refl
-  where
-    go : (q : Bool) → same_id c.id x ≡ q → P (carried_of (with_carried all c) x)
-    go true e =
-        subst P (sym (carried_with all c x ∙ ap (λ (q : Bool). if q then c else carried_of all x) e)) (f (subst (λ (y : ProcId). P (carried_of all y)) (sym (id_is c.id x e)) h))
-    go false e = subst P (sym (carried_with all c x ∙ ap (λ (q : Bool). if q then c else carried_of all x) e)) h
+put_each P all c x f h =
+    by_bool (same_id c.id x)
+    (λ e.
+    subst P (sym (carried_with all c x ∙ ap (λ (q : Bool). if q then c else carried_of all x) e)) (f (subst (λ (y : ProcId). P (carried_of all y)) (sym (id_is c.id x e)) h)))
+    (λ e. subst P (sym (carried_with all c x ∙ ap (λ (q : Bool). if q then c else carried_of all x) e)) h)
 
 -- ---- what is kept
 

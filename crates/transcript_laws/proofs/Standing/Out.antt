@@ -5,16 +5,16 @@ use proofs.Names.{ap, subst, ◌%◌, not-true, same_Some, is_some, if◌then◌
 use proofs.Names.{is_command, is_data, is_message_in, is_message_out, Change, Row, MsgOut, ScenarioValue, same_id}
 use proofs.Names.{RowReading, row_reading, CarriedBytes, carried_of, with_carried, is_status_phase, process, Sent, Link}
 use proofs.Names.{last_out, Story, story_with_carried, story_after_crossing, is_parity_error, story, id_turned}
-use proofs.Names.{same_phase_is, put_own, put_other, none_some, grows_same, names_begun, OpenedValue, held_part}
-use proofs.Names.{messages_of, with_said, with_in_if, with_part, with_crossing, TranscriberValue, transcribed, Incoming}
-use proofs.Names.{Broken, Part, AreNumbered, are_talk, held_parts, base_parts, is_void, is_known, AreOwnEvents}
-use proofs.Names.{is_empty, says_first, is_broken, fits_out, IsBlank, IsServing, no_process, AreKept, AreAlike, IsFrom}
-use proofs.{Names.{Stage, of_abort, of_none, of_process, StandsLinked, Standing, IsMarked}, Parts.Base.{base_said}}
-use proofs.{Parts.Base.{base_void}, Serving.{Steps.{said_serves, void_serves, broken_serves}, Talks.{talk_append}}}
-use proofs.{Serving.Talks.{talk_first}, Standing.Crossings.{Crosses, crossing_makes, no_into, out_story, message_story}}
-use proofs.Standing.Linked.{SameLines, same_lines, transcript_on, story_on, IsOn, books_on, Makes, Stands, linked_next}
-use proofs.Standing.Open.{alike_self, alike_on, alike_turned, alike_put, put_each, SameBooks, kept_on, from_on}
-use proofs.Standing.Stages.{stage_on}
+use proofs.Names.{same_phase_is, put_own, put_other, none_some, by_option, grows_same, names_begun, OpenedValue}
+use proofs.Names.{held_part, messages_of, with_said, with_in_if, with_part, with_crossing, TranscriberValue}
+use proofs.Names.{transcribed, Incoming, Broken, Part, AreNumbered, are_talk, held_parts, base_parts, is_void, is_known}
+use proofs.Names.{AreOwnEvents, is_empty, says_first, is_broken, fits_out, IsBlank, IsServing, no_process, AreKept}
+use proofs.Names.{AreAlike, IsFrom, Stage, of_abort, of_none, of_process, StandsLinked, Standing, IsMarked}
+use proofs.{Parts.Base.{base_said, base_void}, Serving.Steps.{said_serves, void_serves, broken_serves}}
+use proofs.{Serving.Talks.{talk_append, talk_first}, Standing.Crossings.{Crosses, crossing_makes, no_into, out_story}}
+use proofs.Standing.{Crossings.{message_story}, Linked.{SameLines, same_lines, transcript_on, story_on, IsOn, books_on}}
+use proofs.Standing.{Linked.{Makes, Stands, linked_next}, Open.{alike_self, alike_on, alike_turned, alike_put}}
+use proofs.Standing.{Open.{put_each, SameBooks, kept_on, from_on}, Stages.{stage_on}}
 use Rattle.bus_transcript.specs.declared.part.Incoming.TheVariants.{Whole}
 
 -- ---- what is said
@@ -306,7 +306,18 @@ out_next s rows row h r fits = go (row_reading (story s rows).bus_state row).out
         linked_next s rows row h (record k { said = (if anew then [] else k.said) ++ m ∷ [] }) (record l { last = last_out m l }) c [] r.numbered r.on
         (makes (Some m) c e (out_story s b l d m e ∙ ap (λ (q : Bool). story_with_carried c (if q then l.undo else None)) p))
         (said_stands s rows row h ((if anew then [] else k.said) ++ m ∷ []) (record l { last = last_out m l }) c r (plain_void anew k.said m p (not-true (is_void k.said) f) ∙ sym (not-true (is_void k.said) f)) refl refl refl refl refl)
-    by_parity m true p e f = by_undo h.link.undo refl
+    by_parity m true p e f =
+        by_option h.link.undo
+        (λ i.
+        let c : Story = record b { link = Some last } in
+        linked_next s rows row h (record k { said = (if anew then [] else k.said) ++ m ∷ [] }) last c [] r.numbered r.on
+        (makes (Some m) c e (out_story s b l d m e ∙ ap (λ (q : Bool). story_with_carried c (if q then l.undo else None)) p ∙ ap (λ (o : Option CarriedBytes). story_with_carried c o) i))
+        (by_held h.opened.held refl four.1 c None i refl refl refl))
+        (λ u i.
+        let c : Story = record b { link = Some last } in
+        linked_next s rows row h (record k { said = (if anew then [] else k.said) ++ m ∷ [] }) last (record c { carried = with_carried b.carried u }) [] r.numbered r.on
+        (makes (Some m) (record c { carried = with_carried b.carried u }) e (out_story s b l d m e ∙ ap (λ (q : Bool). story_with_carried c (if q then l.undo else None)) p ∙ ap (λ (o : Option CarriedBytes). story_with_carried c o) i))
+        (by_held h.opened.held refl four.1 (record c { carried = with_carried b.carried u }) (Some u) i refl refl refl))
       where
         last : Link
         last = record h.link { last = last_out m h.link }
@@ -320,18 +331,6 @@ out_next s rows row h r fits = go (row_reading (story s rows).bus_state row).out
         by_held None i some c undo j carried link sent = wrong' some
         by_held (Some x) i some c undo j carried link sent =
             void_stands s rows row h ((if anew then [] else h.opened.said) ++ m ∷ []) last c undo r (record { void = first_void anew h.opened.said m p four.0; held = x; held_is = i; since = is_nothing h.opened.since four.2; backs = four.3; item = refl; undo = refl; link = link; sent = sent }) j carried
-
-        by_undo : (undo : Option CarriedBytes) → h.link.undo ≡ undo → Standing s (row ∷ rows)
-        by_undo None i =
-            let c : Story = record b { link = Some last } in
-            linked_next s rows row h (record k { said = (if anew then [] else k.said) ++ m ∷ [] }) last c [] r.numbered r.on
-            (makes (Some m) c e (out_story s b l d m e ∙ ap (λ (q : Bool). story_with_carried c (if q then l.undo else None)) p ∙ ap (λ (o : Option CarriedBytes). story_with_carried c o) i))
-            (by_held h.opened.held refl four.1 c None i refl refl refl)
-        by_undo (Some u) i =
-            let c : Story = record b { link = Some last } in
-            linked_next s rows row h (record k { said = (if anew then [] else k.said) ++ m ∷ [] }) last (record c { carried = with_carried b.carried u }) [] r.numbered r.on
-            (makes (Some m) (record c { carried = with_carried b.carried u }) e (out_story s b l d m e ∙ ap (λ (q : Bool). story_with_carried c (if q then l.undo else None)) p ∙ ap (λ (o : Option CarriedBytes). story_with_carried c o) i))
-            (by_held h.opened.held refl four.1 (record c { carried = with_carried b.carried u }) (Some u) i refl refl refl)
 
     go : (o : Option MsgOut) → d.out ≡ o
         → fits_out h.opened (not (is_known h.opened (story s rows).bus_state.bus) || is_some h.link.undo || is_broken h.opened.held) o anew ≡ true

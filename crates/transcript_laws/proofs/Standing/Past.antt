@@ -3,7 +3,7 @@ use Rattle.transcript_laws.proofs
 use proofs.Names.{ℕ, ◌≡◌, ◌∙◌, ◌==◌, Bool, true, false, ◌||◌, List, [], ◌∷◌, ◌++◌, Option, Some, None, refl, sym, ap}
 use proofs.Names.{subst, arith, ◌&&◌, same_Some, is_none, is_some, if◌then◌else◌, wrong, wrong', and_first, and_second}
 use proofs.Names.{or_second, Event, ProcId, is_command, Connection, Row, MsgOut, ScenarioValue, CarriedBytes}
-use proofs.Names.{carried_of, Item, process, abort, same_item, has_item, Story, story, none_some, some_there}
+use proofs.Names.{carried_of, Item, process, abort, same_item, has_item, Story, story, none_some, by_bool, some_there}
 use proofs.Names.{account_of, names_begun, name_sent, next_number, OpenedValue, settled, spoken, process_of}
 use proofs.Names.{process_after, same_nexus, TranscriberValue, name_of, closed_by, closed_with, finished_if}
 use proofs.Names.{transcribed, transcript_of, Name, Part, Process, Summary, are_talk, base_parts, out_parts, parts_now}
@@ -139,14 +139,13 @@ cut_past s t b h parts cut = go h.stage
     by_process id was st back is serving own talks (anew began e f x) (first item began' i order fresh) =
         let same : item ≡ process id = same_Some item (process id) (sym i ∙ is) in
         subst (λ (x : List Item). IsPast (t.items ++ new) x b.history) (sym (order ∙ ap (λ (x : Item). h.sent ++ x ∷ []) same)) (subst (λ (x : List Event). IsPast (t.items ++ new) (h.sent ++ process id ∷ []) x) (sym h.history_is) (first_past k (is_command b.bus_state.bus) id (carried_of b.carried id) back h.conn h.old was st n p parts false sum [] t.items h.sent began (ap (λ (x : Item). has_item h.sent x) (sym same) ∙ fresh) (own_number t n sum began (cut.plain id is)) (closing s t b h parts false [] id was st back cut.shown (leaves refl) (process_new t n sum was st began e f) serving own) h.past))
-    by_process id was st back is serving own talks (kept re x y) (again re' order) = by_name (are_talk (base_parts k)) refl
-      where
-        by_name : (q : Bool) → are_talk (base_parts k) ≡ q → IsAll t b k parts
-        by_name true talk = quiet s t b h parts cut re (talks talk) talk
-        by_name false talk =
-            let own_is : p ≡ x.process = process_kept s t n sum id x.definition x.process re (cut.named id is talk) x.definition_is x.last_is in
-            let called : name_sent h.sent (names_begun t.items) id ≡ Some p.name = x.named ∙ ap (λ (z : Process). Some z.name) (sym own_is) in
-            subst (λ (z : List Item). IsPast (t.items ++ new) z b.history) (sym order) (subst (λ (z : List Event). IsPast (t.items ++ new) h.sent z) (sym h.history_is) (again_past k (is_command b.bus_state.bus) id (carried_of b.carried id) back h.conn h.old was st n p parts false sum [] t.items h.sent re (named_sent h.sent (names_begun t.items) id p.name called) called (closing s t b h parts false [] id was st back cut.shown (leaves refl) (subst (λ (z : Process). IsAsBegun z was st) (sym own_is) y) serving own) h.past))
+    by_process id was st back is serving own talks (kept re x y) (again re' order) =
+        by_bool (are_talk (base_parts k))
+        (λ talk. quiet s t b h parts cut re (talks talk) talk)
+        (λ talk.
+        let own_is : p ≡ x.process = process_kept s t n sum id x.definition x.process re (cut.named id is talk) x.definition_is x.last_is in
+        let called : name_sent h.sent (names_begun t.items) id ≡ Some p.name = x.named ∙ ap (λ (z : Process). Some z.name) (sym own_is) in
+        subst (λ (z : List Item). IsPast (t.items ++ new) z b.history) (sym order) (subst (λ (z : List Event). IsPast (t.items ++ new) h.sent z) (sym h.history_is) (again_past k (is_command b.bus_state.bus) id (carried_of b.carried id) back h.conn h.old was st n p parts false sum [] t.items h.sent re (named_sent h.sent (names_begun t.items) id p.name called) called (closing s t b h parts false [] id was st back cut.shown (leaves refl) (subst (λ (z : Process). IsAsBegun z was st) (sym own_is) y) serving own) h.past)))
 
     by_abort : (j : ℕ) → h.link.item ≡ Some (abort j) → h.conn ≡ [] → are_talk (base_parts k) ≡ true → IsBegun b k h.link h.sent → IsAll t b k parts
     by_abort j is none talk (again re order) = quiet s t b h parts cut re none talk

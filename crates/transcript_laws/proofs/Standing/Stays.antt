@@ -8,7 +8,7 @@ use proofs.Names.{ScenarioValue, same_bool_is, same_id, same_bool, carried_id, c
 use proofs.Names.{row_reading, CarriedBytes, carried_of, carried_if, phase_events, end_events, connection_events, Item}
 use proofs.Names.{process, Sent, Story, by_status, story_with_end, story_after_events, story_with_carried}
 use proofs.Names.{carried_after_fault_if, story_after_fault, story_after_crossing, story_in_connection, story}
-use proofs.Names.{same_phase_is, grows_same, events_grow, names_begun, OpenedValue, is_complete, is_completion}
+use proofs.Names.{same_phase_is, by_bool, grows_same, events_grow, names_begun, OpenedValue, is_complete, is_completion}
 use proofs.Names.{with_part, with_fault, phase_over, phase_entered, with_crossing, with_still_row, with_row, by_change}
 use proofs.Names.{transcribed, Part, AreNumbered, are_talk, base_parts, is_known, AreOwnEvents, has_status, fits_still}
 use proofs.Names.{IsBlank, IsServing, AreKept, IsFrom, Stage, of_abort, of_none, of_process, StandsLinked, Standing}
@@ -289,7 +289,10 @@ end_next s rows row h r done same_story = go h.stage
 -- ---- what stands
 
 pub still_next : (s : ScenarioValue) (rows : List Row) (row : Row) (h : StandsLinked s (transcribed rows) (story s rows)) → StillRow s rows row h → Standing s (row ∷ rows)
-still_next s rows row h r = by_done (story_of.is_completion h.link (row_reading (story s rows).bus_state row).change) refl
+still_next s rows row h r =
+    by_bool (story_of.is_completion h.link (row_reading (story s rows).bus_state row).change)
+    (λ e. by_drives row.kind refl e)
+    (λ e. by_kind row.kind refl e)
   where
     b : Story
     b = story s rows
@@ -316,7 +319,3 @@ still_next s rows row h r = by_done (story_of.is_completion h.link (row_reading 
     by_kind (Drives lines) e none =
         quiet_next s rows row h b r none (λ i. is_fault (e i) && is_some b.bus_state.crossed) (ap (λ (kind : Kind). story_after_fault (story s rows) h.link kind) e) refl refl (λ x. refl)
     by_kind (Fault bit) e none = by_crossed bit (story s rows).bus_state.crossed e refl none
-
-    by_done : (q : Bool) → story_of.is_completion h.link (row_reading (story s rows).bus_state row).change ≡ q → Standing s (row ∷ rows)
-    by_done true e = by_drives row.kind refl e
-    by_done false e = by_kind row.kind refl e

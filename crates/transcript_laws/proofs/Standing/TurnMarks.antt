@@ -52,14 +52,12 @@ other_id id x y e but = ap (λ (z : ProcId). same_id z x) e ∙ id_turned x id b
 
 event_marked : (history : List Event) (id : ProcId) (event : Event) (c : CarriedBytes) → IsOwnEvent id event → same_id c.id id ≡ false → IsMarked history c
     → IsMarked (event ∷ history) c
-event_marked history id (Event.Accept y) c e but m = record { refused = m.refused; shown = m.shown; apart = m.apart; saved = m.saved }
 event_marked history id (Event.Refuse y) c e but m = record { refused = m.refused ∙ sym (ap (λ (q : Bool). q || has_refusal history c.id) (other_id id c.id y e but)); shown = m.shown; apart = m.apart; saved = m.saved }
 event_marked history id (Event.Run y) c e but m = record { refused = m.refused; shown = m.shown ∙ sym (ap (λ (q : Bool). q || has_answer history c.id) (other_id id c.id y e but)); apart = m.apart; saved = m.saved }
 event_marked history id (Event.Fail y code) c e but m = record { refused = m.refused; shown = m.shown ∙ sym (ap (λ (q : Bool). q || has_answer history c.id) (other_id id c.id y e but)); apart = m.apart; saved = m.saved }
-event_marked history id (Event.End y status) c e but m = record { refused = m.refused; shown = m.shown; apart = m.apart; saved = m.saved }
-event_marked history id (Event.Lost y) c e but m = record { refused = m.refused; shown = m.shown; apart = m.apart; saved = m.saved }
 event_marked history id (Event.Aborted host target unit what) c e but m = absurd e
 event_marked history id (Event.Reset dev) c e but m = absurd e
+event_marked history id _ c e but m = record { refused = m.refused; shown = m.shown; apart = m.apart; saved = m.saved }
 
 pub others_marked : (history : List Event) (id : ProcId) (list : List Event) (c : CarriedBytes) → AreOwnEvents id list → same_id c.id id ≡ false
     → IsMarked history c → IsMarked (list ++ history) c

@@ -6,12 +6,12 @@ use proofs.Names.{LineSet, is_command, is_data, is_message_in, changes_phase, Ch
 use proofs.Names.{Row, is_nil, ScenarioValue, array_after, same_id, carried_id, events_link, events_sent, RowReading}
 use proofs.Names.{row_reading, CarriedBytes, carried_of, is_whole_block, is_status_phase, carried_if, phase_events}
 use proofs.Names.{end_events, connection_events, Item, process, abort, Story, story_after_events, story_after_fault}
-use proofs.Names.{story_after_crossing, story_in_connection, story, id_is, nil_is, none_some, events_grow, no_events}
-use proofs.Names.{AccountValue, names_begun, OpenedValue, with_crossing, with_still_row, phase_over, phase_entered}
-use proofs.Names.{with_row, transcribed, IsKept, AreNumbered, are_talk, base_parts, is_known, AreOwnEvents}
-use proofs.Names.{undoes_nothing, is_open_item, arrives_first, leaves_talk, gets_known, fits_turn, IsBlank, IsServing}
-use proofs.Names.{no_process, AreKept, AreAlike, IsFrom, kept, Stage, of_abort, of_none, of_process, StandsLinked}
-use proofs.{Names.{Standing, IsAccountOf, IsKeptOf, has_refusal, IsMarked}, Past.Own.{own_append}}
+use proofs.Names.{story_after_crossing, story_in_connection, story, id_is, nil_is, none_some, by_bool, events_grow}
+use proofs.Names.{no_events, AccountValue, names_begun, OpenedValue, with_crossing, with_still_row, phase_over}
+use proofs.Names.{phase_entered, with_row, transcribed, IsKept, AreNumbered, are_talk, base_parts, is_known}
+use proofs.Names.{AreOwnEvents, undoes_nothing, is_open_item, arrives_first, leaves_talk, gets_known, fits_turn}
+use proofs.Names.{IsBlank, IsServing, no_process, AreKept, AreAlike, IsFrom, kept, Stage, of_abort, of_none, of_process}
+use proofs.{Names.{StandsLinked, Standing, IsAccountOf, IsKeptOf, has_refusal, IsMarked}, Past.Own.{own_append}}
 use proofs.Serving.{Events.{arrivals, turn_events}, Talks.{talk_serves, talk_turned}, Turns.{IsVoid, void_turned}}
 use proofs.{Serving.Turns.{cut_turned, turn_serves}, Standing.{Faults.{fault_phase}, Linked.{transcript_on, story_on}}}
 use proofs.Standing.{Linked.{IsOn, uncrossed, change_on, story_is_on, books_on, Makes, linked_next}, Open.{alike_self}}
@@ -255,13 +255,12 @@ process_next s rows row h id back was st r g =
         by false q w x y = wrong' x
 
     marked : (x : ProcId) → IsMarked (shown ++ (story s rows).history) (carried_of (story_after_events s (story s rows) shown).carried x)
-    marked x = by (same_id x id) refl
-      where
-        by : (q : Bool) → same_id x id ≡ q → IsMarked (shown ++ (story s rows).history) (carried_of (story_after_events s (story s rows) shown).carried x)
-        by true e =
-            subst (λ (y : ProcId). IsMarked (shown ++ (story s rows).history) (carried_of c.carried y)) (sym (id_is x id e)) (subst (λ (y : CarriedBytes). IsMarked (shown ++ (story s rows).history) y) (sym (events_own s (story s rows) id shown own)) (turn_marks (story s rows).history now (is_command (story s rows).bus_state.bus && is_whole_block now) room (is_status_phase (after_of s rows row)) first (r.marked id)))
-        by false e =
-            subst (λ (y : CarriedBytes). IsMarked (shown ++ (story s rows).history) y) (sym (events_other s (story s rows) id x shown own e)) (others_marked (story s rows).history id shown (carried_of (story s rows).carried x) own (ap (λ (y : ProcId). same_id y id) (carried_id (story s rows).carried x) ∙ e) (r.marked x))
+    marked x =
+        by_bool (same_id x id)
+        (λ e.
+        subst (λ (y : ProcId). IsMarked (shown ++ (story s rows).history) (carried_of c.carried y)) (sym (id_is x id e)) (subst (λ (y : CarriedBytes). IsMarked (shown ++ (story s rows).history) y) (sym (events_own s (story s rows) id shown own)) (turn_marks (story s rows).history now (is_command (story s rows).bus_state.bus && is_whole_block now) room (is_status_phase (after_of s rows row)) first (r.marked id))))
+        (λ e.
+        subst (λ (y : CarriedBytes). IsMarked (shown ++ (story s rows).history) y) (sym (events_other s (story s rows) id x shown own e)) (others_marked (story s rows).history id shown (carried_of (story s rows).carried x) own (ap (λ (y : ProcId). same_id y id) (carried_id (story s rows).carried x) ∙ e) (r.marked x)))
 
 -- ---- what stands
 

@@ -8,7 +8,7 @@ use proofs.Names.{out_no_status, stage_of_connection, link_phase, link_unbegun, 
 use proofs.{Names.{phase_over, are_talk, base_parts}, Fits.Turns.{not_both}, Opened.Bytes.{begun_crossing}}
 use proofs.Opened.{Facts.{OpenedAll}, Rows.{Going, RowMade, made_still, made_crossing, made_turn, plain_before}}
 use proofs.Said.{Facts.{outs_same, outs_turned, opened_turned, first_out, unsaid_same, first_talk}, Naming.{outs_of}}
-use Rattle.progress_laws.specs.trace_laws.specs.Tells.{of_process, of_abort}
+use Rattle.progress_laws.specs.row_laws.specs.Tells.{of_process, of_abort}
 
 pub record IsUnsaid (o : OpenedValue) : Type 0 where
   pub outs : outs_of (base_parts o) ≡ []

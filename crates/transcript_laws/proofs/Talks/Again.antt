@@ -10,16 +10,17 @@ use proofs.Names.{bytes_of_messages, from_byte, plan_anew, Serving, phase_of, ph
 use proofs.Names.{bus_free, message_repetition, after_refusal, message_out_leaving, phase_leaving, leaving_by}
 use proofs.Names.{run_length_if, plan_in_message_out, is_naming, Cause, Leaving, Messages, Phase, Task, target_def_of}
 use proofs.Names.{IsPlain, RunState, bus_of, item_of, process_item, process_served, run_state, hearing_of, leaving}
-use proofs.Names.{serving_of, task_if, task_of, not_both, InConnection, in_connection, SamePhase, AreGiven, OnMessage}
-use proofs.Names.{OnMessages, IsNoName, reading_in, run_count, counted_row, turn_handshakes, in_phase, out_in}
-use proofs.Names.{out_phase, names_first, names_left, answers_all, data_out_phase, task_here, front_length, Named}
-use proofs.Names.{known, said, refused, IsServed, OpenedValue, data_parts, phase_parts, phase_over, phase_entered, Part}
-use proofs.{Names.{are_talk, base_parts, parts_now}, Fits.Leavings.{left_asked}, Opened.Bytes.{still_keeps}}
-use proofs.Opened.Bytes.{CrossingMade, crossed_out, crossed_in, crossed_status, crossed_else, crossing_made, lines_same}
-use proofs.Opened.{Bytes.{out_same, in_same}, Facts.{OpenedAll}, Rows.{Going, Starts, RowMade, made_still}}
-use proofs.{Opened.Rows.{made_crossing, made_turn, plain_before}, Parts.{Base.{base_turned}, Lists.{broken_parts}}}
-use proofs.{Said.Facts.{same_cause}, Talks.{Named.{talk_more}, Status.{stays_more, starts_item, same_messages}}}
-use Rattle.progress_laws.specs.trace_laws.specs.Tells.{of_process, of_abort}
+use proofs.Names.{serving_of, task_if, task_of, InConnection, in_connection, SamePhase, not_both, AreGiven, OnMessage}
+use proofs.Names.{OnMessages, IsNoName, reading_in, run_count, in_phase, out_in, out_phase, by_bool, IsServed}
+use proofs.Names.{names_first, names_left, front_length, Named, known, said, refused, counted_row, turn_handshakes}
+use proofs.Names.{answers_all, data_out_phase, task_here, OpenedValue, data_parts, phase_parts, phase_over}
+use proofs.{Names.{phase_entered, Part, are_talk, base_parts, parts_now}, Fits.Leavings.{left_asked}}
+use proofs.Opened.Bytes.{still_keeps, CrossingMade, crossed_out, crossed_in, crossed_status, crossed_else}
+use proofs.Opened.{Bytes.{crossing_made, lines_same, out_same, in_same}, Facts.{OpenedAll}, Rows.{Going, Starts}}
+use proofs.{Opened.Rows.{RowMade, made_still, made_crossing, made_turn, plain_before}, Parts.Base.{base_turned}}
+use proofs.{Parts.Lists.{broken_parts}, Said.Facts.{same_cause}, Talks.{Named.{talk_more}, Status.{stays_more}}}
+use proofs.Talks.Status.{starts_item, same_messages}
+use Rattle.progress_laws.specs.row_laws.specs.Tells.{of_process, of_abort}
 
 -- How many bytes have crossed in a data phase of these lines.
 abbrev pub crossed_bytes : LineSet → Handshakes → ℕ
@@ -187,7 +188,10 @@ still_count false q false x y a b a' b' none e f z = ap (λ (m : ℕ). m == 0) (
 -- As a data phase is left a byte has crossed in it.
 some_crossed : (s : ScenarioValue) (p : List Row) (row : Row) (n : Connection) (g : Going s p row n) → n.reselected ≡ true → (run_state s p).exchange.begun ≡ true
     → changes_phase g.going.change ≡ true → is_data (bus_of (run_state s p)) ≡ true → (crossed_bytes (bus_of (run_state s p)) (run_state s p).handshakes == 0) ≡ false
-some_crossed s p row n g re b ep here = go (bus_of k).io refl
+some_crossed s p row n g re b ep here =
+    by_bool (bus_of k).io
+    (λ io. ap (λ (q : Bool). (if q then k.handshakes.requests else k.handshakes.answers) == 0) io ∙ ap (λ (h : Handshakes). h.requests == 0) pl.handshakes ∙ left_asked s p row n (sym pl.begun ∙ b) g.link.link turned)
+    (λ io. ap (λ (q : Bool). (if q then k.handshakes.requests else k.handshakes.answers) == 0) io ∙ answered (g.was.facts.served n g.stands g.calm) io)
   where
     k : RunState
     k = run_state s p
@@ -199,11 +203,7 @@ some_crossed s p row n g re b ep here = go (bus_of k).io refl
     turned = ap changes_phase (sym g.going.change_is) ∙ ep
 
     not_zero : (run m : ℕ) → 1 ≤ run → m ≡ run → (m == 0) ≡ false
-    not_zero run m h e = by (m == 0) refl
-      where
-        by : (q : Bool) → (m == 0) ≡ q → (m == 0) ≡ false
-        by false z = z
-        by true z = let zero = zero_of m z in absurd omega (arith, h, e, zero)
+    not_zero run m h e = by_bool (m == 0) (λ z. let zero = zero_of m z in absurd omega (arith, h, e, zero)) (λ z. z)
 
     answered : IsServed s k n → (bus_of k).io ≡ false → (k.handshakes.answers == 0) ≡ false
     answered (of_abort m a e f x y none phase) io = wrong (sym re ∙ none)
@@ -216,10 +216,6 @@ some_crossed s p row n g re b ep here = go (bus_of k).io refl
         let run : run_count s p n ≡ run_length (policy_of (target_def_of s n.target)) t = ap (run_length_if (policy_of (target_def_of s n.target))) task in
         not_zero (run_length (policy_of (target_def_of s n.target)) t) k.handshakes.answers (subst (λ (x : ℕ). 1 ≤ x) run counts.some)
         (answers_all s p row n g.obeys g.prompt g.was.stood g.was.sends.counts g.stands g.calm g.calm_after g.after (sym pl.begun ∙ b) turned pr t served task phase)
-
-    go : (q : Bool) → (bus_of k).io ≡ q → (crossed_bytes (bus_of k) k.handshakes == 0) ≡ false
-    go true io = ap (λ (q : Bool). (if q then k.handshakes.requests else k.handshakes.answers) == 0) io ∙ ap (λ (h : Handshakes). h.requests == 0) pl.handshakes ∙ left_asked s p row n (sym pl.begun ∙ b) g.link.link turned
-    go false io = ap (λ (q : Bool). (if q then k.handshakes.requests else k.handshakes.answers) == 0) io ∙ answered (g.was.facts.served n g.stands g.calm) io
 
 pub again_row : (s : ScenarioValue) (p : List Row) (row : Row) (n : Connection) (g : Going s p row n) (o after : OpenedValue) → RowMade (run_state s p) row n g.going.change o after
     → OpenedAll (run_state s p) n o → (n.reselected ≡ true → (run_state s p).exchange.begun ≡ true) → AgainTalk (run_state s p) n o → AgainTalk (run_state s (row ∷ p)) n after

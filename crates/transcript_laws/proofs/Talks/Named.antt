@@ -6,8 +6,8 @@ use proofs.Names.{changes_phase, is_command, is_data, is_message_in, is_message_
 use proofs.Names.{Connection, Row, got_in, MsgIn, is_nil, ScenarioValue, whole_in, message_in, message_out}
 use proofs.Names.{is_status_phase, Link, last_out, Exchange, from_byte, plan_anew, struck_plan, plan_in_message_out}
 use proofs.Names.{is_name, Hearing, Leaving, Messages, still_talk, host_of, RunState, bus_of, run_state, hearing_of}
-use proofs.Names.{leaving, serving_of, byte_messages, InConnection, in_connection, nameless_item, others_nameless}
-use proofs.Names.{from_nameless, left_messages, OnMessages, IsNoName, reading_in, heard_link, LinkAfter, says, hears}
+use proofs.Names.{leaving, serving_of, InConnection, in_connection, left_messages, byte_messages, nameless_item}
+use proofs.Names.{others_nameless, from_nameless, OnMessages, IsNoName, reading_in, heard_link, LinkAfter, says, hears}
 use proofs.Names.{stays, link_crossed, link_still, on_message, Named, known, said, refused, OpenedValue, held_part}
 use proofs.Names.{is_complete, is_completion, with_part, with_in_if, with_fault, with_still_row, phase_entered}
 use proofs.Names.{phase_over, phase_parts, data_parts, Incoming, Broken, Part, is_talk, are_talk, is_void, held_parts}

@@ -7,16 +7,16 @@ use proofs.Names.{events_link, RowReading, row_reading, message_in, message_out,
 use proofs.Names.{link_of, Story, aim_of, story_on_bus, story_by_change, story_after_connection, story_with_restored}
 use proofs.Names.{story_with_sent, Exchange, from_byte, one_message, plan_anew, plan_after_message, struck_plan}
 use proofs.Names.{phase_of, phase_leaving, leaving_by, plan_in_message_out, is_naming, Cause, Leaving, Messages, Phase}
-use proofs.Names.{RunState, bus_of, item_of, run_state, hearing_of, leaving, serving_of, byte_messages, not_both}
-use proofs.Names.{InConnection, in_connection, reading_in, in_phase, out_in, out_lines, names_first, Completes}
-use proofs.Names.{in_status, refused_again, completes_from, left_alone, LastBy, LastGiven, Named, known, said, refused}
-use proofs.Names.{IsServed, OpenedValue, is_completion, with_part, with_fault, phase_entered, phase_over, phase_parts}
+use proofs.Names.{RunState, bus_of, item_of, run_state, hearing_of, leaving, serving_of, InConnection, in_connection}
+use proofs.Names.{byte_messages, not_both, reading_in, in_phase, out_in, out_lines, IsServed, names_first, LastBy}
+use proofs.Names.{LastGiven, Named, known, said, refused, Completes, in_status, refused_again, completes_from}
+use proofs.Names.{left_alone, OpenedValue, is_completion, with_part, with_fault, phase_entered, phase_over, phase_parts}
 use proofs.{Names.{Part, are_talk, base_parts, out_parts, parts_now}, Held.Since.{follows_in}}
 use proofs.Opened.Bytes.{CrossingMade, crossed_out, crossed_in, crossed_status, crossed_else, crossing_made, lines_same}
 use proofs.Opened.{Bytes.{out_same, in_same, begun_same}, Rows.{Going, Starts, RowMade, made_still, made_crossing}}
 use proofs.{Opened.Rows.{made_turn, plain_before, knows_before}, Parts.Base.{base_more, base_turned}}
 use proofs.{Parts.Lists.{broken_parts}, Talks.Named.{talk_more, base_talk, in_talk}}
-use Rattle.progress_laws.specs.trace_laws.specs.Tells.{of_process, of_abort}
+use Rattle.progress_laws.specs.row_laws.specs.Tells.{of_process, of_abort}
 
 pub record StatusTalk (k : RunState) (o : OpenedValue) : Type 0 where
   pub status : k.exchange.begun ≡ true → is_status_phase (bus_of k) ≡ true → are_talk (base_parts o) ≡ false

@@ -9,8 +9,8 @@ use proofs.Names.{carried_of, is_status_phase, carried_if, phase_events, end_eve
 use proofs.Names.{Link, last_out, last_in, link_after_name, Story, by_status, story_with_end, story_after_events}
 use proofs.Names.{story_with_carried, story_with_restored, is_parity_error, story_after_out, carried_after_message_if}
 use proofs.Names.{story_after_message, story_after_in, story_after_byte, carried_after_fault_if, story_after_fault}
-use proofs.Names.{story_in_connection, RunState, run_state_after, same_self, link_after, put_own, IsRowIn, reading_in}
-use proofs.Names.{is_restore, fault_id, message_byte, in_link, story_row, no_events, is_alike, undoes_nothing}
+use proofs.Names.{story_in_connection, RunState, run_state_after, same_self, put_own, link_after, IsRowIn, reading_in}
+use proofs.Names.{fault_id, message_byte, in_link, story_row, no_events, is_restore, is_alike, undoes_nothing}
 use proofs.Standing.Changed.{KeepsId, changed_each, after_message, after_fault, ChangesBy, by_fault, unchanged, by_none}
 use Rattle.bus_due.specs.bus_trace.specs.declared.Kind.{Kind}
 use Rattle.bus_due.specs.bus_trace.specs.declared.Kind.TheVariants.{Drives, Fault}
@@ -31,14 +31,8 @@ abbrev pub KeepsAlike : (CarriedBytes → CarriedBytes) → Type 0
 KeepsAlike f = (u c : CarriedBytes) → is_alike u c ≡ true → is_alike u (f c) ≡ true
 
 message_keeps : (m : MsgIn) → is_restore m ≡ false → KeepsAlike (after_message m)
-message_keeps MsgIn.CommandComplete e u c h = h
-message_keeps MsgIn.SavePointer e u c h = h
 message_keeps MsgIn.RestorePointers e u c h = wrong e
-message_keeps MsgIn.Disconnect e u c h = h
-message_keeps (MsgIn.Identify lun) e u c h = h
-message_keeps (MsgIn.SimpleTag tag) e u c h = h
-message_keeps (MsgIn.Sdtr offer) e u c h = h
-message_keeps MsgIn.Reject e u c h = h
+message_keeps _ e u c h = h
 
 -- Outside COMMAND.
 fault_keeps : (lines : LineSet) → is_command lines ≡ false → KeepsAlike (after_fault lines)

@@ -10,11 +10,11 @@ use proofs.Names.{MsgIn, left_of, is_nil, ScenarioValue, Obeys, Tag, events_link
 use proofs.Names.{whole_in, message_in, message_out, is_status_phase, row_events_by, Link, link_of, Story, aim_of}
 use proofs.Names.{story_on_bus, story_by_change, Exchange, from_byte, bytes_of_messages, message_bytes, plan_anew}
 use proofs.Names.{phase_of, phase_leaving, leaving_by, plan_in_message_out, tag_named, Cause, Leaving, Messages, Phase}
-use proofs.Names.{Plan, run_state_plain, IsPrompt, IsPlain, RunState, bus_of, run_state, hearing_of, leaving}
-use proofs.Names.{serving_of, command_is, is_command_phase, not_both, InConnection, in_connection, nil_is, AreGiven}
-use proofs.Names.{OnMessage, OnMessages, half_after, reading_in, is_selected, in_out, message_line, out_in, out_line}
-use proofs.Names.{out_lines, RestoresNone, unbegun_lines, SamePlan, plan_stays, Whole, whole, Named, Names, known, said}
-use proofs.{Names.{refused, all, tag_alone, OpenedValue, transcribed, undoes_nothing}, Fits.Crossings.{whole_on}}
+use proofs.Names.{Plan, IsPrompt, IsPlain, RunState, bus_of, run_state, hearing_of, leaving, serving_of, command_is}
+use proofs.Names.{is_command_phase, InConnection, in_connection, not_both, nil_is, AreGiven, OnMessage, OnMessages}
+use proofs.Names.{half_after, reading_in, is_selected, in_out, message_line, out_in, out_line, out_lines, by_bool}
+use proofs.Names.{unbegun_lines, SamePlan, plan_stays, Named, Names, known, said, refused, all, tag_alone, RestoresNone}
+use proofs.{Names.{Whole, whole, OpenedValue, transcribed, undoes_nothing}, Fits.Crossings.{whole_on}}
 use proofs.{Held.Since.{follows_in, message_no_command}, Opened.Bytes.{lines_same, out_same, in_same, begun_same}}
 use proofs.Opened.{Bytes.{begun_crossing, begun_turned}, Rows.{Going, Starts, Holds, RowMade, made_still}}
 use proofs.{Opened.Rows.{made_crossing, made_turn, always, plain_before, knows_before}, Undone.Bytes.{UndoesSo}}
@@ -117,9 +117,7 @@ starts_undone s p row n h begun out named = record {
 
     tagged : (t : Tag) → OnMessage RestoresNone (tag_named t)
     tagged Tag.Untagged = tt
-    tagged (Tag.Simple x) = refl
-    tagged (Tag.Ordered x) = refl
-    tagged (Tag.Head x) = refl
+    tagged _ = refl
 
     naming : (pr : Process) (l : Link) (count : ℕ) → Names pr l j.exchange.plan.messages count → OnMessages RestoresNone j.exchange.plan.messages
     naming pr l count (all e unit) = subst (λ (m : Messages). OnMessages RestoresNone m) (sym e) (refl, tagged pr.tag)
@@ -315,7 +313,10 @@ UndoesNothing s p =
 
 pub undoes_row : (s : ScenarioValue) (p : List Row) (n : Connection) (o : OpenedValue) → Obeys s → IsPrompt s p → connection p ≡ Some n → (bus p).rst ≡ false
     → (transcribed p).opened ≡ Some o → UndoesNothing s p
-undoes_row s p n o obeys prompt con calm there l el here some = go k.exchange.begun refl
+undoes_row s p n o obeys prompt con calm there l el here some =
+    by_bool k.exchange.begun
+    (λ b. by b (h.given b here))
+    (λ b. h.unbegun b l el)
   where
     k : RunState
     k = run_state s p
@@ -324,7 +325,7 @@ undoes_row s p n o obeys prompt con calm there l el here some = go k.exchange.be
     was = whole s p obeys prompt
 
     pl : IsPlain s p k
-    pl = run_state_plain s p was.stood.standing.devices
+    pl = was.stood.plain
 
     h : UndoneTalk k
     h = always s UndoneIn obeys (undone_holds s) p prompt n con calm o there
@@ -335,7 +336,3 @@ undoes_row s p n o obeys prompt con calm there l el here some = go k.exchange.be
     by : k.exchange.begun ≡ true → Undone k.story k.exchange.plan.messages → undoes_nothing k.story l l.undo ≡ true
     by b (inl w) = w.0 l el
     by b (inr e) = wrong (sym (brief_half k.exchange.plan.messages k.story.bus_state.dialogue.half k.handshakes.requests e (given b)) ∙ some)
-
-    go : (b : Bool) → k.exchange.begun ≡ b → undoes_nothing k.story l l.undo ≡ true
-    go false b = h.unbegun b l el
-    go true b = by b (h.given b here)

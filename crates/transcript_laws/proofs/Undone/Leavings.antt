@@ -2,7 +2,7 @@
 -- those again that MESSAGE PARITY ERROR refused (6.1.9, 6.6.13, 6.6.21).
 use Rattle.transcript_laws.proofs
 use proofs.Names.{◌≡◌, Bool, true, ◌&&◌, Option, refl, ◌||◌, is_none, MsgIn, Serving, phase_leaving, Cause, Leaving}
-use proofs.Names.{Messages, Phase, OnMessages, RestoresNone, is_short}
+use proofs.Names.{Messages, Phase, OnMessages, is_short, RestoresNone}
 use Rattle.progress_laws.specs.link_laws.proofs.LeavingWays as ways
 
 abbrev pub is_brief : Option MsgIn → Bool

@@ -1,4 +1,4 @@
-use Rattle.bus_books.proofs.Struck.{strikes_are}
+use Rattle.bus_books.proofs.Failures.Struck.{strikes_are}
 use Rattle.bus_books.proofs.causes.failures_have_strikes.Goals as goal
 
 pub returns : goal.returns

@@ -1,5 +1,5 @@
-use Rattle.bus_books.proofs.Counts.{struck_is, counted}
-use Rattle.bus_books.proofs.GiveUps.{failure_is, loss_is}
+use Rattle.bus_books.proofs.Failures.Counts.{struck_is, counted}
+use Rattle.bus_books.proofs.Failures.GiveUps.{failure_is, loss_is}
 use Rattle.bus_books.proofs.causes.give_ups_have_causes.Goals as goal
 
 pub returns-clause-struck : goal.returns-clause-struck

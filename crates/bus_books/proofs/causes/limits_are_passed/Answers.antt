@@ -1,5 +1,5 @@
-use Rattle.bus_books.proofs.Faults.{faults_are, faults_pass}
-use Rattle.bus_books.proofs.FailureTraces.{failures_are, losses_are}
+use Rattle.bus_books.proofs.Failures.Faults.{faults_are, faults_pass}
+use Rattle.bus_books.proofs.Failures.Facts.{failures_are, losses_are}
 use Rattle.bus_books.proofs.causes.limits_are_passed.Goals as goal
 
 pub returns-clause-failures : goal.returns-clause-failures

@@ -1,4 +1,4 @@
-use Rattle.bus_books.proofs.Refusals.{refused_exactly, refused_by_plan}
+use Rattle.bus_books.proofs.Replies.Refusals.{refused_exactly, refused_by_plan}
 use Rattle.bus_books.proofs.causes.refusals_have_causes.Goals as goal
 
 pub returns-clause-array : goal.returns-clause-array

@@ -1,6 +1,6 @@
 use Rattle.bus_books.proofs
-use proofs.{Names.{ap, Option, is_some, Array}, Refusals.{full_in_trace}, Replies.{reply_caused, full_caused}}
-use proofs.Senses.{sense_caused}
+use proofs.{Names.{ap, Option, is_some, Array}, Replies.{Facts.{reply_caused, full_caused}, Refusals.{full_in_trace}}}
+use proofs.Replies.Senses.{sense_caused}
 use Rattle.bus_books.proofs.causes.replies_have_causes.Goals as goal
 
 pub returns-clause-replies : goal.returns-clause-replies

@@ -1,4 +1,4 @@
-use Rattle.bus_books.proofs.Aims.{aims_are}
+use Rattle.bus_books.proofs.Items.Facts.{aims_are}
 use Rattle.bus_books.proofs.laws.aims_are_items.Goals as goal
 
 -- src/laws.rt

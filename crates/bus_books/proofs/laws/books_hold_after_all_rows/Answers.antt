@@ -1,5 +1,5 @@
 use Rattle.bus_books.proofs
-use proofs.{Names.{run_state}, Aims.{aims_are}, RowTies.{row_of}, Traces.{books_on, books_are, trace_faithful}}
+use proofs.{Names.{run_state}, Items.Facts.{aims_are}, RowTies.{row_of}, Traces.{books_on, books_are, trace_faithful}}
 use Rattle.bus_books.proofs.laws.books_hold_after_all_rows.Goals as goal
 
 -- src/laws.rt

@@ -1,4 +1,4 @@
-use Rattle.bus_books.proofs.ReadyProcesses.{selects_for, reselects_for}
+use Rattle.bus_books.proofs.Items.Ready.{selects_for, reselects_for}
 use Rattle.bus_books.proofs.laws.callees_are_the_other_end.Goals as goal
 
 -- src/laws.rt

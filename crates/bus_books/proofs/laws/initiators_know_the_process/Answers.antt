@@ -1,5 +1,5 @@
 use Rattle.bus_books.proofs
-use proofs.{Names.{run_state}, FirstLinks.{knows_first}, Knows.{knows_on}}
+use proofs.{Names.{run_state}, Known.{First.{knows_first}, Rows.{knows_on}}}
 use Rattle.bus_books.proofs.laws.initiators_know_the_process.Goals as goal
 
 -- src/laws.rt

@@ -1,5 +1,5 @@
 use Rattle.bus_books.proofs
-use proofs.{Names.{run_state}, Aims.{aims_are}, FirstWords.{speaks_first}, Speaks.{speaks_on}}
+use proofs.{Names.{run_state}, Items.Facts.{aims_are}, Said.{First.{speaks_first}, Rows.{speaks_on}}}
 use Rattle.bus_books.proofs.laws.initiators_say_what_is_asked.Goals as goal
 
 -- src/laws.rt

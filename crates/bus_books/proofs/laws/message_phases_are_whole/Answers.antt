@@ -1,4 +1,4 @@
-use Rattle.bus_books.proofs.MessageRules.{row_known, row_left, row_opens, row_keeps, end_keeps}
+use Rattle.bus_books.proofs.Messages.Rules.{row_known, row_left, row_opens, row_keeps, end_keeps}
 use Rattle.bus_books.proofs.laws.message_phases_are_whole.Goals as goal
 
 -- src/laws.rt

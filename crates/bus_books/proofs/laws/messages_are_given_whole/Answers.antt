@@ -1,4 +1,4 @@
-use Rattle.bus_books.proofs.Given.{in_is_whole, in_is_known}
+use Rattle.bus_books.proofs.Given.Messages.{in_is_whole, in_is_known}
 use Rattle.bus_books.proofs.laws.messages_are_given_whole.Goals as goal
 
 -- src/laws.rt

@@ -1,4 +1,4 @@
-use Rattle.bus_books.proofs.Opened.{opening_named, out_is_known}
+use Rattle.bus_books.proofs.Said.Leavings.{opening_named, out_is_known}
 use Rattle.bus_books.proofs.laws.openings_are_heard.Goals as goal
 
 -- src/laws.rt

@@ -1,5 +1,5 @@
 use Rattle.bus_books.proofs
-use proofs.{Names.{run_state}, CarriedBlocks.{block_own, block_follows}, CarriedRows.{carry_on, all_carry}}
+use proofs.{Names.{run_state}, Carried.{Commands.{block_own, block_follows}, Facts.{carry_on, all_carry}}}
 use Rattle.bus_books.proofs.laws.processes_carry_their_own_bytes.Goals as goal
 
 -- src/laws.rt

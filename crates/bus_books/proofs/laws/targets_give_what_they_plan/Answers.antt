@@ -1,5 +1,5 @@
 use Rattle.bus_books.proofs
-use proofs.{Names.{run_state}, Given.{gives_first}, Gives.{gives_on}}
+use proofs.{Names.{run_state}, Given.{Messages.{gives_first}, Rows.{gives_on}}}
 use Rattle.bus_books.proofs.laws.targets_give_what_they_plan.Goals as goal
 
 -- src/laws.rt

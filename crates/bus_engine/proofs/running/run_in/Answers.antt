@@ -19,7 +19,7 @@ use Rattle.bus_due.specs.Plain.{AreOfDevices}
 use Rattle.bus_run.specs.Runs.{AreEarly}
 use Rattle.bus_due.specs.bus_story.specs.Right.{all_carried}
 use Rattle.transcript_laws.specs.bus_transcript.specs.Events.{TellsHistory}
-use Rattle.delivery_laws.specs.progress_laws.proofs.Ended.{joined}
+use Rattle.delivery_laws.specs.progress_laws.proofs.Quiet.Facts.{joined}
 use Rattle.bus_due.specs.bus_story.specs.Outcomes.{Outcome}
 use Rattle.delivery_laws.specs.Delivery.{AreAnswered, AreCaused, AreChecked, AreOwnSenses, AreStoppedSenses, HaveStrikes, IsDelivered}
 use Rattle.delivery_laws.specs.Endings.{AreExact, arrive_by_room}

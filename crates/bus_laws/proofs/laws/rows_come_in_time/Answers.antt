@@ -1,4 +1,4 @@
-use Rattle.bus_laws.proofs.DueTimes.{times_bounded, times_far}
+use Rattle.bus_laws.proofs.Times.Facts.{times_bounded, times_far}
 use Rattle.bus_laws.proofs.laws.rows_come_in_time.Goals as goal
 
 pub returns-clause-each : goal.returns-clause-each

@@ -1,6 +1,6 @@
-use Rattle.bus_laws.proofs.Together.{standing_first, stage_first, standing_next}
-use Rattle.bus_laws.proofs.Limits.{obeys_latencies}
-use Rattle.bus_laws.proofs.Prompt.{least_is, next_row_is, reset_row_is}
+use Rattle.bus_laws.proofs.Stages.Next.{standing_first, stage_first, standing_next}
+use Rattle.bus_laws.proofs.Times.Limits.{obeys_latencies}
+use Rattle.bus_laws.proofs.Stages.Facts.{least_is, next_row_is, reset_row_is}
 use Rattle.bus_laws.proofs.laws.stages_go_on.Goals as goal
 
 pub returns-clause-start : goal.returns-clause-start

@@ -1,5 +1,5 @@
-use Rattle.bus_laws.proofs.Limits.{obeys_latencies}
-use Rattle.bus_laws.proofs.Prompt.{next_row_is, stood}
+use Rattle.bus_laws.proofs.Times.Limits.{obeys_latencies}
+use Rattle.bus_laws.proofs.Stages.Facts.{next_row_is, stood}
 use Rattle.bus_laws.proofs.laws.traces_are_lawful_up_to_a_connection.Goals as goal
 
 pub returns-clause-lawful : goal.returns-clause-lawful

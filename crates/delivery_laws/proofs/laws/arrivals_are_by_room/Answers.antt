@@ -1,6 +1,6 @@
 use Rattle.delivery_laws.proofs
 use proofs.Names.{◌≡◌, true, List, ap, subst, Event, Story, prompt_plain, array_of, run_state, arrive_by_room}
-use proofs.{Arrivals.{by_room}, OwnOutcomes.{own_plays}}
+use proofs.{Queues.Arrivals.{by_room}, Senses.Facts.{own_plays}}
 use Rattle.delivery_laws.proofs.laws.arrivals_are_by_room.Goals as goal
 
 pub returns : goal.returns

@@ -1,4 +1,4 @@
-use Rattle.delivery_laws.proofs.CalmTraces.{calm_history}
+use Rattle.delivery_laws.proofs.Resets.Calm.{calm_history}
 use Rattle.delivery_laws.proofs.laws.calm_scenarios_have_calm_histories.Goals as goal
 
 pub returns : goal.returns

@@ -1,5 +1,5 @@
 use Rattle.delivery_laws.proofs
-use proofs.{Names.{command_id}, CheckedOutcomes.{IsCalmTrace, Laws, unheard, wrong_outcome}, Delivered.{HaveCauses}}
+use proofs.{Names.{command_id}, Outcomes.{Checked.{IsCalmTrace, Laws, unheard, wrong_outcome}, Delivered.{HaveCauses}}}
 use Rattle.delivery_laws.proofs.laws.invalid_commands_are_checked.Goals as goal
 
 pub returns : goal.returns

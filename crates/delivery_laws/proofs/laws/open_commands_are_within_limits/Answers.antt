@@ -1,5 +1,5 @@
 use Rattle.delivery_laws.proofs
-use proofs.{Names.{ℕ, ◌≤◌, sym, subst, open_limit_of, run_state}, Counting.{open_length}, OpenWithin.{open_within}}
+use proofs.{Names.{ℕ, ◌≤◌, sym, subst, open_limit_of, run_state}, Queues.{Counts.{open_length}, Open.{open_within}}}
 use Rattle.delivery_laws.proofs.laws.open_commands_are_within_limits.Goals as goal
 
 pub returns : goal.returns

@@ -1,6 +1,6 @@
 use Rattle.delivery_laws.proofs
-use proofs.{Names.{◌∷◌}, OfferAnswers.{offer_answered}, OpeningWords.{offers_settled, opening_told}}
-use proofs.RecoveryRows.{prompt_at}
+use proofs.{Names.{◌∷◌}, Openings.{Facts.{offers_settled, opening_told}, Offers.{offer_answered}}}
+use proofs.Recoveries.Rows.{prompt_at}
 use Rattle.delivery_laws.proofs.laws.openings_are_said.Goals as goal
 
 pub returns-clause-said : goal.returns-clause-said

@@ -1,7 +1,7 @@
 use Rattle.delivery_laws.proofs
 use proofs.Names.{◌≡◌, ◌∙◌, Option, Some, sym, ap, array_after, reply_of, Array, Story, trace_history, prompt_plain}
-use proofs.{Names.{array_of, run_state}, Delivered.{HaveCauses}, ExactOutcomes.{full_told, outcome_told, reply_told}}
-use proofs.{ExactOutcomes.{unanswered_told}, OwnOutcomes.{own_plays}}
+use proofs.{Names.{array_of, run_state}, Outcomes.{Delivered.{HaveCauses}, Exact.{full_told, outcome_told, reply_told}}}
+use proofs.{Outcomes.Exact.{unanswered_told}, Senses.Facts.{own_plays}}
 use Rattle.delivery_laws.proofs.laws.outcomes_are_exact.Goals as goal
 
 pub returns : goal.returns

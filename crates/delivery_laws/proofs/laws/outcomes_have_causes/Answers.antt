@@ -1,7 +1,7 @@
 use Rattle.delivery_laws.proofs
 use proofs.Names.{◌≡◌, true, List, sym, ap, subst, Event, command_id, Story, prompt_plain, has_event, was_refused}
-use proofs.{Names.{has_bus_reset, has_command_abort}, Delivered.{HaveCauses}, OutcomeCauses.{abort_came, failed_above}}
-use proofs.OutcomeCauses.{full_refused, lost_above, reset_came, unanswered_above}
+use proofs.{Names.{has_bus_reset, has_command_abort}, Outcomes.Causes.{abort_came, failed_above, full_refused}}
+use proofs.Outcomes.{Causes.{lost_above, reset_came, unanswered_above}, Delivered.{HaveCauses}}
 use Rattle.delivery_laws.proofs.laws.outcomes_have_causes.Goals as goal
 
 pub returns : goal.returns

@@ -1,7 +1,7 @@
 use Rattle.delivery_laws.proofs
 use proofs.Names.{◌≡◌, true, List, ◌∷◌, sym, ap, subst, LineSet, Row, ScenarioValue, phase_of, Phase, run_state_plain}
-use proofs.{Names.{bus_of, run_state, is_struck_phase, is_wrong_phase, whole}, GiveUpRows.{failed_by, lost_by}}
-use proofs.{RecoveryRows.{left_by_table, prompt_at}, StruckPhases.{wrong_for_target}}
+use proofs.{Names.{bus_of, run_state, is_struck_phase, is_wrong_phase, whole}, Recoveries.GiveUps.{failed_by, lost_by}}
+use proofs.Recoveries.{Rows.{left_by_table, prompt_at}, Struck.{wrong_for_target}}
 use Rattle.delivery_laws.proofs.laws.recoveries_are_due.Goals as goal
 
 abbrev IsWrongAt : ScenarioValue → List Row → Phase → Type 0

@@ -1,4 +1,4 @@
-use Rattle.delivery_laws.proofs.GivenReplies.{all_given}
+use Rattle.delivery_laws.proofs.Replies.Given.{all_given}
 use Rattle.delivery_laws.proofs.laws.replies_are_given.Goals as goal
 
 pub returns : goal.returns

@@ -1,7 +1,8 @@
 use Rattle.delivery_laws.proofs
 use proofs.Names.{◌∙◌, List, Option, sym, ap, subst, Event, array_after, reply_of, Array, command_id, ending_of, Story}
-use proofs.{Names.{prompt_plain, array_of, run_state, has_event, HasRun}, CheckedOutcomes.{ran_outcome}}
-use proofs.{Delivered.{HaveCauses}, LastingReplies.{failed_lasts, ran_lasts, refused_lasts}, OwnOutcomes.{own_plays}}
+use proofs.{Names.{prompt_plain, array_of, run_state, has_event, HasRun}, Outcomes.Checked.{ran_outcome}}
+use proofs.{Outcomes.Delivered.{HaveCauses}, Replies.Lasting.{failed_lasts, ran_lasts, refused_lasts}}
+use proofs.Senses.Facts.{own_plays}
 use Rattle.delivery_laws.proofs.laws.replies_last.Goals as goal
 
 pub returns-clause-ran : goal.returns-clause-ran

@@ -1,4 +1,4 @@
-use Rattle.delivery_laws.proofs.ResetLines.{begin_by_lines, end_in_time, lines_have_rows}
+use Rattle.delivery_laws.proofs.Resets.Facts.{begin_by_lines, end_in_time, lines_have_rows}
 use Rattle.delivery_laws.proofs.laws.resets_are_by_lines.Goals as goal
 
 pub returns-clause-begins : goal.returns-clause-begins

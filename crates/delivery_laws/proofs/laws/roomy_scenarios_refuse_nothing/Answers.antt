@@ -1,5 +1,5 @@
 use Rattle.delivery_laws.proofs
-use proofs.{Names.{run_state}, Room.{none_refused}, Taken.{never_refused}}
+use proofs.{Names.{run_state}, Queues.{Facts.{none_refused}, Taken.{never_refused}}}
 use Rattle.delivery_laws.proofs.laws.roomy_scenarios_refuse_nothing.Goals as goal
 
 pub returns : goal.returns

@@ -1,6 +1,6 @@
 use Rattle.delivery_laws.proofs
-use proofs.{Names.{◌≡◌, true, List, ap, subst, Event, Story, prompt_plain, has_sense_stop}, Delivered.{HaveCauses}}
-use proofs.Stopped.{sense_stopped}
+use proofs.Names.{◌≡◌, true, List, ap, subst, Event, Story, prompt_plain, has_sense_stop}
+use proofs.{Outcomes.Delivered.{HaveCauses}, Senses.Stopped.{sense_stopped}}
 use Rattle.delivery_laws.proofs.laws.senseless_checks_were_stopped.Goals as goal
 
 pub returns : goal.returns

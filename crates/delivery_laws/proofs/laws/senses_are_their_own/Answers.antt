@@ -1,6 +1,6 @@
 use Rattle.delivery_laws.proofs
 use proofs.Names.{◌≡◌, true, List, ap, subst, Event, command_id, Story, prompt_plain, has_event, IsOwnSense, RanSo}
-use proofs.{OutcomeCauses.{failed_above}, OwnOutcomes.{own_failed, own_sense, ran_so}}
+use proofs.{Outcomes.Causes.{failed_above}, Senses.Facts.{own_failed, own_sense, ran_so}}
 use Rattle.delivery_laws.proofs.laws.senses_are_their_own.Goals as goal
 
 pub returns : goal.returns

@@ -1,4 +1,4 @@
-use Rattle.delivery_laws.proofs.Callings.{unanswered_struck}
+use Rattle.delivery_laws.proofs.Callings.Facts.{unanswered_struck}
 use Rattle.delivery_laws.proofs.laws.unanswered_commands_were_struck.Goals as goal
 
 pub returns : goal.returns

@@ -1,4 +1,4 @@
-use Rattle.delivery_laws.proofs.Delivered.{CalmLaws, HaveCauses, delivered}
+use Rattle.delivery_laws.proofs.Outcomes.Delivered.{CalmLaws, HaveCauses, delivered}
 use Rattle.delivery_laws.proofs.laws.unrefused_commands_are_delivered.Goals as goal
 
 pub returns : goal.returns

@@ -1,4 +1,4 @@
-use Rattle.delivery_laws.proofs.ValidReplies.{valid_replies}
+use Rattle.delivery_laws.proofs.Replies.Valid.{valid_replies}
 use Rattle.delivery_laws.proofs.laws.valid_commands_run_good.Goals as goal
 
 pub returns : goal.returns

@@ -1,5 +1,5 @@
 use Rattle.dialogue_laws.proofs
-use proofs.{Names.{free_when_ended, joined}, AbortLines.{aborts_ended, abort_states}, AbortsTold.{aborts_told}}
+use proofs.{Names.{free_when_ended, joined}, AbortLines.{Facts.{aborts_ended, abort_states}, Told.{aborts_told}}}
 use Rattle.dialogue_laws.proofs.aborts.abort_lines_are_over.Goals as goal
 
 pub returns-clause-so_far : goal.returns-clause-so_far

@@ -1,7 +1,7 @@
 use Rattle.dialogue_laws.proofs
-use proofs.ComplaintRows.{data_in_attends, data_in_complains, message_complains, status_complains}
-use proofs.{RecoveryRows.{left_of}, Refusals.{cause_stays, refused_out}, StruckPhases.{is_talk, struck_attends}}
-use proofs.StruckRuns.{run_attends}
+use proofs.{Leavings.Recoveries.{left_of}, Struck.Complaints.{data_in_attends, data_in_complains, message_complains}}
+use proofs.Struck.{Complaints.{status_complains}, Phases.{is_talk, struck_attends}, Refusals.{cause_stays, refused_out}}
+use proofs.Struck.Runs.{run_attends}
 use Rattle.dialogue_laws.proofs.recoveries.complaints_follow.Goals as goal
 
 pub returns-clause-data_in : goal.returns-clause-data_in

@@ -1,4 +1,4 @@
-use Rattle.dialogue_laws.proofs.GiveUpRows.{fails_so, loses_so}
+use Rattle.dialogue_laws.proofs.Leavings.GiveUps.{fails_so, loses_so}
 use Rattle.dialogue_laws.proofs.recoveries.nothing_else_is_given_up.Goals as goal
 
 pub returns-clause-fails : goal.returns-clause-fails

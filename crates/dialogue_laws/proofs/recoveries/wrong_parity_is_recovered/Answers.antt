@@ -1,6 +1,6 @@
-use Rattle.dialogue_laws.proofs.PhaseEnds.{phase_end}
-use Rattle.dialogue_laws.proofs.RecoveryRows.{command_recovers, data_in_recovers, data_out_recovers, leaves_phase}
-use Rattle.dialogue_laws.proofs.RecoveryRows.{left_of, message_recovers, names_repeat, status_recovers, taken_all}
+use Rattle.dialogue_laws.proofs
+use proofs.Leavings.Recoveries.{command_recovers, data_in_recovers, data_out_recovers, leaves_phase, left_of}
+use proofs.Leavings.{Recoveries.{message_recovers, names_repeat, status_recovers, taken_all}, Rows.{phase_end}}
 use Rattle.dialogue_laws.proofs.recoveries.wrong_parity_is_recovered.Goals as goal
 
 pub returns-clause-command : goal.returns-clause-command

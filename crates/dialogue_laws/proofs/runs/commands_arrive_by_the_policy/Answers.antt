@@ -1,5 +1,5 @@
-use Rattle.dialogue_laws.proofs.RecoveryRows.{left_of}
-use Rattle.dialogue_laws.proofs.RunRows.{queues, refuses, starts_data, starts_status}
+use Rattle.dialogue_laws.proofs.Leavings.Recoveries.{left_of}
+use Rattle.dialogue_laws.proofs.DataRuns.Rows.{queues, refuses, starts_data, starts_status}
 use Rattle.dialogue_laws.proofs.runs.commands_arrive_by_the_policy.Goals as goal
 
 pub returns-clause-queued : goal.returns-clause-queued

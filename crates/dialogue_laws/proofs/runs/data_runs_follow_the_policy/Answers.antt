@@ -1,5 +1,5 @@
 use Rattle.dialogue_laws.proofs
-use proofs.{RecoveryRows.{left_of}, RunBytes.{length_in, length_out}, RunRows.{finishes, pauses}}
+use proofs.{DataRuns.{Bytes.{length_in, length_out}, Rows.{finishes, pauses}}, Leavings.Recoveries.{left_of}}
 use Rattle.dialogue_laws.proofs.runs.data_runs_follow_the_policy.Goals as goal
 
 pub returns-clause-pauses : goal.returns-clause-pauses

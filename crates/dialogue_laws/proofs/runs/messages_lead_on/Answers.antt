@@ -1,5 +1,5 @@
-use Rattle.dialogue_laws.proofs.RecoveryRows.{left_of}
-use Rattle.dialogue_laws.proofs.RunRows.{to_command, to_data, to_end, to_free, to_status}
+use Rattle.dialogue_laws.proofs.Leavings.Recoveries.{left_of}
+use Rattle.dialogue_laws.proofs.DataRuns.Rows.{to_command, to_data, to_end, to_free, to_status}
 use Rattle.dialogue_laws.proofs.runs.messages_lead_on.Goals as goal
 
 pub returns-clause-command : goal.returns-clause-command

@@ -1,6 +1,6 @@
 use Rattle.link_laws.proofs
-use proofs.Names.{refl, obeys_fits, obeys_latencies, least_is, standing_first, stage_first, apart}
-use proofs.{RunLengths.{runs_are_short}, Traces.{from_any, sides_are}}
+use proofs.Names.{refl, obeys_fits, least_is, standing_first, stage_first, obeys_latencies, apart}
+use proofs.{Runs.Lengths.{runs_are_short}, Traces.{from_any, sides_are}}
 use Rattle.link_laws.proofs.laws.connections_go_on.Goals as goal
 
 pub returns-clause-start : goal.returns-clause-start

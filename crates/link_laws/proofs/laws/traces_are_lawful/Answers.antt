@@ -1,5 +1,5 @@
 use Rattle.link_laws.proofs
-use proofs.{Names.{obeys_fits, obeys_latencies}, RunLengths.{runs_are_short}, Traces.{stood}}
+use proofs.{Names.{obeys_fits, obeys_latencies}, Runs.Lengths.{runs_are_short}, Traces.{stood}}
 use Rattle.link_laws.proofs.laws.traces_are_lawful.Goals as goal
 
 pub returns-clause-lawful : goal.returns-clause-lawful

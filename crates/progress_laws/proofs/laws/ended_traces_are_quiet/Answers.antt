@@ -1,4 +1,4 @@
-use Rattle.progress_laws.proofs.Ended.{free_when_ended, joined, lawful_when_ended, unwanted_when_ended}
+use Rattle.progress_laws.proofs.Quiet.Facts.{free_when_ended, joined, lawful_when_ended, unwanted_when_ended}
 use Rattle.progress_laws.proofs.laws.ended_traces_are_quiet.Goals as goal
 
 pub returns-clause-quiet : goal.returns-clause-quiet

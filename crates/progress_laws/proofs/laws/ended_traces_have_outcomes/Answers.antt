@@ -1,6 +1,6 @@
 use Rattle.progress_laws.proofs
-use proofs.{AnsweredEnds.{answered_when_ended}, DebtTraces.{Indebted, indebted}, Ended.{joined}}
-use proofs.QueuedTraces.{all_queued}
+use proofs.{Debts.Facts.{Indebted, indebted}, Outcomes.Facts.{answered_when_ended}, Queues.Facts.{all_queued}}
+use proofs.Quiet.Facts.{joined}
 use Rattle.progress_laws.proofs.laws.ended_traces_have_outcomes.Goals as goal
 
 pub returns : goal.returns

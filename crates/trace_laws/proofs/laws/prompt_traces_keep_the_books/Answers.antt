@@ -1,5 +1,5 @@
 use Rattle.trace_laws.proofs
-use proofs.{Names.{obeys_fits, seats_are, units_are, trace_faithful}, Bytes.Facts.{byte_values}, Whole.{whole}}
+use proofs.{Names.{obeys_fits, seats_are, units_are, trace_faithful, byte_values}, Whole.{whole}}
 use Rattle.trace_laws.proofs.laws.prompt_traces_keep_the_books.Goals as goal
 
 pub returns-clause-rows : goal.returns-clause-rows

@@ -1,0 +1,3 @@
+-- What an initiator says first is its opening, and an offer is answered.
+pub mod Facts
+pub mod Offers

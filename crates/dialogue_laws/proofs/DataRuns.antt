@@ -1,0 +1,3 @@
+-- Data runs and disconnections follow the policy of the target.
+pub mod Rows
+pub mod Bytes

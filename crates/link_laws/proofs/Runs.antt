@@ -1,0 +1,3 @@
+-- The runs of data are far shorter than the counts of REQ and ACK reach, after any rows.
+pub mod Contents
+pub mod Lengths

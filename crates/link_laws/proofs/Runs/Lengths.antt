@@ -1,0 +1,86 @@
+-- The runs of data are far shorter than the counts of REQ and ACK reach, after any rows.
+use Rattle.link_laws.proofs
+use proofs.Names.{ℕ, ◌≡◌, ◌≤◌, ◌+◌, ◌-◌, ◌*◌, ◌^◌, Bool, true, false, ◌&&◌, List, [], ◌∷◌, length, Option, Some, None}
+use proofs.Names.{refl, arith, ◌==◌, ltb-true, if◌then◌else◌, min, nat_lt, Event, Row, Connection, GOOD, ScenarioValue}
+use proofs.Names.{Policy, Reply, Process, Array, unit_state_at, nexus_of, row_reading, row_events_by, Item, process}
+use proofs.Names.{abort, policy_of, run_by, run_in, run_length, run_length_if, Task, target_def_of, progress_in}
+use proofs.Names.{RunState, or_start, array_of, process_item, process_served, carried_here, run_state}
+use proofs.Names.{array_after_events, is_writing, moved_count, reply_now, task_if, task_with, process_few, FitsBus}
+use proofs.{Names.{run_count}, Runs.Contents.{HasShortUnits, HasShortUnitsIf, gives_few, context_at_short, event_short}}
+use proofs.Runs.Contents.{start_short, settled_start_short}
+use Rattle.bus_due.specs.disk_array.specs.ArrayHistory as Play
+use Rattle.bus_due.specs.disk_array.specs.Steps
+
+-- No run has more than 2^43 bytes.
+abbrev pub HasShortRuns : ScenarioValue → Type 0
+HasShortRuns s = (p : List Row) (n : Connection) → run_count s p n ≤ 2 ^ 43
+
+-- ---- the array, row by row
+
+events_short : (s : ScenarioValue) (shown : List Event) (o : Option Array) → HasShortUnitsIf o → HasShortUnitsIf (array_after_events s o shown)
+events_short s [] o h = h
+events_short s (event ∷ shown) o h = event_short s event (array_after_events s o shown) (events_short s shown o h)
+
+array_short : (s : ScenarioValue) (p : List Row) → FitsBus s → HasShortUnitsIf (run_state s p).array
+array_short s [] fits = settled_start_short s fits
+array_short s (row ∷ p) fits =
+    let k : RunState = run_state s p in
+    events_short s (row_events_by s k.story (row_reading k.story.bus_state row) row) k.array (array_short s p fits)
+
+or_start_short : (s : ScenarioValue) (o : Option Array) → FitsBus s → HasShortUnitsIf o → HasShortUnits (or_start s o)
+or_start_short s None fits h = start_short s fits
+or_start_short s (Some a) fits h = h
+
+-- ---- how many bytes a process moves, and a run has
+
+moved_few : (p : Process) (r : Reply) → length p.sent ≤ 65536 → length r.bytes ≤ 2 ^ 43 → moved_count p r ≤ 2 ^ 43
+moved_few p r sent given = go (r.status == GOOD) (is_writing p)
+  where
+    go : (a b : Bool) → (if a then (if b then length p.sent else length r.bytes) else 0) ≤ 2 ^ 43
+    go true true = omega (arith, sent)
+    go true false = given
+    go false b = omega arith
+
+cut : (start step moved : ℕ) → min (start + step) moved - start ≤ moved
+cut start step moved = omega arith
+
+first_part : (step moved : ℕ) (first shorter : Bool) → nat_lt step moved ≡ shorter → (if first && shorter then step else moved) - 0 ≤ moved
+first_part step moved false shorter e = omega arith
+first_part step moved true false e = omega arith
+first_part step moved true true e = let less = ltb-true step moved e in omega (arith, less)
+
+part_of_all : (policy : Policy) (size moved n : ℕ) → (run_by policy size moved n).end - (run_by policy size moved n).start ≤ moved
+part_of_all Policy.Never size moved n = omega arith
+part_of_all Policy.Command size moved n = omega arith
+part_of_all (Policy.Burst most) size moved n = cut (n * (most * size)) (most * size) moved
+part_of_all (Policy.NoSave most) size moved n = first_part (most * size) moved (n == 0) (nat_lt (most * size) moved) refl
+
+run_in_all : (policy : Policy) (blocks : Option ℕ) (size moved n : ℕ) → (run_in policy blocks size moved n).end - (run_in policy blocks size moved n).start ≤ moved
+run_in_all policy None size moved n = omega arith
+run_in_all policy (Some blocks) size moved n = part_of_all policy size moved n
+
+pub run_within : (policy : Policy) (t : Task) → run_length policy t ≤ t.moved
+run_within policy t = run_in_all policy t.blocks t.size t.moved t.runs
+
+-- ---- any rows
+
+task_few : (s : ScenarioValue) (k : RunState) (policy : Policy) (o : Option Process) → HasShortUnits (array_of s k)
+    → ((p : Process) → o ≡ Some p → length p.sent ≤ 65536) → run_length_if policy (task_if s k o) ≤ 2 ^ 43
+task_few s k policy None h f = omega arith
+task_few s k policy (Some p) h f =
+    let a : Array = array_of s k in
+    let given = (gives_few (Steps.context_at a (nexus_of p) (unit_state_at a.units p.target p.unit)) p.cdb p.sent (context_at_short a (nexus_of p) p.target p.unit h)).bytes in
+    let t : Task = task_with a (progress_in k.progress p.id) p (carried_here k p.id) (reply_now a p) (Play.reply_in a.replies p.id) in
+    let part = run_within policy t in
+    let all = moved_few p (reply_now a p) (f p refl) given in
+    omega (arith, part, all)
+
+served_few : (s : ScenarioValue) (i : Option Item) (p : Process) → FitsBus s → process_item s i ≡ Some p → length p.sent ≤ 65536
+served_few s None p fits e = absurd cc
+served_few s (Some (process id)) p fits e = process_few s id p fits e
+served_few s (Some (abort n)) p fits e = absurd cc
+
+pub runs_are_short : (s : ScenarioValue) → FitsBus s → HasShortRuns s
+runs_are_short s fits p n =
+    let k : RunState = run_state s p in
+    task_few s k (policy_of (target_def_of s n.target)) (process_served s k) (or_start_short s k.array fits (array_short s p fits)) (λ q e. served_few s k.served q fits e)

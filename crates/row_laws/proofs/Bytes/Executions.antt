@@ -1,0 +1,167 @@
+-- What a command gives are bytes, where the blocks of its unit and what it sends are bytes.
+use Rattle.row_laws.proofs
+use proofs.Names.{ℕ, zero, suc, ◌≡◌, ◌<◌, ◌+◌, Bool, true, false, not, ◌&&◌, List, [], ◌∷◌, take, replicate, Option}
+use proofs.Names.{Some, None, Ok, Err, refl, arith, Result, ◌==◌, nat_tests, AllByRecursion, list_all, ◌-◌, drop}
+use proofs.Names.{if◌then◌else◌, min, nat_lt, AreBytes, blocks_moved, command_of, sense_data, inquiry_data}
+use proofs.Names.{capacity_data, CdbFault, Command, Sense, SENSE_LEN, INQUIRY_LEN, Contents, zero_block, touched_block}
+use proofs.Names.{block_at, touched_with, with_block, bytes_at, with_bytes, Reply, CommandContext, Execution, good}
+use proofs.Names.{check_condition, needs_unit, heeds_attention, range_of, is_good_range, returned_sense}
+use proofs.Names.{reply_execution, write_execution, command_execution, range_execution, cdb_execution}
+use proofs.Names.{attention_execution, execution, invalid_opcode, block_out_of_range, invalid_field, unit_not_supported}
+use proofs.Bytes.Spoken.{small_append, small_take}
+
+-- ---- blocks
+
+abbrev pub IsByteBlock : (ℕ × List ℕ) → Type 0
+IsByteBlock entry = AreBytes entry.1
+
+abbrev pub HoldsBytes : Contents → Type 0
+HoldsBytes c = AllByRecursion IsByteBlock c.touched
+
+small_drop : (n : ℕ) (xs : List ℕ) → AreBytes xs → AreBytes (drop n xs)
+small_drop zero xs a = a
+small_drop (suc n) [] a = tt
+small_drop (suc n) (x ∷ xs) a = small_drop n xs a.1
+
+zeros : (n : ℕ) → AreBytes (replicate n 0)
+zeros zero = tt
+zeros (suc n) = (omega arith, zeros n)
+
+touched_small : (touched : List (ℕ × List ℕ)) (lba : ℕ) (otherwise : List ℕ) → AllByRecursion IsByteBlock touched → AreBytes otherwise → AreBytes (touched_block touched lba otherwise)
+touched_small [] lba otherwise a b = b
+touched_small (entry ∷ touched) lba otherwise a b = go (entry.0 == lba) (touched_small touched lba otherwise a.1 b)
+  where
+    go : (q : Bool) → AreBytes (touched_block touched lba otherwise) → AreBytes (if q then entry.1 else touched_block touched lba otherwise)
+    go true k = a.0
+    go false k = k
+
+bytes_small : (c : Contents) (lba n : ℕ) → HoldsBytes c → AreBytes (bytes_at c lba n)
+bytes_small c lba zero h = tt
+bytes_small c lba (suc n) h = small_append (block_at c lba) (bytes_at c (lba + 1) n) (touched_small c.touched lba (zero_block c.size) h (zeros c.size)) (bytes_small c (lba + 1) n h)
+
+with_small : (touched : List (ℕ × List ℕ)) (lba : ℕ) (block : List ℕ) → AllByRecursion IsByteBlock touched → AreBytes block → AllByRecursion IsByteBlock (touched_with touched lba block)
+with_small [] lba block a b = (b, tt)
+with_small (entry ∷ touched) lba block a b = go (entry.0 == lba) (nat_lt lba entry.0) (with_small touched lba block a.1 b)
+  where
+    go : (q r : Bool) → AllByRecursion IsByteBlock (touched_with touched lba block) → AllByRecursion IsByteBlock (if q then (lba, block) ∷ touched else if r then (lba, block) ∷ (entry ∷ touched) else entry ∷ touched_with touched lba block)
+    go true r k = (b, a.1)
+    go false true k = (b, a)
+    go false false k = (a.0, k)
+
+pub block_small : (c : Contents) (lba : ℕ) (block : List ℕ) → HoldsBytes c → AreBytes block → HoldsBytes (with_block c lba block)
+block_small c lba block h b = with_small c.touched lba block h b
+
+written_small : (c : Contents) (lba n : ℕ) (bytes : List ℕ) → HoldsBytes c → AreBytes bytes → HoldsBytes (with_bytes c lba n bytes)
+written_small c lba zero bytes h b = h
+written_small c lba (suc n) bytes h b = written_small (with_block c lba (take c.size bytes)) (lba + 1) n (drop c.size bytes) (block_small c lba (take c.size bytes) h (small_take c.size bytes b)) (small_drop c.size bytes b)
+
+-- ---- replies
+
+abbrev pub IsByteSense : Sense → Type 0
+IsByteSense x = (x.key < 256) × (x.asc < 256) × (x.ascq < 256)
+
+pub record HasByteReply (r : Reply) : Type 0 where
+  pub status : r.status < 256
+  pub bytes : AreBytes r.bytes
+  pub sense : IsByteSense r.sense
+
+pub good_small : (bytes : List ℕ) → AreBytes bytes → HasByteReply (good bytes)
+good_small bytes a = record { status = omega arith; bytes = a; sense = (omega arith, omega arith, omega arith) }
+
+pub check_small : (x : Sense) → IsByteSense x → HasByteReply (check_condition x)
+check_small x h = record { status = omega arith; bytes = tt; sense = h }
+
+tested : (xs : List ℕ) → list_all (λ (b : ℕ). nat_lt b 256) xs ≡ true → AreBytes xs
+tested [] e = tt
+tested (x ∷ xs) e = go (nat_lt x 256) refl e (λ z. tested xs z)
+  where
+    lt_is : (a : ℕ) → nat_lt a 256 ≡ true → a < 256
+    lt_is a z = grind (arith, nat_tests)
+
+    go : (q : Bool) → nat_lt x 256 ≡ q → (q && list_all (λ (b : ℕ). nat_lt b 256) xs) ≡ true → (list_all (λ (b : ℕ). nat_lt b 256) xs ≡ true → AreBytes xs) → AreBytes (x ∷ xs)
+    go true f z more = (lt_is x f, more z)
+    go false f z more = absurd cc
+
+inquiry_small : (q : Bool) → AreBytes (inquiry_data q)
+inquiry_small true = tested (inquiry_data true) refl
+inquiry_small false = tested (inquiry_data false) refl
+
+sense_small : (x : Sense) → IsByteSense x → AreBytes (sense_data x)
+sense_small x h =
+    small_append (0x70 ∷ 0x00 ∷ []) (x.key ∷ 0x00 ∷ 0x00 ∷ 0x00 ∷ 0x00 ∷ 0x0a ∷ 0x00 ∷ 0x00 ∷ 0x00 ∷ 0x00 ∷ x.asc ∷ x.ascq ∷ 0x00 ∷ 0x00 ∷ 0x00 ∷ 0x00 ∷ []) (tested (0x70 ∷ 0x00 ∷ []) refl) (
+      h.0,
+      small_append (0x00 ∷ 0x00 ∷ 0x00 ∷ 0x00 ∷ 0x0a ∷ 0x00 ∷ 0x00 ∷ 0x00 ∷ 0x00 ∷ []) (x.asc ∷ x.ascq ∷ 0x00 ∷ 0x00 ∷ 0x00 ∷ 0x00 ∷ []) (tested (0x00 ∷ 0x00 ∷ 0x00 ∷ 0x00 ∷ 0x0a ∷ 0x00 ∷ 0x00 ∷ 0x00 ∷ 0x00 ∷ []) refl)
+          (h.1, (h.2, tested (0x00 ∷ 0x00 ∷ 0x00 ∷ 0x00 ∷ []) refl)),
+    )
+
+capacity_small : (last size : ℕ) → AreBytes (capacity_data last size)
+capacity_small last size = (omega arith, (omega arith, (omega arith, (omega arith, (omega arith, (omega arith, (omega arith, (omega arith, tt))))))))
+
+-- ---- a command
+
+pub record HasByteContext (m : CommandContext) : Type 0 where
+  pub contents : HoldsBytes m.contents
+  pub stored : (x : Sense) → m.stored ≡ Some x → IsByteSense x
+  pub attention : (x : Sense) → m.attention ≡ Some x → IsByteSense x
+
+pub record GivesBytes (e : Execution) : Type 0 where
+  pub contents : HoldsBytes e.contents
+  pub reply : HasByteReply e.reply
+
+replies : (m : CommandContext) (r : Reply) → HasByteContext m → HasByteReply r → GivesBytes (reply_execution m r)
+replies m r h a = record { contents = h.contents; reply = a }
+
+writes : (m : CommandContext) (lba n : ℕ) (sent : List ℕ) → HasByteContext m → AreBytes sent → GivesBytes (write_execution m lba n sent)
+writes m lba n sent h a = record { contents = written_small m.contents lba n sent h.contents a; reply = good_small [] tt }
+
+returned : (q : Bool) (o : Option Sense) → ((x : Sense) → o ≡ Some x → IsByteSense x) → IsByteSense (returned_sense q o)
+returned q (Some x) f = f x refl
+returned true None f = (omega arith, omega arith, omega arith)
+returned false None f = (omega arith, omega arith, omega arith)
+
+gives : (m : CommandContext) (c : Command) (sent : List ℕ) → HasByteContext m → AreBytes sent → GivesBytes (command_execution m c sent)
+gives m Command.TestUnitReady sent h a = replies m (good []) h (good_small [] tt)
+gives m (Command.RequestSense room) sent h a =
+    let given = sense_data (returned_sense m.present m.stored) in
+    let n = min room SENSE_LEN in
+    replies m (good (take n given)) h (good_small (take n given) (small_take n given (sense_small (returned_sense m.present m.stored) (returned m.present m.stored h.stored))))
+gives m (Command.Read6 lba count) sent h a = let n = blocks_moved (Command.Read6 lba count) in replies m (good (bytes_at m.contents lba n)) h (good_small (bytes_at m.contents lba n) (bytes_small m.contents lba n h.contents))
+gives m (Command.Write6 lba count) sent h a = writes m lba (blocks_moved (Command.Write6 lba count)) sent h a
+gives m (Command.Inquiry room) sent h a =
+    let given = inquiry_data m.present in
+    let n = min room INQUIRY_LEN in
+    replies m (good (take n given)) h (good_small (take n given) (small_take n given (inquiry_small m.present)))
+gives m Command.ReadCapacity sent h a = let given = capacity_data (m.contents.count - 1) m.contents.size in replies m (good given) h (good_small given (capacity_small (m.contents.count - 1) m.contents.size))
+gives m (Command.Read10 lba count) sent h a = replies m (good (bytes_at m.contents lba count)) h (good_small (bytes_at m.contents lba count) (bytes_small m.contents lba count h.contents))
+gives m (Command.Write10 lba count) sent h a = writes m lba count sent h a
+
+checks : (m : CommandContext) (x : Sense) → HasByteContext m → IsByteSense x → GivesBytes (reply_execution m (check_condition x))
+checks m x h a = replies m (check_condition x) h (check_small x a)
+
+in_range : (m : CommandContext) (c : Command) (sent : List ℕ) → HasByteContext m → AreBytes sent → GivesBytes (range_execution m c sent)
+in_range m c sent h a = go (is_good_range m.contents.count (range_of c))
+  where
+    go : (q : Bool) → GivesBytes (if q then command_execution m c sent else reply_execution m (check_condition block_out_of_range))
+    go true = gives m c sent h a
+    go false = checks m block_out_of_range h (omega arith, omega arith, omega arith)
+
+of_block : (m : CommandContext) (r : Result Command CdbFault) (sent : List ℕ) → HasByteContext m → AreBytes sent → GivesBytes (cdb_execution m r sent)
+of_block m (Ok c) sent h a = in_range m c sent h a
+of_block m (Err CdbFault.Opcode) sent h a = checks m invalid_opcode h (omega arith, omega arith, omega arith)
+of_block m (Err CdbFault.Length) sent h a = checks m invalid_field h (omega arith, omega arith, omega arith)
+of_block m (Err CdbFault.Field) sent h a = checks m invalid_field h (omega arith, omega arith, omega arith)
+
+heeds : (m : CommandContext) (o : Option Sense) (cdb sent : List ℕ) → HasByteContext m → ((x : Sense) → o ≡ Some x → IsByteSense x) → AreBytes sent → GivesBytes (attention_execution m o cdb sent)
+heeds m None cdb sent h f a = of_block m (command_of cdb) sent h a
+heeds m (Some x) cdb sent h f a = go (heeds_attention cdb)
+  where
+    go : (q : Bool) → GivesBytes (if q then record { contents = m.contents; reported = true; reply = check_condition x } else cdb_execution m (command_of cdb) sent)
+    go true = record { contents = h.contents; reply = check_small x (f x refl) }
+    go false = of_block m (command_of cdb) sent h a
+
+pub gives_bytes : (m : CommandContext) (cdb sent : List ℕ) → HasByteContext m → AreBytes sent → GivesBytes (execution m cdb sent)
+gives_bytes m cdb sent h a = go (not m.present && needs_unit cdb)
+  where
+    go : (q : Bool) → GivesBytes (if q then reply_execution m (check_condition unit_not_supported) else attention_execution m m.attention cdb sent)
+    go true = checks m unit_not_supported h (omega arith, omega arith, omega arith)
+    go false = heeds m m.attention cdb sent h h.attention a

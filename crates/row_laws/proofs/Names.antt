@@ -1,0 +1,208 @@
+-- The names of other crates, and of this crate's definitions, that its proofs speak of, each by its home.
+-- A proof takes them by `use proofs.Names.{..}`; tools/checks/imports.py brings in those that a proof imports by their home.
+use Rattle.std.proofs as std_proofs
+pub use std_proofs.Common.{Bool, Err, List, None, Ok, Option, Result, Some, [], ap, arith, false, inl, inr, length}
+pub use std_proofs.Common.{length-append, not, refl, replicate, subst, suc, sym, take, true, true≢false, zero, ℕ, ◌%◌}
+pub use std_proofs.Common.{◌&&◌, ◌*◌, ◌++◌, ◌+◌, ◌<◌, ◌==◌, ◌||◌, ◌∙◌, ◌∷◌, ◌≡◌, ◌≢◌, ◌≤◌, ◌⊎◌}
+pub use std_proofs.lemmas.Bool.{and_parts, cases_eq, eqb-true, leb-true, ltb-false, ltb-true, not_from_false, or_left}
+pub use std_proofs.lemmas.{Bool.{or_right, Decides.{nat_tests}}, Option.{none-some, same_Some}}
+use Rattle.std.specs as std
+pub use std.{Int.{Bits.{or_zero_r}, RustNames.{bit_or, count_ones}}, List.{AllByRecursion, find, list_all, list_any}}
+pub use std.Prelude.{drop, if◌then◌else◌, is_none, is_some, max, min, nat_le, nat_lt, slice_index_or, ⊤, ◌-◌}
+use Rattle.bus_due.specs.bus_base.proofs as bus_base_proofs
+pub use bus_base_proofs.Tests.{and_false, and_first, and_second, either_stays, eq_self, implication, implication_parts}
+pub use bus_base_proofs.Tests.{implied, not_first, or_middle, or_true, wrong, wrong', zero_of}
+use Rattle.bus_due.specs.bus_base.specs as bus_base
+pub use bus_base.declared.{AbortKind.{AbortKind}, Event.{Event}, ProcId.{ProcId}, events.Pick.{Pick}}
+use Rattle.bus_due.specs.bus_trace.proofs as bus_trace_proofs
+pub use bus_trace_proofs.{Buses.{bus_off, bus_on, bus_two}, OddParity.{byte_back, byte_odd}, OneRow.{bus-fault}}
+pub use bus_trace_proofs.{OneRow.{drives-fault, drives-other, drives-own}, Sets.{same_self, same_set-eq}}
+use Rattle.bus_due.specs.bus_trace.specs as bus_trace
+pub use bus_trace.{Agreements.{times_of}, Changes.{change_of, falls, implies, is_within, rises}, LineSet.{LineSet}}
+pub use bus_trace.{LineSet.{byte_set, has_odd_parity, none, union}, Phases.{changes_phase, is_command, is_data}}
+pub use bus_trace.{Phases.{is_message_in, is_message_out}, Terms.{arbitration, call, call_goes_on, called_goes_on}}
+pub use bus_trace.Terms.{caller_goes_on, calling_after, connected, connected_by, connected_of, connection}
+pub use bus_trace.Terms.{connection_after, connection_of, drives_two_ids, is_fault, new_calling, other_id, raised}
+pub use bus_trace.{Terms.{receiver, receiver_in, receiver_of}, Trace.{bus, driven_after, drives, last_time, line_times}}
+pub use bus_trace.{Trace.{phase_time}, declared.{Kind.{Kind, TheVariants.{Drives, Fault}}, Row.{Row}}}
+pub use bus_trace.declared.{agreements.Agreement.{Agreement}, changes.Change.{Change}}
+pub use bus_trace.declared.{connection.Connection.{Connection}, selection.{Call.{Call}, Calling.{Calling}}}
+use Rattle.bus_due.specs.bus_lines.specs as bus_lines
+pub use bus_lines.Handshakes.{Handshakes, answered_if, asked_if, first_of, handshakes, handshakes_after, is_struck}
+pub use bus_lines.{Handshakes.{no_handshakes, strikes_if}, Stage.{stage}, declared.handshakes.Request.{Request}}
+pub use bus_lines.declared.stage.Stage.TheVariants.{InAnswer, InCalling}
+use Rattle.text_words.specs as text_words
+pub use text_words.{Spelling.{AreBytes}, Words.{Number}}
+use Rattle.bus_due.specs.cdb_codec.specs as cdb_codec
+pub use cdb_codec.{Blocks.{blocks_moved}, Cdb.{command_of, has_group_len}, Replies.{capacity_data, inquiry_data}}
+pub use cdb_codec.{Replies.{sense_data}, declared.command.{CdbFault.{CdbFault}, Command.{Command}, Sense.{Sense}}}
+pub use cdb_codec.declared.{replies.TheConstants.{INQUIRY_LEN, SENSE_LEN}, sense.TheConstants.{ABORTED_COMMAND}}
+pub use cdb_codec.declared.sense.TheConstants.{INITIATOR_DETECTED_ERROR, PARITY_ERROR}
+pub use cdb_codec.declared.status.TheConstants.{CHECK_CONDITION, GOOD}
+use Rattle.bus_due.specs.msg_grammar.proofs as msg_grammar_proofs
+pub use msg_grammar_proofs.{Exact.{whole}, Spells.{in_one, out_one}}
+use Rattle.bus_due.specs.msg_grammar.specs as msg_grammar
+pub use msg_grammar.{Grammar.{Begins}, Messages.{got_in, got_out, in_bytes, msg_in_of, msg_out_of, out_bytes}}
+pub use msg_grammar.declared.message.{Got.{Got, TheVariants.{More, Unknown, Whole}}, MsgIn.{MsgIn}, MsgOut.{MsgOut}}
+unfoldable pub use msg_grammar.Messages.{form_in, form_out}
+use Rattle.bus_due.specs.bus_phases.specs as bus_phases
+pub use bus_phases.Dialogue.{byte_crosses, byte_else, byte_in, byte_out, dialogue, dialogue_after, fresh_bytes}
+pub use bus_phases.{Dialogue.{phase_begins}, Half.{left_of}, declared.dialogue.Dialogue.{Dialogue}}
+use Rattle.bus_due.specs.bus_rules.proofs as bus_rules_proofs
+pub use bus_rules_proofs.First.{all_kept}
+use Rattle.bus_due.specs.bus_rules.specs as bus_rules
+pub use bus_rules.{Order.{is_of_device}, Reset.{only_rst}, Rules.{broken_rule, judged_rules}, Seen.{seen}}
+pub use bus_rules.declared.seen.Seen.{Seen}
+unfoldable pub use bus_rules.Seen.{seen_with}
+use Rattle.bus_due.specs.scenario.proofs as scenario_proofs
+pub use scenario_proofs.Steps.{bind_ok, guard_ok, ok_is, read_tag, read_what, within_ok}
+use Rattle.bus_due.specs.scenario.specs as scenario
+pub use scenario.Forms.{CmdSaid, Said, abort_line, cmd_line, end_line, fault_line, fill_line, initiator_line}
+pub use scenario.{Forms.{reset_line, scsi_line, target_line, unit_line}, Lookups.{has_device}, Reading.{Progress}}
+pub use scenario.Reading.{are_ends, fault_def, fill_def, fits_version, guard, has_abort_room, has_room, in_8, in_order}
+pub use scenario.Reading.{is_block, is_payload, kind_of, nothing, policy_in, rank, reset_def, time_in, unit_def, within}
+pub use scenario.{Value.{ScenarioValue}, Writing.{IsHex, IsHexPayload, Obeys, built, said_tag, said_what, saids}}
+pub use scenario.declared.bounds.TheConstants.{FACTOR_LIMIT, HOST_OFFSET_LIMIT, LAG_LIMIT, LATENCY_LIMIT, LEAST_FACTOR}
+pub use scenario.declared.bounds.TheConstants.{OPEN_LIMIT, RETRY_LIMIT, SEEK_LIMIT, TAG_LIMIT, TARGET_OFFSET_LIMIT}
+pub use scenario.declared.value.{AbortDef.{AbortDef}, CmdDef.{CmdDef}, FillDef.{FillDef}, HostDef.{HostDef}}
+pub use scenario.declared.value.{Payload.{Payload}, Policy.{Policy}, Tag.{Tag}, TargetDef.{TargetDef}}
+pub use scenario.declared.value.UnitDef.{UnitDef}
+unfoldable pub use scenario.{Needs.{need_of, sent_of}, Reading.{abort_def, added, cmd_def, full_cmd_def, host_def}}
+unfoldable pub use scenario.Reading.{period_in, said_after, tag_in, target_def, what_in}
+use Rattle.bus_due.specs.disk_array.proofs as disk_array_proofs
+pub use disk_array_proofs.ArrayReplies.{abort_lists, accept_lists, end_lists, executed_lists, fail_lists, loss_lists}
+pub use disk_array_proofs.{ArrayReplies.{refuse_lists, reset_lists, took}, ArrayUnits.{cleared_units, unit_reset_units}}
+pub use disk_array_proofs.{SeatEvents.{status_units}, SeatLaws.{fail_law, run_law}, SeatLookups.{same_id_is}}
+pub use disk_array_proofs.{SeatOwn.{guest_own, running_unit}, SeatReplies.{first, guest_replied, id_self, last_waits}}
+pub use disk_array_proofs.{SeatReplies.{no_guest_replied}, SoundArrays.{history_sound, start_sound, start_units}}
+pub use disk_array_proofs.SoundArrays.{step_sound}
+use Rattle.bus_due.specs.disk_array.specs as disk_array
+pub use disk_array.{ArrayHistory.{array_after, array_step, reply_in}, Contents.{Contents, blank_contents, block_at}}
+pub use disk_array.Contents.{bytes_at, filled_contents, touched_block, touched_with, with_block, with_bytes, zero_block}
+pub use disk_array.Execution.{CommandContext, Execution, Reply, aborted_reply, attention_execution, block_out_of_range}
+pub use disk_array.Execution.{cdb_execution, check_condition, command_execution, commands_cleared, execution, good}
+pub use disk_array.Execution.{heeds_attention, invalid_field, invalid_opcode, is_good_range, is_request_sense}
+pub use disk_array.Execution.{needs_unit, queue_full, range_execution, range_of, reply_execution, returned_sense}
+pub use disk_array.{Execution.{sense_of, unit_not_supported, write_execution}, Order.{choice, chosen_place, entries_of}}
+pub use disk_array.Order.{entry_of, has_none_before, has_ordered, is_head, is_held_back, is_ordered, picked_place}
+pub use disk_array.{Order.{process_at, process_at_if, runnable_by, without_process}, Processes.{Process, bytes_from}}
+pub use disk_array.Processes.{command_at, command_process, payload_bytes, process_by, process_if, process_of, same_id}
+pub use disk_array.{Processes.{sense_block, sense_process}, Seats.{Seat, current_of, is_initiator, running_at, seat_if}}
+pub use disk_array.Seats.{seat_of, settled_seat, settled_seat_if, unit_mapped, unit_with_choice, unit_with_contents}
+pub use disk_array.{Seats.{unit_with_reply, waits_in}, SoundArray.{AllOwn, AllOwnGuests, AllOwnUnits, AreApart}}
+pub use disk_array.{SoundArray.{HasSeats, IsOwn, IsOwnRunning, IsOwnUnit, IsSound}, Steps.{accept_step, accept_step_at}}
+pub use disk_array.Steps.{after_status, array_without, end_step, end_step_with, fail_step, fail_step_of_new}
+pub use disk_array.Steps.{guests_with_reply, has_ended, has_tag, is_of_unit, is_waiting, process_count, refuse_step}
+pub use disk_array.Steps.{refuse_step_at, running_count, running_if, running_in, running_process, settled_array_if}
+pub use disk_array.{Steps.{step, with_guest, with_listed_reply, with_reply}, Units.{Array, Nexus, RunningProcess}}
+pub use disk_array.Units.{UnitState, guest_at, has_no_current, is_held, nexus_of, nexuses_without, same_nexus}
+pub use disk_array.Units.{sense_of_nexus, senses_without, settled_array, starting_array, starting_units}
+pub use disk_array.Units.{unit_after_choice, unit_state_at, units_after_choice, with_current, with_unit, without_guest}
+pub use disk_array.Units.{without_reply}
+use Rattle.bus_due.specs.bus_story.proofs as bus_story_proofs
+pub use bus_story_proofs.{CarriedLists.{carried_id, carried_with}, StorySteps.{check_carried, ends_carried}}
+pub use bus_story_proofs.StorySteps.{free_carried}
+use Rattle.bus_due.specs.bus_story.specs as bus_story
+pub use bus_story.BusState.{RowReading, message_in, message_out, row_reading, whole_in, whole_out}
+pub use bus_story.CarriedBytes.{CarriedBytes, carried_after_byte, carried_after_fault, carried_after_message}
+pub use bus_story.CarriedBytes.{carried_at, carried_of, carried_or_nothing, is_status_phase, is_whole_block}
+pub use bus_story.{CarriedBytes.{with_carried, with_restored_pointers}, HistoryEvents.{abort_line_at}}
+pub use bus_story.HistoryEvents.{abort_line_events, bus_free_events, carried_if, connection_events, end_events}
+pub use bus_story.HistoryEvents.{is_complete, is_completion, is_refuse, item_abort_events, item_loss_events}
+pub use bus_story.HistoryEvents.{link_events, phase_events, queue_event, queue_events, row_events_by, status_event}
+pub use bus_story.{HistoryEvents.{status_events}, Items.{Item, abort, count_item, is_open, process, sense_item}}
+pub use bus_story.Links.{LastMessage, Link, abortive, complete, disconnect, last_in, last_out, link_after_name, link_of}
+pub use bus_story.{Links.{plain}, Samples.{host_latency, latency_of, target_latency}, Story.{Story, by_abort}}
+pub use bus_story.Story.{is_aborted, is_sense_stopped, marked_refused, marked_shown, story_after_event}
+pub use bus_story.{Story.{story_after_events}, TraceHistory.{aim_of, carried_after_byte_if, carried_after_fault_if}}
+pub use bus_story.TraceHistory.{carried_after_message_if, is_parity_error, story_after, story_after_byte}
+pub use bus_story.TraceHistory.{story_after_connection, story_after_fault, story_after_in, story_after_message}
+pub use bus_story.TraceHistory.{story_after_out, story_by_change, story_in_connection, story_on_bus, story_on_free_bus}
+pub use bus_story.TraceHistory.{story_with_carried, story_with_restored, story_with_sent, trace_history}
+use Rattle.bus_due.specs.bus_reactions.specs as bus_reactions
+pub use bus_reactions.{Calling.{answered_due}, Initiator.{attends_by}, Reactions.{due_at}, Target.{bits_if, byte_bits}}
+pub use bus_reactions.declared.due.Due.{Due}
+use Rattle.bus_due.specs.bus_dialogue.specs as bus_dialogue
+pub use bus_dialogue.{Arrivals.{policy_of}, DataRuns.{run_at}, Ends.{is_pulsed_phase, offering_by}, Exchange.{Exchange}}
+pub use bus_dialogue.Exchange.{Speech, attends_with, bytes_of_messages, from_byte, message_bytes, next_word}
+pub use bus_dialogue.Exchange.{no_messages, one_message, plan_after_message, plan_anew, plan_anew_if, request_after}
+pub use bus_dialogue.{Exchange.{said_with, said_with_if, speech_after_byte, struck_plan}, Hearing.{begun, begun_after}}
+pub use bus_dialogue.{NextPhase.{Serving, leaving_by, phase_leaving, phase_lines, phase_of}, PhaseBytes.{data_byte}}
+pub use bus_dialogue.{PhaseBytes.{follows_in, lines_by, one_if, phase_byte, status_byte}, Planning.{cause_after}}
+pub use bus_dialogue.Planning.{first_plan, plan_after, plan_in_message_out, plan_in_phase, plan_with_byte}
+pub use bus_dialogue.{Sending.{Sending, byte_to_send}, Speaking.{speech_after, words_after}, Wants.{Ready, first_ready}}
+pub use bus_dialogue.{Wants.{is_ready_before, ready_in}, Words.{abort_bytes, abort_opening, agreement_answer}}
+pub use bus_dialogue.Words.{answer_bytes, host_answer, offer_if, process_opening, tag_bytes, tag_named, target_answer}
+pub use bus_dialogue.declared.exchange.{Cause.{Cause}, Hearing.{Hearing}, Leaving.{Leaving}, Messages.{Messages}}
+pub use bus_dialogue.declared.exchange.{Phase.{Phase}, Plan.{Plan}, Task.{Task}}
+use Rattle.bus_due.proofs as bus_due_proofs
+pub use bus_due_proofs.{Lookups.{none_stays}, Plains.{run_state_plain}, Stills.{still_talk}}
+use Rattle.bus_due.specs as bus_due
+pub use bus_due.{Defs.{host_of, opening, target_def_of}, LastingState.{ProcessProgress, progress_in}, Least.{IsLeast}}
+pub use bus_due.{Next.{IsPrompt, due}, Own.{own_of}, Plain.{AreOfDevices, IsPlain}, RunState.{RunState, array_of}}
+pub use bus_due.RunState.{bus_of, item_of, or_start, process_here, process_item, process_served}
+pub use bus_due.RunSteps.{array_after_events, exchange_after, leaving_of, may_negotiate, messages_if, run_state}
+pub use bus_due.{RunSteps.{run_state_after}, Sights.{answering_of, hearing_of, identify_byte, leaving, offering_of}}
+pub use bus_due.{Sights.{sending_by, sending_of, serving_at, serving_of}, Tasks.{given_if, is_writing, reply_now}}
+pub use bus_due.{Tasks.{status_by, task_if, task_of}, Wants.{abort_target, callee, initiator_if, ready_at, ready_of}}
+pub use bus_due.{Wants.{seek_of, since_of, target_if, target_of}, Wishes.{IsStill}}
+use Rattle.scsi_device.proofs as scsi_device_proofs
+pub use scsi_device_proofs.{Finds.{all_are, all_more, found_holds}, FitLines.{abort_fits, command_fits, obeys_fits}}
+pub use scsi_device_proofs.{FitLines.{seats_are, units_are}, LineReads.{abort_by, host_by, target_by}}
+use Rattle.scsi_device.specs as scsi_device
+pub use scsi_device.{Heard.{is_command_phase, is_message}, Lines.{AreUnits, FitsBus}, Writes.{Writer, is_data_in}}
+pub use scsi_device.Writes.{is_data_out, writer_of}
+use Rattle.bus_books.proofs as bus_books_proofs
+pub use bus_books_proofs.{Carried.Facts.{process_id}, Common.InConnection.{InConnection, in_connection, same_phase_is}}
+pub use bus_books_proofs.{Common.Lookups.{id_is, self_id}, Items.{Facts.{aims_are}, Ready.{reselects_by, selects_for}}}
+pub use bus_books_proofs.{Messages.Rules.{end_keeps, row_keeps}, Reactions.{answers_next, answers_own, leaves_by}}
+pub use bus_books_proofs.{Reactions.{messages_some}, Traces.{books_are, books_on}}
+use Rattle.bus_books.specs as bus_books
+pub use bus_books.{Carrying.{SendsOwn}, Giving.{Gives}, Hearing.{HasPhase, LeavesWhole, is_in_phase, is_out_phase}}
+pub use bus_books.{Knowing.{Knows}, Reactions.{IsOver}, Rows.{IsRowIn, RowKind, crosses, reading_in, still, strikes}}
+pub use bus_books.{Rows.{turns}, Traces.{Books, Ends, GoesOn, IsAimedAt, IsReadyFor, RowOf, apart as row_apart, begins}}
+pub use bus_books.{Traces.{ends as row_ends, goes_on, under_reset}, WrongParity.{is_left_as_due, is_left_by}}
+use Rattle.link_laws.specs.bus_laws.proofs as bus_laws_proofs
+pub use bus_laws_proofs.Lines.{Apart.{KeepsAll, change_plain, still_keeps}, Ids.{is_call}, Rows.{drives_other}}
+pub use bus_laws_proofs.{Lines.Rows.{drives_own, fault_change, stage_is}, Resets.Rows.{off_at}}
+pub use bus_laws_proofs.Stages.{Answer.{only_caller_acts}, CallDues.{calls_due, goes_on_due, is_calling, want_at}}
+pub use bus_laws_proofs.Stages.{Dues.{is_at, is_there}, Facts.{least_is}, Next.{by_calm, by_reset, from_stage}}
+pub use bus_laws_proofs.{Stages.Next.{reset_or_calm, stage_first, standing_first}, Times.Limits.{obeys_latencies}}
+use Rattle.link_laws.specs.bus_laws.specs as bus_laws
+pub use bus_laws.Callings.{answer_lines, answered_calling, both_ids, call_with, calling_lines, resumed_calling}
+pub use bus_laws.{Callings.{won_call}, Ends.{BeginsConnection, BeginsSelected, EndLines, Linked, by_reselection}}
+pub use bus_laws.Ends.{by_selection, connected_bus, ends_reselected, ends_selected, initiator_side, target_side}
+pub use bus_laws.{Reactions.{device_with, own_time, unreset_due}, Rows.{change_to, row_of_fault, row_of_lines}}
+pub use bus_laws.Stages.{BusStage, Calls, CalmStanding, HasDevice, HasShortLatencies, IsUnderRst, NextRow, Standing}
+pub use bus_laws.Stages.{UnderRst, after_answer, after_arbitration, after_takeover, after_withdrawal, awaiting_answer}
+pub use bus_laws.Stages.{holds, in_arbitration, in_reset, is_connected, lingers, on_free_bus, quiet, with_both_ids}
+use Rattle.link_laws.proofs as link_laws_proofs
+pub use link_laws_proofs.Dues.Ends.{Mover, answering_with, by_fault, by_initiator, by_target, due_of, initiator_plain}
+pub use link_laws_proofs.Dues.{Ends.{mover_is, offering_with, target_plain}, Facts.{never}, Stages.{ack_end_time}}
+pub use link_laws_proofs.Dues.Stages.{answered_initiator_in, answered_initiator_out, answered_target}
+pub use link_laws_proofs.Dues.Stages.{asking_initiator_in, asking_initiator_out, asking_target, between_initiator_in}
+pub use link_laws_proofs.Dues.Stages.{between_initiator_out, between_target, ending_initiator_in, ending_initiator_out}
+pub use link_laws_proofs.Dues.Stages.{ending_target, giving_initiator_out, handing_initiator, offering_initiator}
+pub use link_laws_proofs.Dues.Stages.{offering_target, owing_initiator, selected_initiator, selected_target}
+pub use link_laws_proofs.Dues.Stages.{settling_initiator, settling_target, turned_initiator, turning_target}
+pub use link_laws_proofs.{FromLink.{some_byte}, Lines.{Data.{DataRow, count_stays, sending_stays}, Obeys.{same_phases}}}
+pub use link_laws_proofs.Lines.Rows.{Moves, initiator_in_phase, initiator_moves, no_rise, phase_same, target_in_phase}
+pub use link_laws_proofs.{Lines.Rows.{target_moves, terms_after, terms_of}, Phases.Crossings.{initiator_row}}
+pub use link_laws_proofs.Phases.{Crossings.{target_row}, Ends.{leaves_lines}, Faults.{linked_fault, none_device}}
+pub use link_laws_proofs.{Phases.{First.{enters, no_fall}, Leavings.{may_leave}}, Pulses.Dues.{ack_pulse_end_time}}
+pub use link_laws_proofs.Pulses.Dues.{answer_time, byte_driven_time, given_bits, hold_end_time, leaving_time}
+pub use link_laws_proofs.Pulses.Dues.{pulse_time, pulsed_initiator_in, pulsed_initiator_out, pulsed_target_in}
+pub use link_laws_proofs.{Pulses.Dues.{pulsed_target_out, release_time}, Runs.Lengths.{HasShortRuns}, Traces.{from_any}}
+pub use link_laws_proofs.Traces.{link_calm}
+use Rattle.link_laws.specs as link_laws
+pub use link_laws.{Books.{KeepsBooksIn, has_odd_byte}, LinkStages.{AnyStage, LinkStage, NextAny, apart, linked}}
+pub use link_laws.LinkStages.{when_offering, when_pulsing, when_selected, when_settling, when_shaking, when_turning}
+pub use link_laws.{Phases.{Offering, Settling, Shaking, Turning, ends}, Pulses.{Pulsing, byte_in_run, next_bits}}
+pub use link_laws.Pulses.{offset_here, run_count, times_here}
+use Rattle.row_laws.specs as row_laws
+pub use row_laws.{Asked.{IsAsked, IsAskedIn}, Attendance.{IsNotGood}, Attention.{Attention, MessageRow, answers, asks}}
+pub use row_laws.{Attention.{keeps}, ByteValues.{HasByteValues}, DataPointers.{is_marked}, Ends.{AreEnds, HasEnds}}
+pub use row_laws.{ItemFacts.{AllP, RunsP, UnitsP}, Offers.{is_detected}, Places.{AreWithin, Each, IsAnswered, IsAtRest}}
+pub use row_laws.Places.{IsAway, IsOutside, IsUnanswered, IsUntouched, MayRun, OnGuests, OnUnit, OnUnits, Runs, Waits}
+pub use row_laws.{Places.{is_in_queue, is_queued}, Tells.{AreRepliesShown, UndoesAnswers, is_short}}
+pub use row_laws.WriteFacts.{AllUnits, IsEmptyUnit, IsLastWriter, IsOther, IsUnrun, IsWrittenUnit}

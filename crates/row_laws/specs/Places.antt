@@ -1,0 +1,184 @@
+-- Where the process that a target serves stands in the plain disk array, by the phase of its connection; and where the others stand
+-- (6.1.5, 6.6.6, 7.5, 7.8).
+use Rattle.std.specs.Prelude.{◌≡◌, ◌⊎◌, ◌≤◌, Bool, true, false, not, ◌||◌, ◌==◌, List, [], ◌∷◌, Option, Some, None}
+use Rattle.std.specs.Prelude.{is_some, ⊤}
+use Rattle.std.specs.List.{list_any}
+use Rattle.bus_due.specs.bus_base.specs.declared.ProcId.{ProcId}
+use Rattle.bus_due.specs.cdb_codec.specs.Cdb.{command_of}
+use Rattle.bus_due.specs.bus_lines.specs.Handshakes.{Handshakes}
+use Rattle.bus_due.specs.disk_array.specs.ArrayHistory.{reply_in}
+use Rattle.bus_due.specs.disk_array.specs.Execution.{Reply, is_request_sense}
+use Rattle.bus_due.specs.disk_array.specs.Processes.{Process, process_of, same_id}
+use Rattle.bus_due.specs.disk_array.specs.SoundArray.{IsSound}
+use Rattle.bus_due.specs.disk_array.specs.Steps.{process_count, running_if, running_process, has_ended}
+use Rattle.bus_due.specs.disk_array.specs.Units.{RunningProcess, UnitState, Array, unit_state_at, guest_at, is_held, without_reply}
+use Rattle.bus_due.specs.bus_dialogue.specs.declared.exchange.Cause.{Cause}
+use Rattle.bus_due.specs.bus_dialogue.specs.declared.exchange.Messages.{Messages}
+use Rattle.bus_due.specs.bus_dialogue.specs.declared.exchange.Next.{Next}
+use Rattle.bus_due.specs.bus_dialogue.specs.declared.exchange.Phase.{Phase}
+use Rattle.bus_due.specs.bus_dialogue.specs.declared.exchange.Plan.{Plan}
+use Rattle.bus_due.specs.bus_dialogue.specs.Exchange.{one_message}
+use Rattle.bus_due.specs.bus_dialogue.specs.NextPhase.{phase_of}
+use Rattle.bus_due.specs.bus_trace.specs.declared.Row.{Row}
+use Rattle.bus_due.specs.bus_trace.specs.declared.connection.Connection.{Connection}
+use Rattle.bus_due.specs.scenario.specs.Value.{ScenarioValue}
+use Rattle.bus_due.specs.bus_story.specs.Items.{process, has_item}
+use Rattle.bus_due.specs.RunState.{RunState, bus_of, process_served}
+use Rattle.bus_due.specs.RunSteps.{run_state}
+use Rattle.bus_books.specs.Accounts.{is_served_by}
+use Rattle.row_laws.specs.ItemTalks.{is_complete_in}
+use Rattle.bus_due.specs.msg_grammar.specs.declared.message.MsgIn.TheVariants as to_initiator
+use Rattle.bus_due.specs.bus_dialogue.specs.declared.exchange.Cause.TheVariants as causes
+use Rattle.bus_due.specs.bus_dialogue.specs.declared.exchange.Next.TheVariants as nexts
+use Rattle.bus_due.specs.bus_dialogue.specs.declared.exchange.Phase.TheVariants as phases
+
+-- ---- of each process that waits, that runs, and that is outside the queues
+
+abbrev pub Waits : (RunningProcess → Type 0) → List Process → Type 0
+Waits q [] = ⊤
+Waits q (p ∷ waiting) = q (without_reply p) × Waits q waiting
+
+abbrev pub Runs : (RunningProcess → Type 0) → Option RunningProcess → Type 0
+Runs q None = ⊤
+Runs q (Some r) = q r
+
+abbrev pub OnUnit : (RunningProcess → Type 0) → UnitState → Type 0
+OnUnit q u = Waits q u.waiting × Runs q u.current
+
+abbrev pub OnUnits : (RunningProcess → Type 0) → List UnitState → Type 0
+OnUnits q [] = ⊤
+OnUnits q (u ∷ units) = OnUnit q u × OnUnits q units
+
+abbrev pub OnGuests : (RunningProcess → Type 0) → List RunningProcess → Type 0
+OnGuests g [] = ⊤
+OnGuests g (r ∷ guests) = g r × OnGuests g guests
+
+pub record Each (q g : RunningProcess → Type 0) (a : Array) : Type 0 where
+  pub units : OnUnits q a.units
+  pub guests : OnGuests g a.guests
+
+-- ---- of one process
+
+-- It is none of them.
+abbrev pub IsAway : ProcId → RunningProcess → Type 0
+IsAway id r = same_id r.process.id id ≡ false
+
+-- It has no reply, and this is none, and it has not ended, where it is this one.
+abbrev pub IsUnanswered : Option Reply → Bool → ProcId → RunningProcess → Type 0
+IsUnanswered given over id r = same_id r.process.id id ≡ true → (r.reply ≡ None) × (given ≡ None) × (over ≡ false)
+
+-- No connection serves it: it waits, or is current, and was neither answered nor ended; or it stands nowhere.
+abbrev pub IsAtRest : Array → ProcId → Type 0
+IsAtRest a id = Each (IsUnanswered (reply_in a.replies id) (has_ended a id) id) (IsAway id) a
+
+-- It has not arrived: it stands nowhere, and was neither answered nor ended.
+pub record IsUntouched (a : Array) (id : ProcId) : Type 0 where
+  pub away : Each (IsAway id) (IsAway id) a
+  pub reply : reply_in a.replies id ≡ None
+  pub open_is : has_ended a id ≡ false
+
+-- A REQUEST SENSE, and any command to a unit that is not there, stays outside the queue.
+abbrev pub IsOutside : Array → Process → Type 0
+IsOutside a p = (unit_state_at a.units p.target p.unit ≡ None) ⊎ (is_request_sense (command_of p.cdb) ≡ true)
+
+-- It was not answered and may run: outside the queue, or as long as its unit is not held.
+pub record MayRun (a : Array) (p : Process) : Type 0 where
+  pub running_is : running_process a p.id ≡ Some (without_reply p)
+  pub free : (is_some (guest_at a.guests p.id) || not (is_held a.holds p.target p.unit)) ≡ true
+  pub reply : reply_in a.replies p.id ≡ None
+  pub kind : IsOutside a p ⊎ IsAtRest a p.id
+
+-- It has this reply, which was given.
+pub record IsAnswered (a : Array) (id : ProcId) : Type 0 where
+  pub running : RunningProcess
+  pub running_is : running_process a id ≡ Some running
+  pub reply : Reply
+  pub reply_is : running.reply ≡ Some reply
+  pub given : reply_in a.replies id ≡ Some reply
+
+-- ---- the queue of a unit
+
+-- A process waits at this unit, or is the current one.
+abbrev pub is_in_queue : UnitState → ProcId → Bool
+is_in_queue u id = list_any (λ (p : Process). same_id p.id id) u.waiting || is_some (running_if u.current id)
+
+abbrev pub is_queued : List UnitState → ProcId → Bool
+is_queued units id = list_any (λ (u : UnitState). is_in_queue u id) units
+
+-- No unit has more processes, waiting or current, than its depth (7.8.1).
+abbrev pub AreWithin : List UnitState → Type 0
+AreWithin [] = ⊤
+AreWithin (u ∷ units) = (process_count u ≤ u.depth) × AreWithin units
+
+-- ---- of the process that is served
+
+-- None of them is COMMAND COMPLETE.
+pub record TellNoEnd (m : Messages) : Type 0 where
+  pub first : is_complete_in m.first ≡ false
+  pub second : is_complete_in m.second ≡ false
+
+pub record RunsOpen (a : Array) (p : Process) : Type 0 where
+  pub runs : MayRun a p
+  pub open_is : has_ended a p.id ≡ false
+
+pub record AnsweredOpen (a : Array) (id : ProcId) : Type 0 where
+  pub answered : IsAnswered a id
+  pub open_is : has_ended a id ≡ false
+
+-- It will be disconnected, and stands in a queue, or has ended once its initiator takes COMMAND COMPLETE (6.6.5, 6.6.6).
+pub data Closes (a : Array) (p : Process) (m : Messages) : Type 0 where
+  completes : m ≡ one_message to_initiator.CommandComplete → AnsweredOpen a p.id → Closes a p m
+  disconnects : TellNoEnd m → IsAtRest a p.id → has_ended a p.id ≡ false → is_queued a.units p.id ≡ true → Closes a p m
+
+-- Where these messages are said, and this follows.
+abbrev pub PlacedBefore : Array → Process → Messages → Next → Type 0
+PlacedBefore a p m nexts.Command = IsUntouched a p.id
+PlacedBefore a p m nexts.GoOn = RunsOpen a p
+PlacedBefore a p m nexts.Status = AnsweredOpen a p.id
+PlacedBefore a p m nexts.FreeBus = Closes a p m
+
+-- The initiator has taken COMMAND COMPLETE: ACK rose in the phase, and ATN was false (6.6.5).
+pub record IsTaken (a : Array) (p : Process) (plan : Plan) (h : Handshakes) (atn : Bool) : Type 0 where
+  pub next_is : plan.next ≡ nexts.FreeBus
+  pub messages_are : plan.messages ≡ one_message to_initiator.CommandComplete
+  pub answered : (h.answers == 0) ≡ false
+  pub attends : atn ≡ false
+  pub rests : IsAtRest a p.id
+
+abbrev pub PlacedAsked : Array → Process → Plan → Cause → Type 0
+PlacedAsked a p plan causes.Selected = IsUntouched a p.id
+PlacedAsked a p plan causes.InMessage = PlacedBefore a p plan.messages plan.next
+PlacedAsked a p plan causes.InData = RunsOpen a p
+PlacedAsked a p plan causes.InStatus = AnsweredOpen a p.id
+
+abbrev pub PlacedIn : Array → Process → Plan → Handshakes → Bool → Phase → Type 0
+PlacedIn a p plan h atn phases.MessageOut = PlacedAsked a p plan plan.cause
+PlacedIn a p plan h atn phases.MessageIn = PlacedBefore a p plan.messages plan.next ⊎ IsTaken a p plan h atn
+PlacedIn a p plan h atn phases.Command = IsUntouched a p.id
+PlacedIn a p plan h atn phases.Status = AnsweredOpen a p.id
+PlacedIn a p plan h atn phases.DataIn = RunsOpen a p
+PlacedIn a p plan h atn phases.DataOut = RunsOpen a p
+
+-- Once a phase has begun; before it, after a selection, it has not arrived.
+abbrev pub PlacedIf : Bool → Array → Process → Plan → Handshakes → Bool → Phase → Type 0
+PlacedIf false a p plan h atn phase = IsUntouched a p.id
+PlacedIf true a p plan h atn phase = PlacedIn a p plan h atn phase
+
+-- ---- all that is kept
+
+pub record HasPlaces (s : ScenarioValue) (k : RunState) : Type 0 where
+  pub array : Array
+  pub array_is : k.array ≡ Some array
+  pub sound : IsSound s array
+  pub within : AreWithin array.units
+  pub unsent : (id : ProcId) → has_item k.story.sent.sent (process id) ≡ false → IsUntouched array id
+  pub rests : (id : ProcId) → is_served_by k.served id ≡ false → IsAtRest array id
+  pub reset : (bus_of k).rst ≡ true → (id : ProcId) → IsAtRest array id
+  pub unserved : k.story.bus_state.connection ≡ None → k.served ≡ None
+  pub sent : (id : ProcId) → k.served ≡ Some (process id) → has_item k.story.sent.sent (process id) ≡ true
+  pub of_scenario : (id : ProcId) → k.served ≡ Some (process id) → (p : Process) × (process_of s id ≡ Some p)
+  pub placed : (n : Connection) → k.story.bus_state.connection ≡ Some n → (bus_of k).rst ≡ false → (p : Process) → process_served s k ≡ Some p
+      → PlacedIf k.exchange.begun array p k.exchange.plan k.handshakes (bus_of k).atn (phase_of (bus_of k))
+
+abbrev pub PlaceFacts : ScenarioValue → List Row → Type 0
+PlaceFacts s rows = HasPlaces s (run_state s rows)

@@ -1,0 +1,12 @@
+pub mod Names
+pub mod Commands
+pub mod Pointers
+pub mod Offers
+pub mod Tells
+pub mod Undone
+pub mod Named
+pub mod Items
+pub mod Talks
+pub mod Last
+pub mod Instructed
+pub mod Complaints

@@ -1,0 +1,19 @@
+pub mod Commands
+pub mod DataFacts
+pub mod RunFacts
+pub mod RunCounts
+pub mod Named
+pub mod Items
+pub mod Instructed
+pub mod LastTalks
+pub mod TellFacts
+pub mod Complaints
+pub mod WholeRuns
+pub mod RowAttendance
+pub mod RunsWhole
+-- Handed on to the crates above that list this one and not these.
+pub use Rattle.row_laws.specs.scsi_device
+pub use Rattle.row_laws.specs.bus_books
+pub use Rattle.row_laws.specs.bus_laws
+pub use Rattle.row_laws.specs.link_laws
+pub use Rattle.row_laws

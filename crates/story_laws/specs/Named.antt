@@ -1,0 +1,74 @@
+-- After a reselection the target says the names of the process that it serves, again where one was struck, until the initiator knows
+-- it (6.1.4, 6.6.7, 6.6.13, 6.6.17).
+use Rattle.std.specs.Prelude.{ℕ, ◌≡◌, true, false, ◌==◌, List, length, Option, Some, is_some}
+use Rattle.bus_due.specs.bus_trace.specs.LineSet.{LineSet}
+use Rattle.bus_due.specs.bus_trace.specs.declared.Row.{Row}
+use Rattle.bus_due.specs.bus_trace.specs.declared.connection.Connection.{Connection}
+use Rattle.bus_due.specs.bus_trace.specs.Phases.{is_message_out, is_message_in}
+use Rattle.bus_due.specs.bus_trace.specs.Terms.{connection}
+use Rattle.bus_due.specs.bus_trace.specs.Trace.{bus}
+use Rattle.bus_due.specs.bus_lines.specs.Handshakes.{Handshakes}
+use Rattle.bus_due.specs.msg_grammar.specs.declared.message.MsgIn.{MsgIn}
+use Rattle.bus_due.specs.scenario.specs.Value.{ScenarioValue}
+use Rattle.bus_due.specs.disk_array.specs.Processes.{Process, process_of}
+use Rattle.bus_due.specs.disk_array.specs.Order.{tag_number}
+use Rattle.bus_due.specs.bus_story.specs.HistoryEvents.{is_complete}
+use Rattle.bus_due.specs.bus_story.specs.Items.{process, Sent, has_item}
+use Rattle.bus_due.specs.bus_story.specs.Links.{Link, named_item}
+use Rattle.bus_due.specs.bus_dialogue.specs.declared.exchange.Messages.{Messages}
+use Rattle.bus_due.specs.bus_dialogue.specs.Exchange.{Exchange, bytes_of_messages, one_message}
+use Rattle.bus_due.specs.bus_dialogue.specs.Wants.{Ready}
+use Rattle.bus_due.specs.bus_dialogue.specs.Words.{naming_messages, tag_named}
+use Rattle.bus_due.specs.RunState.{RunState, bus_of}
+use Rattle.bus_due.specs.RunSteps.{run_state}
+use Rattle.bus_due.specs.Wants.{ready_of}
+use Rattle.row_laws.specs.bus_books.specs.Giving.{OnMessages}
+use Rattle.row_laws.specs.bus_books.specs.Knowing.{IsNoName}
+use Rattle.bus_due.specs.bus_dialogue.specs.declared.exchange.Cause.TheVariants as causes
+use Rattle.bus_due.specs.bus_dialogue.specs.declared.exchange.Next.TheVariants as nexts
+
+-- ---- the process that is reselected
+
+-- It is of the scenario, no automatic REQUEST SENSE, and open.
+pub record IsReadyCommand (s : ScenarioValue) (k : RunState) (r : Ready) : Type 0 where
+  pub process_is : process_of s r.process.id ≡ Some r.process
+  pub command : r.process.id.sense ≡ false
+  pub sent : has_item k.story.sent.sent (process r.process.id) ≡ true
+  pub open_is : has_item k.story.sent.over (process r.process.id) ≡ false
+
+pub record AreFound (s : ScenarioValue) (k : RunState) (n : Connection) : Type 0 where
+  pub ready : (r : Ready) → ready_of s k n.target ≡ Some r → IsReadyCommand s k r
+
+-- The names of the process find one.
+abbrev pub IsFoundBy : ScenarioValue → Connection → Sent → Process → Type 0
+IsFoundBy s n sent p =
+    (l : Link) → l.initiator ≡ n.initiator → l.target ≡ n.target → l.unit ≡ p.unit → is_some (named_item sent s.commands l (tag_number p.tag)) ≡ true
+
+-- ---- its names
+
+-- They are said from the first on, or from the second, and so many bytes of them have crossed: after IDENTIFY the initiator knows the unit.
+pub data Names (p : Process) (l : Link) (messages : Messages) (count : ℕ) : Type 0 where
+  all : messages ≡ naming_messages p → ((count == 0) ≡ false → l.unit ≡ p.unit) → Names p l messages count
+  tag_alone : (m : MsgIn) → tag_named p.tag ≡ Some m → messages ≡ one_message m → l.unit ≡ p.unit → Names p l messages count
+
+pub record IsNaming (s : ScenarioValue) (n : Connection) (sent : Sent) (link : Option Link) (p : Process) (l : Link) (x : Exchange) : Type 0 where
+  pub link_is : link ≡ Some l
+  pub initiator_is : l.initiator ≡ n.initiator
+  pub target_is : l.target ≡ n.target
+  pub begun_is : x.begun ≡ true
+  pub next_is : x.plan.next ≡ nexts.GoOn
+  pub last : is_complete l.last ≡ false
+  pub before : is_complete l.before ≡ false
+  pub found : IsFoundBy s n sent p
+
+-- The initiator knows the process, and no names follow; or they are said; or MESSAGE PARITY ERROR is, after which they are said again.
+pub data NamedBy (s : ScenarioValue) (n : Connection) (sent : Sent) (link : Option Link) (x : Exchange) (h : Handshakes) (b : LineSet) : Type 0 where
+  known : (l : Link) → link ≡ Some l → is_some l.item ≡ true → OnMessages IsNoName x.plan.messages → NamedBy s n sent link x h b
+  said : (p : Process) (l : Link) → IsNaming s n sent link p l x → is_message_in b ≡ true → Names p l x.plan.messages h.requests → (h.requests ≡ length (bytes_of_messages x.plan.messages) → is_some l.item ≡ true) → NamedBy s n sent link x h b
+  refused : (p : Process) (l : Link) → IsNaming s n sent link p l x → is_message_out b ≡ true → x.plan.cause ≡ causes.InMessage → Names p l x.plan.messages 0 → NamedBy s n sent link x h b
+
+abbrev pub Named : ScenarioValue → RunState → Connection → Type 0
+Named s k n = NamedBy s n k.story.sent k.story.link k.exchange k.handshakes (bus_of k)
+
+abbrev pub NamedFacts : ScenarioValue → List Row → Type 0
+NamedFacts s rows = (n : Connection) → connection rows ≡ Some n → (bus rows).rst ≡ false → n.reselected ≡ true → Named s (run_state s rows) n

@@ -1,0 +1,28 @@
+-- A process that runs, and would end GOOD, has sent all that it sends (6.1.5.1, 7.3).
+use Rattle.std.specs.Prelude.{◌≡◌, true, false, ◌==◌, List, ◌∷◌, length, Some}
+use Rattle.bus_due.specs.bus_trace.specs.declared.Row.{Row}
+use Rattle.bus_due.specs.bus_trace.specs.declared.connection.Connection.{Connection}
+use Rattle.bus_due.specs.bus_trace.specs.Terms.{connection}
+use Rattle.bus_due.specs.bus_trace.specs.Trace.{bus}
+use Rattle.bus_due.specs.cdb_codec.specs.declared.status.TheConstants.{GOOD}
+use Rattle.bus_due.specs.scenario.specs.Value.{ScenarioValue}
+use Rattle.bus_due.specs.disk_array.specs.Processes.{Process}
+use Rattle.bus_due.specs.disk_array.specs.ArrayHistory.{shows_run}
+use Rattle.bus_due.specs.RunState.{RunState, array_of, process_served}
+use Rattle.bus_due.specs.RunSteps.{run_state, events_of_row}
+use Rattle.bus_due.specs.Tasks.{reply_now}
+use Rattle.row_laws.specs.scsi_device.specs.Writes.{Writer, writers}
+use Rattle.story_laws.specs.WholeRuns.{HasSentAll}
+
+-- ---- the process that is served
+
+pub data IsWhole (s : ScenarioValue) (k : RunState) (all : List Writer) (p : Process) : Type 0 where
+  ends_badly : ((reply_now (array_of s k) p).status == GOOD) ≡ false → IsWhole s k all p
+  sends_none : length p.sent ≡ 0 → IsWhole s k all p
+  sends_all : HasSentAll s k all p → IsWhole s k all p
+
+-- With a row of a connection, before and after which RST is false.
+abbrev pub RunsWhole : ScenarioValue → List Row → Row → Type 0
+RunsWhole s rows row =
+    (n : Connection) (p : Process) → connection rows ≡ Some n → (bus rows).rst ≡ false → (bus (row ∷ rows)).rst ≡ false → shows_run (events_of_row s rows row) ≡ true → process_served s (run_state s rows) ≡ Some p
+    → IsWhole s (run_state s rows) (writers s rows) p

@@ -1,0 +1,35 @@
+-- A process that runs as its last data run is done has sent all that it sends (6.1.5.1, 6.6.6).
+use Rattle.std.specs.Prelude.{ℕ, ◌+◌, ◌*◌, ◌≡◌, ◌≤◌, true, List, length, Some, ⊤, if◌then◌else◌}
+use Rattle.bus_due.specs.scenario.specs.Value.{ScenarioValue}
+use Rattle.bus_due.specs.scenario.specs.declared.value.Policy.{Policy}
+use Rattle.bus_due.specs.disk_array.specs.Processes.{Process}
+use Rattle.bus_due.specs.bus_dialogue.specs.NextPhase.{phase_of}
+use Rattle.bus_due.specs.bus_dialogue.specs.declared.exchange.Task.{Task}
+use Rattle.bus_due.specs.LastingState.{progress_in}
+use Rattle.bus_due.specs.RunState.{RunState, bus_of}
+use Rattle.bus_due.specs.Tasks.{is_writing}
+use Rattle.row_laws.specs.scsi_device.specs.Writes.{Writer, writer_of, is_data_out, start_of_run}
+use Rattle.bus_due.specs.scenario.specs.declared.value.Policy.TheVariants as policies
+
+-- So many bytes have come with the runs that it has made, and with the present one in DATA OUT.
+abbrev pub bytes_come : ScenarioValue → RunState → Process → ℕ
+bytes_come s k p = start_of_run s p (progress_in k.progress p.id).runs + (if is_data_out (phase_of (bus_of k)) then k.handshakes.answers else 0)
+
+pub record HasSentAll (s : ScenarioValue) (k : RunState) (all : List Writer) (p : Process) : Type 0 where
+  pub writes : is_writing p ≡ true
+  pub writer : writer_of all p.target p.unit ≡ Some p.id
+  pub came : length p.sent ≤ bytes_come s k p
+
+-- ---- what is asked
+
+-- A run of so many blocks has one at least.
+abbrev pub RunsBlocks : Policy → Type 0
+RunsBlocks (policies.Burst most) = 1 ≤ most
+RunsBlocks _ = ⊤
+
+-- It moves all the bytes of its blocks.
+pub record MovesBlocks (policy : Policy) (t : Task) : Type 0 where
+  pub blocks : ℕ
+  pub blocks_are : t.blocks ≡ Some blocks
+  pub moved : t.moved ≡ blocks * t.size
+  pub runs : RunsBlocks policy

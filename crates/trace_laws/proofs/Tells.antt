@@ -1,7 +1,0 @@
--- The events that the ends show are those that the rows show (`facts`, `told`).
-pub mod Events
-pub mod Turns
-pub mod Ends
-pub mod Rows
-pub mod Traces
-pub mod Facts
