@@ -22,13 +22,13 @@ pub use bus_trace::{
     DATA_HOLD, DATA_RELEASE_DELAY, DESKEW_DELAY, ENTRY_DELAY, HOLD_TIME, Kind, LineTimes, LineView,
     Lines, NEGATION_PERIOD, QUIET_TIME, RESET_HOLD_TIME, Row, SELECTION_ABORT_TIME,
     SELECTION_TIMEOUT_DELAY, SET_UP_TIME, ScsiId, TURN_DELAY, TWO_DESKEW, TransferTimes,
-    UNLIMITED_OFFSET, byte_lines, parity, transfer_times,
+    UNLIMITED_OFFSET, byte_lines, parity, see_call, transfer_times,
 };
 pub use effect::{RowEffect, effect_of, no_effect};
 pub use handshakes::{Handshakes, Request};
 pub use laws::{few_requests_wait, views_are_timely};
 pub use stage::{Stage, call_stage};
-pub use view::{BusView, see_call};
+pub use view::BusView;
 
 // Handed on to the crates above that list this one and not these.
 pub use bus_trace as the_bus_trace;

@@ -4,7 +4,7 @@ ghost use Rattle.bus_trace.specs.declared.Row.{Row};
 ghost use Rattle.bus_trace.specs.LineSet.{line_of};
 ghost use Rattle.bus_trace.specs.Trace.{IsViewOf, bus, drives, since, last_time};
 ghost use Rattle.bus_trace.specs.Changes.{change_of};
-ghost use Rattle.bus_trace.specs.Terms.{connection, connection_after, call_after, arbitration_after, free_since};
+ghost use Rattle.bus_trace.specs.Terms.{connection, arbitration_after, free_since};
 ghost use Rattle.bus_lines.specs.Stage.{stage};
 ghost use Rattle.bus_lines.specs.Effect.{effect};
 ghost use Rattle.bus_lines.specs.Handshakes.{handshakes};
@@ -17,8 +17,8 @@ use crate::handshakes::Handshakes;
 use crate::stage::{Stage, call_stage};
 use bus_trace::the_bus_base::{Dev, Ns};
 use bus_trace::{
-    Arbitration, Call, Change, Connection, LineView, Lines, Row, arbitration_after, call_after,
-    connection_after,
+    Arbitration, Call, Change, Connection, LineView, Lines, Row, arbitration_after, see_call,
+    see_connection,
 };
 use std::marker::Model;
 
@@ -204,49 +204,4 @@ fn renew_arbitration(arbitration: &mut Option<Arbitration>, free: Ns, change: &C
     ensures { arbitration.new ≡ arbitration_after arbitration.old free change.now row.now }
 {
     *arbitration = arbitration_after(*arbitration, free, change, row);
-}
-
-// The connection that a row begins, if it does.
-fn new_connection(call: &Option<Call>, change: &Change, row: &Row) -> Option<Connection>
-    ensures { result ≡ connection_after None call.now change.now row.now }
-{
-    connection_after(None, *call, change, row)
-}
-
-// The connection after a row. While one stands, only BSY ends it.
-fn see_connection(
-    connection: &mut Option<Connection>,
-    call: &Option<Call>,
-    change: &Change,
-    row: &Row,
-)
-    ensures { connection.new ≡ connection_after connection.old call.now change.now row.now }
-{
-    match connection {
-        None => *connection = new_connection(call, change, row),
-        Some(_) => {
-            if !change.after.bsy() {
-                *connection = None;
-            }
-        }
-    }
-}
-
-/// The call that stands goes on by a row. Where none stands before the row and SEL is false after it, there is none.
-pub fn see_call(call: &mut Option<Call>, change: &Change, row: &Row)
-    requires { row.now.dev < 8 }
-    ensures { call.new ≡ call_after call.old change.now row.now }
-{
-    if call.is_some() || change.after.sel() {
-        renew_call(call, *change, row);
-    }
-}
-
-// A function of its own, since each call pays for the room of its copies; of the change too, which else has to stand in
-// memory for all rows.
-fn renew_call(call: &mut Option<Call>, change: Change, row: &Row)
-    requires { row.now.dev < 8 }
-    ensures { call.new ≡ call_after call.old change row.now }
-{
-    *call = call_after(*call, &change, row);
 }

@@ -42,7 +42,7 @@ use Rattle.bus_rules.specs.Seen.{seen, seen_with, drives_bsy, initiator_of, init
 use Rattle.bus_trace.specs.Changes.{change_of}
 use Rattle.bus_trace.proofs.Sets.{same_eq}
 use Rattle.bus_rules.specs.Rules.{test, keeps, judged_rules, lowest_broken, broken_rule}
-use Rattle.bus_rules.specs.DataRows.{crosses_in, is_calm, is_calm_row, keeps_side, has_settled, is_in_turn, has_turned, stand_since, may_ask, is_apart, last_pulse, crosses_well, shakes_well, pulses_in_turn, moves_well, Standing, standing_after, standing_at, may_cross, is_move, passes, passes_of, passes_in, duty_in_data, course_after_transfer}
+use Rattle.bus_rules.specs.DataRows.{crosses_in, is_calm, is_calm_row, has_settled, is_in_turn, has_turned, stand_since, may_ask, is_apart, last_pulse, crosses_well, asks_in_turn, answers_in_turn, target_shakes_well, initiator_shakes_well, asks_by_pulse, answers_by_pulse, target_pulses_well, initiator_pulses_well, target_moves_well, initiator_moves_well, turns_well, target_passes, initiator_passes, Standing, standing_after, standing_at, may_cross, is_move, passes, passes_of, passes_in, duty_in_data, course_after_transfer}
 use Rattle.bus_phases.specs.Dialogue.{takes_data}
 use Rattle.bus_phases.specs.Tables.{IsRaisesOf}
 use Rattle.bus_rules.specs.Judging.{Running, IsCourseOf, IsTermsOf}
@@ -94,6 +94,89 @@ standing_of s = record {
   command = s.command;
   begun = s.begun;
 }
+
+-- ---- what the test asks of each end
+
+-- the device is an end of the connection, and drives no line of the other end
+abbrev keeps_side : Connection → ℕ → LineSet → Bool
+keeps_side n dev s = if dev == n.target then has_no_initiator_line s else (dev == n.initiator && has_no_target_line s)
+
+-- what moves does so in its turn, where bytes cross asynchronously
+abbrev shakes_well : Connection → Standing → Change → ℕ → Bool
+shakes_well n s c time =
+    implies (rises c.before.req c.after.req) (asks_in_turn n s c time)
+    && implies (falls c.before.req c.after.req) c.before.ack
+    && implies (rises c.before.ack c.after.ack) (answers_in_turn s c time)
+    && implies (falls c.before.ack c.after.ack) (not c.before.req)
+    && implies (changes_data c) (not (holds_still c.before))
+
+-- and by pulses of these times
+abbrev pulses_in_turn : Connection → Standing → Change → TransferTimes → ℕ → Bool
+pulses_in_turn n s c t time =
+    implies (rises c.before.req c.after.req) (asks_by_pulse n s c t time)
+    && implies (falls c.before.req c.after.req) (nat_le (s.times.req + t.assertion) time)
+    && implies (rises c.before.ack c.after.ack) (answers_by_pulse s c t time)
+    && implies (falls c.before.ack c.after.ack) (nat_le (s.times.ack + t.assertion) time)
+    && implies (changes_data c) (is_after (last_pulse s.pulses c) t.hold time)
+
+-- and as the phase asks
+abbrev moves_well : Connection → Standing → Change → ℕ → Bool
+moves_well n s c time =
+    if is_data c.before && not (s.agreement.offset == 0) then pulses_in_turn n s c (times_of s.agreement.period) time
+    else shakes_well n s c time
+
+-- one end moves one of REQ and ACK
+target_moves : (n : Connection) (s : Standing) (c : Change) (time : ℕ) → same c.before.ack c.after.ack ≡ true → target_moves_well n s c time ≡ true → moves_well n s c time ≡ true
+target_moves n s c time e h = go (is_data c.before && not (s.agreement.offset == 0)) h
+  where
+    up : rises c.before.ack c.after.ack ≡ false
+    up = no_rise c.before.ack c.after.ack (same_eq c.before.ack c.after.ack e)
+
+    down : falls c.before.ack c.after.ack ≡ false
+    down = no_fall c.before.ack c.after.ack (same_eq c.before.ack c.after.ack e)
+
+    go : (p : Bool) → (if p then target_pulses_well n s c (times_of s.agreement.period) time else target_shakes_well n s c time) ≡ true
+        → (if p then pulses_in_turn n s c (times_of s.agreement.period) time else shakes_well n s c time) ≡ true
+    go true h = let two = and_parts _ _ h in and_from _ _ (and_from _ _ (and_from _ _ two.0 (never _ _ up)) (never _ _ down)) two.1
+    go false h = let two = and_parts _ _ h in and_from _ _ (and_from _ _ (and_from _ _ two.0 (never _ _ up)) (never _ _ down)) two.1
+
+initiator_moves : (n : Connection) (s : Standing) (c : Change) (time : ℕ) → same c.before.req c.after.req ≡ true → initiator_moves_well s c time ≡ true → moves_well n s c time ≡ true
+initiator_moves n s c time e h = go (is_data c.before && not (s.agreement.offset == 0)) h
+  where
+    up : rises c.before.req c.after.req ≡ false
+    up = no_rise c.before.req c.after.req (same_eq c.before.req c.after.req e)
+
+    down : falls c.before.req c.after.req ≡ false
+    down = no_fall c.before.req c.after.req (same_eq c.before.req c.after.req e)
+
+    go : (p : Bool) → (if p then initiator_pulses_well s c (times_of s.agreement.period) time else initiator_shakes_well s c time) ≡ true
+        → (if p then pulses_in_turn n s c (times_of s.agreement.period) time else shakes_well n s c time) ≡ true
+    go true h =
+        let two = and_parts _ _ h in
+        let ack = and_parts _ _ two.0 in
+        and_from _ _ (and_from _ _ (and_from _ _ (and_from _ _ (never _ _ up) (never _ _ down)) ack.0) ack.1) two.1
+    go false h =
+        let two = and_parts _ _ h in
+        let ack = and_parts _ _ two.0 in
+        and_from _ _ (and_from _ _ (and_from _ _ (and_from _ _ (never _ _ up) (never _ _ down)) ack.0) ack.1) two.1
+
+either_end : (n : Connection) (s : Standing) (c : Change) (row : Row) → passes_in n s c row ≡ true
+    → (keeps_side n row.dev c.next && turns_well s (row.dev == n.target) c row.time && moves_well n s c row.time) ≡ true
+either_end n s c row e = go (row.dev == n.target) (row.dev == n.initiator) e
+  where
+    go : (t i : Bool) → (if t then target_passes n s c row.time else (i && initiator_passes s c row.time)) ≡ true
+        → ((if t then has_no_initiator_line c.next else (i && has_no_target_line c.next)) && turns_well s t c row.time && moves_well n s c row.time) ≡ true
+    go true i e =
+        let rest = and_parts _ _ e in
+        let turn = and_parts _ _ rest.0 in
+        let side = and_parts _ _ turn.0 in
+        and_from _ _ (and_from _ _ side.1 turn.1) (target_moves n s c row.time side.0 rest.1)
+    go false true e =
+        let rest = and_parts _ _ e in
+        let turn = and_parts _ _ rest.0 in
+        let side = and_parts _ _ turn.0 in
+        and_from _ _ (and_from _ _ side.1 turn.1) (initiator_moves n s c row.time side.0 rest.1)
+    go false false e = absurd cc
 
 -- ---- what the rules ask of such a row
 
@@ -401,6 +484,12 @@ turn_of s row n side e = go (raises_data s.change) (row.dev == n.target) (row.de
     go true false true io side e = e
     go true false false io side e = absurd cc
 
+other_way : (a b : Bool) → (a || b) ≡ true → (b || a) ≡ true
+other_way true true e = refl
+other_way true false e = refl
+other_way false true e = refl
+other_way false false e = absurd cc
+
 turned_kept : (s : Seen) (row : Row) (n : Connection) → IsQuiet s.change → s.connection ≡ Some n → has_turned (standing_of s) (row.dev == n.target) s.change row.time ≡ true
     → (initiator_released_of s row.time (Some n) ≡ true) × (waits_for_turn s row (Some n) ≡ true) × (target_released_of s row.time (Some n) ≡ true)
 turned_kept s row n q conn e =
@@ -413,11 +502,14 @@ turned_kept s row n q conn e =
       rest.2,
     )
   where
-    go : (io turned : Bool) → (if io then (nat_le row.time (s.times.io + DATA_RELEASE_DELAY) || not s.initiator_data) && implies (turned && row.dev == n.target && drives_data s.change.next) (nat_le (s.times.io + TURN_DELAY) row.time) else (nat_le row.time (s.times.io + DESKEW_DELAY) || not s.target_data)) ≡ true
+    released : (not s.initiator_data || nat_le row.time (s.times.io + DATA_RELEASE_DELAY)) ≡ true → (nat_le row.time (s.times.io + DATA_RELEASE_DELAY) || not s.initiator_data) ≡ true
+    released = other_way (not s.initiator_data) (nat_le row.time (s.times.io + DATA_RELEASE_DELAY))
+
+    go : (io turned : Bool) → (if io then (not s.initiator_data || nat_le row.time (s.times.io + DATA_RELEASE_DELAY)) && implies (turned && row.dev == n.target && drives_data s.change.next) (nat_le (s.times.io + TURN_DELAY) row.time) else (not s.target_data || nat_le row.time (s.times.io + DESKEW_DELAY))) ≡ true
         → (implies io (nat_le row.time (s.times.io + DATA_RELEASE_DELAY) || not s.initiator_data) ≡ true) × (implies (io && (turned || false) && row.dev == n.target && drives_data s.change.next) (nat_le (s.times.io + TURN_DELAY) row.time) ≡ true) × (implies (not io) (nat_le row.time (s.times.io + DESKEW_DELAY) || not s.target_data) ≡ true)
-    go true true e = let two = and_parts _ _ e in (two.0, two.1, refl)
-    go true false e = let two = and_parts _ _ e in (two.0, refl, refl)
-    go false turned e = (refl, refl, e)
+    go true true e = let two = and_parts _ _ e in (released two.0, two.1, refl)
+    go true false e = let two = and_parts _ _ e in (released two.0, refl, refl)
+    go false turned e = (refl, refl, other_way (not s.target_data) (nat_le row.time (s.times.io + DESKEW_DELAY)) e)
 
 -- ---- bytes
 
@@ -544,7 +636,7 @@ in_connection s row n er conn call arbitration order move quiet h =
     let q = is_quiet s.change quiet in
     let r = is_reset s in
     let two = and_parts _ _ move in
-    let rest = and_parts _ _ h in
+    let rest = and_parts _ _ (either_end n (standing_of s) s.change row h) in
     let side = and_parts _ _ rest.0 in
     let turn = and_parts _ _ side.1 in
     let moves = moves_kept n (standing_of s) s.change row.time rest.1 in

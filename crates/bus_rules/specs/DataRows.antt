@@ -1,6 +1,6 @@
 -- Rows that change data lines, REQ and ACK alone, in a DATA phase or, where no byte crosses, in another one, and a
 -- short test that such a row breaks no rule.
-use Rattle.std.specs.Prelude.{ℕ, ◌+◌, Bool, false, not, max, ◌&&◌, ◌||◌, ◌==◌, List, Option, Some, None, nat_le, nat_lt, is_some, is_none, if◌then◌else◌}
+use Rattle.std.specs.Prelude.{ℕ, ◌+◌, Bool, true, false, not, max, ◌&&◌, ◌||◌, ◌==◌, List, Option, Some, None, nat_le, nat_lt, is_some, is_none, if◌then◌else◌}
 use Rattle.bus_trace.specs.declared.agreements.TheConstants.{UNLIMITED_OFFSET}
 use Rattle.bus_trace.specs.declared.delays.TheConstants.{BUS_SETTLE_DELAY, DATA_RELEASE_DELAY, DESKEW_DELAY, SET_UP_TIME, TURN_DELAY}
 use Rattle.bus_trace.specs.LineSet.{LineSet, data_of, same, same_set, has_odd_parity}
@@ -23,10 +23,10 @@ use Rattle.bus_rules.specs.Connected.{has_no_initiator_line, has_no_target_line,
 use Rattle.bus_rules.specs.Messages.{is_owed, is_none_or_all}
 use Rattle.bus_trace.specs.Phases.{is_data}
 use Rattle.bus_phases.specs.Dialogue.{takes_data}
-use Rattle.bus_phases.specs.Phases.{pulses, pulses_on, turned, duty}
+use Rattle.bus_phases.specs.Phases.{count_after, pulses, pulses_on, turned, duty}
 use Rattle.bus_phases.specs.Dialogue.{dialogue}
 use Rattle.bus_rules.specs.Seen.{drives_bsy, initiator_of, initiator_data, target_data}
-use Rattle.bus_trace.specs.Terms.{is_fault, arbitration, call, connection, receiver_of}
+use Rattle.bus_trace.specs.Terms.{is_fault, when, arbitration, call, connection, receiver_of}
 use Rattle.bus_rules.specs.Transfer.{changes_data, holds_still, is_after}
 use Rattle.bus_trace.specs.Agreements.{times_of}
 
@@ -118,10 +118,6 @@ abbrev pub is_calm_row : Change → Bool
 is_calm_row c =
     is_quiet_bus c.before && same_stage c.before c.after && (not c.own.sel && not c.own.rst && same_stage c.own c.next) && is_calm c
 
--- The device is an end of the connection, and drives no line of the other end.
-abbrev pub keeps_side : Connection → ℕ → LineSet → Bool
-keeps_side n dev s = if dev == n.target then has_no_initiator_line s else (dev == n.initiator && has_no_target_line s)
-
 -- The phase has settled, no MESSAGE OUT is owed, and the target alone drives BSY: REQ may rise.
 abbrev pub has_settled : Connection → Standing → ℕ → Bool
 has_settled n s time =
@@ -133,8 +129,8 @@ is_in_turn is_target c = implies (raises_data c) (same is_target c.before.io)
 
 abbrev pub has_turned : Standing → Bool → Change → ℕ → Bool
 has_turned s is_target c time =
-    if c.before.io then (nat_le time (s.times.io + DATA_RELEASE_DELAY) || not s.initiator_data) && implies (s.turned && is_target && drives_data c.next) (nat_le (s.times.io + TURN_DELAY) time)
-    else (nat_le time (s.times.io + DESKEW_DELAY) || not s.target_data)
+    if c.before.io then (not s.initiator_data || nat_le time (s.times.io + DATA_RELEASE_DELAY)) && implies (s.turned && is_target && drives_data c.next) (nat_le (s.times.io + TURN_DELAY) time)
+    else (not s.target_data || nat_le time (s.times.io + DESKEW_DELAY))
 
 -- Since when the data lines stand as they do after the row.
 abbrev pub stand_since : Change → ℕ → ℕ → ℕ
@@ -160,18 +156,23 @@ may_cross s c = has_odd_parity c.after && s.begun && not s.is_open && is_none_or
 abbrev pub crosses_well : Standing → Change → ℕ → ℕ → Bool
 crosses_well s c set_up time = may_cross s c && nat_le (stand_since c s.data_since time + set_up) time
 
--- What moves does so in its turn, where bytes cross asynchronously: as REQ rises, and as ACK does; and all of it.
+-- What moves does so in its turn, where bytes cross asynchronously: as REQ rises, and as ACK does;
 abbrev pub asks_in_turn : Connection → Standing → Change → ℕ → Bool
 asks_in_turn n s c time = has_settled n s time && not c.before.ack && implies c.before.io (crosses_well s c SET_UP_TIME time)
 
 abbrev pub answers_in_turn : Standing → Change → ℕ → Bool
 answers_in_turn s c time = c.before.req && (c.before.io || crosses_well s c SET_UP_TIME time)
 
-abbrev pub shakes_well : Connection → Standing → Change → ℕ → Bool
-shakes_well n s c time =
+-- of what the target moves, REQ and data lines, and of what the initiator moves, ACK and data lines.
+abbrev pub target_shakes_well : Connection → Standing → Change → ℕ → Bool
+target_shakes_well n s c time =
     implies (rises c.before.req c.after.req) (asks_in_turn n s c time)
     && implies (falls c.before.req c.after.req) c.before.ack
-    && implies (rises c.before.ack c.after.ack) (answers_in_turn s c time)
+    && implies (changes_data c) (not (holds_still c.before))
+
+abbrev pub initiator_shakes_well : Standing → Change → ℕ → Bool
+initiator_shakes_well s c time =
+    implies (rises c.before.ack c.after.ack) (answers_in_turn s c time)
     && implies (falls c.before.ack c.after.ack) (not c.before.req)
     && implies (changes_data c) (not (holds_still c.before))
 
@@ -187,27 +188,45 @@ answers_by_pulse s c t time =
     (nat_lt s.pulses.ack s.pulses.req && is_apart t s.times.ack s.pulses.last_ack time)
     && (c.before.io || crosses_well s c t.set_up time)
 
-abbrev pub pulses_in_turn : Connection → Standing → Change → TransferTimes → ℕ → Bool
-pulses_in_turn n s c t time =
+abbrev pub target_pulses_well : Connection → Standing → Change → TransferTimes → ℕ → Bool
+target_pulses_well n s c t time =
     implies (rises c.before.req c.after.req) (asks_by_pulse n s c t time)
     && implies (falls c.before.req c.after.req) (nat_le (s.times.req + t.assertion) time)
-    && implies (rises c.before.ack c.after.ack) (answers_by_pulse s c t time)
+    && implies (changes_data c) (is_after (last_pulse s.pulses c) t.hold time)
+
+abbrev pub initiator_pulses_well : Standing → Change → TransferTimes → ℕ → Bool
+initiator_pulses_well s c t time =
+    implies (rises c.before.ack c.after.ack) (answers_by_pulse s c t time)
     && implies (falls c.before.ack c.after.ack) (nat_le (s.times.ack + t.assertion) time)
     && implies (changes_data c) (is_after (last_pulse s.pulses c) t.hold time)
 
 -- A DATA phase under an agreement with an offset uses pulses.
-abbrev pub moves_well : Connection → Standing → Change → ℕ → Bool
-moves_well n s c time =
-    if is_data c.before && not (s.agreement.offset == 0) then pulses_in_turn n s c (times_of s.agreement.period) time
-    else shakes_well n s c time
+abbrev pub target_moves_well : Connection → Standing → Change → ℕ → Bool
+target_moves_well n s c time =
+    if is_data c.before && not (s.agreement.offset == 0) then target_pulses_well n s c (times_of s.agreement.period) time
+    else target_shakes_well n s c time
+
+abbrev pub initiator_moves_well : Standing → Change → ℕ → Bool
+initiator_moves_well s c time =
+    if is_data c.before && not (s.agreement.offset == 0) then initiator_pulses_well s c (times_of s.agreement.period) time
+    else initiator_shakes_well s c time
 
 abbrev pub turns_well : Standing → Bool → Change → ℕ → Bool
 turns_well s is_target c time = is_in_turn is_target c && has_turned s is_target c time
 
--- In this connection such a row breaks no rule.
+-- A row of the target leaves ACK as it is, one of the initiator REQ; neither drives a line of the other end.
+abbrev pub target_passes : Connection → Standing → Change → ℕ → Bool
+target_passes n s c time =
+    same c.before.ack c.after.ack && has_no_initiator_line c.next && turns_well s true c time && target_moves_well n s c time
+
+abbrev pub initiator_passes : Standing → Change → ℕ → Bool
+initiator_passes s c time =
+    same c.before.req c.after.req && has_no_target_line c.next && turns_well s false c time && initiator_moves_well s c time
+
+-- In this connection such a row of one of its ends breaks no rule.
 abbrev pub passes_in : Connection → Standing → Change → Row → Bool
 passes_in n s c row =
-    keeps_side n row.dev c.next && turns_well s (row.dev == n.target) c row.time && moves_well n s c row.time
+    if row.dev == n.target then target_passes n s c row.time else (row.dev == n.initiator && initiator_passes s c row.time)
 
 abbrev pub passes_of : Standing → Change → Row → Option Connection → Bool
 passes_of s c row None = false
@@ -232,4 +251,31 @@ course_after_transfer k held c time = record k {
   pulses = pulses_on k.pulses c time;
   duty = duty_in_data k.duty c held;
   dialogue = takes_data k.dialogue (crosses_in c);
+}
+
+-- The initiator and the target of the connection, if one stands.
+abbrev pub initiator_in : Option Connection → Option ℕ
+initiator_in None = None
+initiator_in (Some n) = Some n.initiator
+
+abbrev pub target_in : Option Connection → Option ℕ
+target_in None = None
+target_in (Some n) = Some n.target
+
+-- After a row in which ACK does not move, and REQ rises or not.
+abbrev pub course_after_ask : Course → Bool → Bool → ℕ → Course
+course_after_ask k asks reads time = record k {
+  receiver = if asks && reads then initiator_in k.connection else None;
+  pulses = record k.pulses { req = count_after asks k.pulses.req; last_req = when asks time k.pulses.last_req };
+  duty = if asks then duties.Nothing else k.duty;
+  dialogue = takes_data k.dialogue (asks && reads);
+}
+
+-- After a row in which REQ does not move, and ACK rises or not; or it falls while ATN is held.
+abbrev pub course_after_answer : Course → Bool → Bool → Bool → ℕ → Course
+course_after_answer k answers heeded reads time = record k {
+  receiver = if answers && not reads then target_in k.connection else None;
+  pulses = record k.pulses { ack = count_after answers k.pulses.ack; last_ack = when answers time k.pulses.last_ack };
+  duty = if heeded then duties.Asked else k.duty;
+  dialogue = takes_data k.dialogue (answers && not reads);
 }

@@ -8,7 +8,7 @@ ghost use Rattle.bus_trace.specs.declared.Row.{Row};
 ghost use Rattle.bus_trace.specs.Trace.{IsViewOf, drives};
 ghost use Rattle.bus_trace.specs.Changes.{same_stage};
 ghost use Rattle.bus_trace.specs.Agreements.{AreTimes};
-ghost use Rattle.bus_rules.specs.DataRows.{crosses_in, is_calm, is_quiet_bus, is_calm_row, keeps_side, has_settled, is_in_turn, has_turned, stand_since, may_ask, last_pulse, is_apart, standing_at, may_cross, crosses_well, asks_in_turn, answers_in_turn, shakes_well, asks_by_pulse, answers_by_pulse, pulses_in_turn, moves_well, turns_well, passes_in, passes_of, is_move, passes, duty_in_data};
+ghost use Rattle.bus_rules.specs.DataRows.{crosses_in, is_calm, is_quiet_bus, is_calm_row, has_settled, is_in_turn, has_turned, stand_since, may_ask, last_pulse, is_apart, standing_at, may_cross, crosses_well, asks_in_turn, answers_in_turn, target_shakes_well, initiator_shakes_well, asks_by_pulse, answers_by_pulse, target_pulses_well, initiator_pulses_well, target_moves_well, initiator_moves_well, turns_well, target_passes, initiator_passes, passes_in, passes_of, is_move, passes, duty_in_data};
 
 use crate::connected::{has_no_initiator_line, has_no_target_line, raises_data};
 use crate::course::Course;
@@ -60,17 +60,8 @@ pub fn crosses_in(change: &Change) -> bool
     }
 }
 
-fn keeps_side(connection: &Connection, dev: Dev, lines: Lines) -> bool
-    ensures { result ≡ keeps_side connection.now dev lines }
-{
-    if dev == connection.target.get() {
-        has_no_initiator_line(lines)
-    } else {
-        dev == connection.initiator.get() && has_no_target_line(lines)
-    }
-}
-
 // Whether REQ may rise: the phase has settled, no MESSAGE OUT is owed, and the initiator drives no BSY.
+#[inline(always)]
 fn has_settled(connection: &Connection, view: &LineView, course: &Course, time: Ns) -> bool
     ensures { (rows : List Row) → IsViewOf rows view.now
         → result ≡ has_settled connection.now (standing_at (drives rows) view.now course.now) time }
@@ -88,19 +79,23 @@ fn is_in_turn(is_target: bool, change: &Change) -> bool
 }
 
 // Whether the end whose turn it is drives data lines alone, and waited for the other.
+#[inline(always)]
 fn has_turned(view: &LineView, course: &Course, is_target: bool, change: &Change, time: Ns) -> bool
     ensures { (rows : List Row) → IsViewOf rows view.now
         → result ≡ has_turned (standing_at (drives rows) view.now course.now) is_target change.now time }
 {
-    let age = time.saturating_sub(view.times().io);
     if change.before.io() {
-        (age <= DATA_RELEASE_DELAY || !initiator_data(view, course.connection))
-            && (!(course.turned && is_target && drives_data(change.next)) || age >= TURN_DELAY)
+        (!initiator_data(view, course.connection)
+            || time.saturating_sub(view.times().io) <= DATA_RELEASE_DELAY)
+            && (!(course.turned && is_target && drives_data(change.next))
+                || time.saturating_sub(view.times().io) >= TURN_DELAY)
     } else {
-        age <= DESKEW_DELAY || !target_data(view, course.connection)
+        !target_data(view, course.connection)
+            || time.saturating_sub(view.times().io) <= DESKEW_DELAY
     }
 }
 
+#[inline(always)]
 fn turns_well(view: &LineView, course: &Course, is_target: bool, change: &Change, time: Ns) -> bool
     ensures { (rows : List Row) → IsViewOf rows view.now
         → result ≡ turns_well (standing_at (drives rows) view.now course.now) is_target change.now time }
@@ -142,6 +137,7 @@ fn is_apart(times: TransferTimes, since: Ns, last: Option<Ns>, time: Ns) -> bool
         && (last.is_none() || time.saturating_sub(since) >= times.negation)
 }
 
+#[inline(always)]
 fn may_cross(view: &LineView, course: &Course, change: &Change) -> bool
     ensures { (rows : List Row) → IsViewOf rows view.now
         → result ≡ may_cross (standing_at (drives rows) view.now course.now) change.now }
@@ -154,6 +150,7 @@ fn may_cross(view: &LineView, course: &Course, change: &Change) -> bool
 }
 
 // Whether a byte may cross in the row, in which the data lines have stood for this time.
+#[inline(always)]
 fn crosses_well(view: &LineView, course: &Course, change: &Change, set_up: Ns, time: Ns) -> bool
     requires { 0 < set_up }
     ensures { (rows : List Row) → IsViewOf rows view.now
@@ -164,6 +161,7 @@ fn crosses_well(view: &LineView, course: &Course, change: &Change, set_up: Ns, t
 }
 
 // Whether REQ rises in its turn, where bytes cross asynchronously.
+#[inline(always)]
 fn asks_in_turn(
     connection: &Connection,
     view: &LineView,
@@ -180,6 +178,7 @@ fn asks_in_turn(
 }
 
 // Whether ACK does.
+#[inline(always)]
 fn answers_in_turn(view: &LineView, course: &Course, change: &Change, time: Ns) -> bool
     ensures { (rows : List Row) → IsViewOf rows view.now
         → result ≡ answers_in_turn (standing_at (drives rows) view.now course.now) change.now time }
@@ -188,8 +187,9 @@ fn answers_in_turn(view: &LineView, course: &Course, change: &Change, time: Ns) 
         && (change.before.io() || crosses_well(view, course, change, SET_UP_TIME, time))
 }
 
-// Whether what moves does so in its turn, where bytes cross asynchronously.
-fn shakes_well(
+// Whether what the target moves does so in its turn, where bytes cross asynchronously: REQ and data lines.
+#[inline(always)]
+fn target_shakes_well(
     connection: &Connection,
     view: &LineView,
     course: &Course,
@@ -197,18 +197,28 @@ fn shakes_well(
     time: Ns,
 ) -> bool
     ensures { (rows : List Row) → IsViewOf rows view.now
-        → result ≡ shakes_well connection.now (standing_at (drives rows) view.now course.now) change.now time }
+        → result ≡ target_shakes_well connection.now (standing_at (drives rows) view.now course.now) change.now time }
 {
     let (req, next_req) = (change.before.req(), change.after.req());
-    let (ack, next_ack) = (change.before.ack(), change.after.ack());
     (!rises(req, next_req) || asks_in_turn(connection, view, course, change, time))
-        && (!falls(req, next_req) || ack)
-        && (!rises(ack, next_ack) || answers_in_turn(view, course, change, time))
-        && (!falls(ack, next_ack) || !req)
+        && (!falls(req, next_req) || change.before.ack())
+        && (!changes_data(change) || !holds_still(change.before))
+}
+
+// Whether what the initiator moves does: ACK and data lines.
+#[inline(always)]
+fn initiator_shakes_well(view: &LineView, course: &Course, change: &Change, time: Ns) -> bool
+    ensures { (rows : List Row) → IsViewOf rows view.now
+        → result ≡ initiator_shakes_well (standing_at (drives rows) view.now course.now) change.now time }
+{
+    let (ack, next_ack) = (change.before.ack(), change.after.ack());
+    (!rises(ack, next_ack) || answers_in_turn(view, course, change, time))
+        && (!falls(ack, next_ack) || !change.before.req())
         && (!changes_data(change) || !holds_still(change.before))
 }
 
 // Whether a pulse of REQ begins in its turn.
+#[inline(always)]
 fn asks_by_pulse(
     connection: &Connection,
     view: &LineView,
@@ -230,6 +240,7 @@ fn asks_by_pulse(
 }
 
 // Whether a pulse of ACK does.
+#[inline(always)]
 fn answers_by_pulse(
     view: &LineView,
     course: &Course,
@@ -246,8 +257,9 @@ fn answers_by_pulse(
         && (change.before.io() || crosses_well(view, course, change, times.set_up, time))
 }
 
-// Whether what moves does so in its turn, where bytes cross by pulses of these times.
-fn pulses_in_turn(
+// Whether what the target moves does so in its turn, where bytes cross by pulses of these times.
+#[inline(always)]
+fn target_pulses_well(
     connection: &Connection,
     view: &LineView,
     course: &Course,
@@ -258,20 +270,37 @@ fn pulses_in_turn(
     requires times { AreTimes times }
     requires pulsed { 0 < course.now.dialogue.heard.now.agreement.offset }
     ensures { (rows : List Row) → IsViewOf rows view.now
-        → result ≡ pulses_in_turn connection.now (standing_at (drives rows) view.now course.now) change.now times
+        → result ≡ target_pulses_well connection.now (standing_at (drives rows) view.now course.now) change.now times
         time }
 {
     let (req, next_req) = (change.before.req(), change.after.req());
-    let (ack, next_ack) = (change.before.ack(), change.after.ack());
     (!rises(req, next_req) || asks_by_pulse(connection, view, course, change, times, time))
         && (!falls(req, next_req) || time.saturating_sub(view.times().req) >= times.assertion)
-        && (!rises(ack, next_ack) || answers_by_pulse(view, course, change, times, time))
+        && (!changes_data(change) || is_after(last_pulse(&course.pulses, change), times.hold, time))
+}
+
+// Whether what the initiator moves does.
+#[inline(always)]
+fn initiator_pulses_well(
+    view: &LineView,
+    course: &Course,
+    change: &Change,
+    times: TransferTimes,
+    time: Ns,
+) -> bool
+    requires { AreTimes times }
+    ensures { (rows : List Row) → IsViewOf rows view.now
+        → result ≡ initiator_pulses_well (standing_at (drives rows) view.now course.now) change.now times time }
+{
+    let (ack, next_ack) = (change.before.ack(), change.after.ack());
+    (!rises(ack, next_ack) || answers_by_pulse(view, course, change, times, time))
         && (!falls(ack, next_ack) || time.saturating_sub(view.times().ack) >= times.assertion)
         && (!changes_data(change) || is_after(last_pulse(&course.pulses, change), times.hold, time))
 }
 
-// Whether what moves does so in its turn.
-fn moves_well(
+// Whether what the target moves does so in its turn.
+#[inline(always)]
+fn target_moves_well(
     connection: &Connection,
     view: &LineView,
     course: &Course,
@@ -279,17 +308,63 @@ fn moves_well(
     time: Ns,
 ) -> bool
     ensures { (rows : List Row) → IsViewOf rows view.now
-        → result ≡ moves_well connection.now (standing_at (drives rows) view.now course.now) change.now time }
+        → result ≡ target_moves_well connection.now (standing_at (drives rows) view.now course.now) change.now time }
 {
     let agreement = course.dialogue.heard.now.agreement;
     if is_data(change.before) && agreement.offset != 0 {
         let times = times_of(agreement.period);
-        pulses_in_turn(connection, view, course, change, times, time)
+        target_pulses_well(connection, view, course, change, times, time)
     } else {
-        shakes_well(connection, view, course, change, time)
+        target_shakes_well(connection, view, course, change, time)
     }
 }
 
+// Whether what the initiator moves does.
+#[inline(always)]
+fn initiator_moves_well(view: &LineView, course: &Course, change: &Change, time: Ns) -> bool
+    ensures { (rows : List Row) → IsViewOf rows view.now
+        → result ≡ initiator_moves_well (standing_at (drives rows) view.now course.now) change.now time }
+{
+    let agreement = course.dialogue.heard.now.agreement;
+    if is_data(change.before) && agreement.offset != 0 {
+        let times = times_of(agreement.period);
+        initiator_pulses_well(view, course, change, times, time)
+    } else {
+        initiator_shakes_well(view, course, change, time)
+    }
+}
+
+// Whether a row of the target passes: ACK stays as it is.
+#[inline(always)]
+fn target_passes(
+    connection: &Connection,
+    view: &LineView,
+    course: &Course,
+    change: &Change,
+    time: Ns,
+) -> bool
+    ensures { (rows : List Row) → IsViewOf rows view.now
+        → result ≡ target_passes connection.now (standing_at (drives rows) view.now course.now) change.now time }
+{
+    change.before.ack() == change.after.ack()
+        && has_no_initiator_line(change.next)
+        && turns_well(view, course, true, change, time)
+        && target_moves_well(connection, view, course, change, time)
+}
+
+// Whether a row of the initiator passes: REQ stays as it is.
+#[inline(always)]
+fn initiator_passes(view: &LineView, course: &Course, change: &Change, time: Ns) -> bool
+    ensures { (rows : List Row) → IsViewOf rows view.now
+        → result ≡ initiator_passes (standing_at (drives rows) view.now course.now) change.now time }
+{
+    change.before.req() == change.after.req()
+        && has_no_target_line(change.next)
+        && turns_well(view, course, false, change, time)
+        && initiator_moves_well(view, course, change, time)
+}
+
+#[inline(always)]
 fn passes_in(
     connection: &Connection,
     view: &LineView,
@@ -300,10 +375,11 @@ fn passes_in(
     ensures { (rows : List Row) → IsViewOf rows view.now
         → result ≡ passes_in connection.now (standing_at (drives rows) view.now course.now) change.now row.now }
 {
-    let is_target = row.dev == connection.target.get();
-    keeps_side(connection, row.dev, change.next)
-        && turns_well(view, course, is_target, change, row.time)
-        && moves_well(connection, view, course, change, row.time)
+    if row.dev == connection.target.get() {
+        target_passes(connection, view, course, change, row.time)
+    } else {
+        row.dev == connection.initiator.get() && initiator_passes(view, course, change, row.time)
+    }
 }
 
 fn is_move(change: &Change, row: &Row) -> bool
@@ -312,6 +388,7 @@ fn is_move(change: &Change, row: &Row) -> bool
     !is_fault(row.kind) && !change.own.same(change.next)
 }
 
+#[inline(always)]
 fn passes_of(view: &LineView, course: &Course, change: &Change, row: &Row) -> bool
     ensures { (rows : List Row) → IsViewOf rows view.now
         → result ≡ passes_of (standing_at (drives rows) view.now course.now) change.now row.now course.now.connection }
@@ -323,6 +400,7 @@ fn passes_of(view: &LineView, course: &Course, change: &Change, row: &Row) -> bo
 }
 
 // Whether neither a call nor an arbitration stands.
+#[inline(always)]
 fn is_alone(course: &Course) -> bool
     ensures { result ≡ is_none course.now.call && is_none course.now.arbitration }
 {
@@ -330,6 +408,7 @@ fn is_alone(course: &Course) -> bool
 }
 
 /// Whether a row that changes this passes the short test: it breaks no rule.
+#[inline(always)]
 pub fn passes(view: &LineView, course: &Course, change: &Change, row: &Row) -> bool
     ensures { (rows : List Row) → IsViewOf rows view.now
         → result ≡ passes (standing_at (drives rows) view.now course.now) change.now row.now }

@@ -78,6 +78,7 @@ fn id_since(view: &LineView, call: Option<Call>) -> Ns
 }
 
 // The initiator of the connection, or of a reselection that is not one yet.
+#[inline(always)]
 fn initiator_of(call: Option<Call>, connection: Option<Connection>) -> Option<ScsiId>
     ensures { result ≡ initiator_of call connection }
 {
@@ -93,6 +94,7 @@ fn initiator_of(call: Option<Call>, connection: Option<Connection>) -> Option<Sc
 }
 
 /// Whether the initiator drives BSY.
+#[inline(always)]
 pub fn initiator_bsy(view: &LineView, call: Option<Call>, connection: Option<Connection>) -> bool
     ensures { (rows : List Row) → IsViewOf rows view.now
         → result ≡ drives_bsy (drives rows) (initiator_of call connection) }
@@ -104,6 +106,7 @@ pub fn initiator_bsy(view: &LineView, call: Option<Call>, connection: Option<Con
 }
 
 /// Whether the initiator of the connection drives data lines.
+#[inline(always)]
 pub fn initiator_data(view: &LineView, connection: Option<Connection>) -> bool
     ensures { (rows : List Row) → IsViewOf rows view.now → result ≡ initiator_data (drives rows) connection }
 {
@@ -114,6 +117,7 @@ pub fn initiator_data(view: &LineView, connection: Option<Connection>) -> bool
 }
 
 /// Whether the target of the connection drives data lines.
+#[inline(always)]
 pub fn target_data(view: &LineView, connection: Option<Connection>) -> bool
     ensures { (rows : List Row) → IsViewOf rows view.now → result ≡ target_data (drives rows) connection }
 {
@@ -166,21 +170,11 @@ impl Terms {
     {
         let held = is_attention_held(change, self.view.times().atn, row.time);
         self.course.transfer(held, change, row.time);
-        self.view.step_to(row, change.after);
-    }
-
-    // One row more, rule by rule.
-    #[inline(never)]
-    fn judge_by_rules(&mut self, row: &Row) -> Option<RuleNo>
-        requires { row.now.dev < 8 }
-        ensures kept { (rows : List Row) → IsTermsOf rows self.old → IsTermsOf (row.now ∷ rows) self.new }
-        ensures broken { (rows : List Row) → IsTermsOf rows self.old → result ≡ broken_rule rows row.now }
-    {
-        let seen = self.step(row);
-        lowest_broken(&seen, row)
+        self.view.transfer(row, change.next, change.after);
     }
 
     /// One row more: the lowest rule that it breaks. Its time may be any, also before that of the last row.
+    #[inline(always)]
     pub fn judge(&mut self, row: &Row) -> Option<RuleNo>
         requires { row.now.dev < 8 }
         ensures kept { (rows : List Row) → IsTermsOf rows self.old → IsTermsOf (row.now ∷ rows) self.new }
@@ -199,6 +193,17 @@ impl Terms {
             return None;
         }
         self.judge_by_rules(row)
+    }
+
+    /// The same with no short test before it.
+    #[inline(never)]
+    pub fn judge_by_rules(&mut self, row: &Row) -> Option<RuleNo>
+        requires { row.now.dev < 8 }
+        ensures kept { (rows : List Row) → IsTermsOf rows self.old → IsTermsOf (row.now ∷ rows) self.new }
+        ensures broken { (rows : List Row) → IsTermsOf rows self.old → result ≡ broken_rule rows row.now }
+    {
+        let seen = self.step(row);
+        lowest_broken(&seen, row)
     }
 
     /// One row more: what it meets. Its time may be any, also before that of the last row.

@@ -4,6 +4,7 @@ ghost use Rattle.std.specs.List.{position};
 ghost use Rattle.bus_trace.specs.declared.Row.{Row};
 ghost use Rattle.bus_rules.specs.Rules.{judged, judged_whole};
 ghost use Rattle.trace_checker.specs.Judging.{IsJudgeOf};
+ghost use Rattle.trace_checker.specs.Saved.{judge_in};
 ghost use Rattle.scsibus_c.specs.Rows.{is_off, rows_after, told, answer, off_at};
 ghost use Rattle.scsibus_c.specs.States.{IsStateOf, IsForeign, taken, foreign};
 ghost use Rattle.scsibus_c.specs.declared.judge.TheConstants.{SIZE, VERSION};
@@ -27,6 +28,10 @@ pub struct ScsibusJudge {
 
 /// How many bytes a judge has.
 const SIZE: usize = size_of::<ScsibusJudge>();
+
+// So many rows of a call at most are taken in the words of the judge. For more it is worth to read the words into its
+// own form and to write them back.
+const FEW: usize = 6;
 
 /// The version of what C sees of this library.
 const VERSION: u64 = 1;
@@ -57,6 +62,42 @@ fn take(judge: &mut Judge, rows: &[ScsibusRow])
 {
     for row in rows {
         let _ = judge.feed(&row_of(row));
+    }
+}
+
+// A judge in words takes these rows there.
+fn take_few(judge: &mut SavedJudge, rows: &[ScsibusRow])
+    requires { position is_off rows.now ≡ None }
+    ensures { (past : List Row) → IsJudgeOf past (judge_in judge.old) → length past + length rows.now < 2 ^ 63
+        → IsJudgeOf (rows_after past rows.now) (judge_in judge.new) }
+{
+    for row in rows {
+        judge.feed(&row_of(row));
+    }
+}
+
+// The same in the judge's own form.
+#[inline(never)]
+fn take_many(judge: &mut SavedJudge, rows: &[ScsibusRow])
+    requires { position is_off rows.now ≡ None }
+    ensures { (past : List Row) → IsJudgeOf past (judge_in judge.old) → length past + length rows.now < 2 ^ 63
+        → IsJudgeOf (rows_after past rows.now) (judge_in judge.new) }
+{
+    let mut own = Judge::restored(judge);
+    take(&mut own, rows);
+    *judge = own.saved();
+}
+
+// A judge in words takes these rows.
+fn take_in_words(judge: &mut SavedJudge, rows: &[ScsibusRow])
+    requires { position is_off rows.now ≡ None }
+    ensures { (past : List Row) → IsJudgeOf past (judge_in judge.old) → length past + length rows.now < 2 ^ 63
+        → IsJudgeOf (rows_after past rows.now) (judge_in judge.new) }
+{
+    if rows.len() <= FEW {
+        take_few(judge, rows);
+    } else {
+        take_many(judge, rows);
     }
 }
 
@@ -113,10 +154,8 @@ pub extern "C" fn scsibus_judge_feed(
     match first_off(rows) {
         Some(at) => *verdict = off_at(at),
         None => {
-            let mut judge = Judge::restored(&state.judge);
-            take(&mut judge, rows);
-            *verdict = told(judge.verdict());
-            state.judge = judge.saved();
+            take_in_words(&mut state.judge, rows);
+            *verdict = told(state.judge.verdict());
         }
     }
 }

@@ -6,7 +6,7 @@
 //! trace with its end; both are what `judge_plain` of `bus_rules` tells of all rows at once.
 #![tactic(auto)]
 
-ghost use Rattle.std.specs.Prelude.{◌≡◌, ◌<◌, ◌∷◌, ◌^◌, [], List, length};
+ghost use Rattle.std.specs.Prelude.{true, false, ◌≡◌, ◌<◌, ◌∷◌, ◌^◌, [], List, length};
 ghost use Rattle.bus_trace.specs.declared.Row.{Row};
 ghost use Rattle.bus_rules.specs.Rules.{judged, judged_whole, verdict_of, if_lawful};
 
@@ -165,6 +165,17 @@ impl Judge {
         self.verdict
     }
 
+    // Takes one row more, rule by rule.
+    fn feed_by_rules(&mut self, row: &Row)
+        requires { row.now.dev < 8 }
+        ensures { (rows : List Row) → IsJudgeOf rows self.old → length rows < 2 ^ 63
+            → IsJudgeOf (row.now ∷ rows) self.new }
+    {
+        let broken = self.terms.judge_by_rules(row);
+        self.count = self.count.saturating_add(1);
+        self.verdict = joined(self.verdict, broken, self.count);
+    }
+
     /// The verdict on the whole trace with its end, in ns, which counts as one row more.
     pub fn finish(self, end: Ns) -> Verdict
         ensures { (rows : List Row) → IsJudgeOf rows self → length rows < 2 ^ 63 → result ≡ judged_whole rows end }
@@ -177,5 +188,55 @@ impl Judge {
             lowest_at_end(&seen, end),
             self.count.saturating_add(1),
         )
+    }
+}
+
+impl SavedJudge {
+    ghost use Rattle.trace_checker.specs.Judging.{IsJudgeOf};
+    ghost use Rattle.trace_checker.specs.Saved.{judge_in};
+
+    /// The verdict on the rows so far.
+    pub fn verdict(&self) -> Verdict
+        ensures { (rows : List Row) → IsJudgeOf rows (judge_in self.now) → result ≡ judged rows }
+    {
+        self.verdict.get()
+    }
+
+    // Takes a row that a short test tells to break no rule: whether it is one. Else nothing changes.
+    #[inline(always)]
+    fn takes(&mut self, row: &Row) -> bool
+        requires { row.now.dev < 8 }
+        ensures kept { (rows : List Row) → IsJudgeOf rows (judge_in self.old) → length rows < 2 ^ 63
+            → result ≡ true → IsJudgeOf (row.now ∷ rows) (judge_in self.new) }
+        ensures left { result ≡ false → self.new ≡ self.old }
+    {
+        if self.terms.takes(row) {
+            self.count = self.count.saturating_add(1);
+            return true;
+        }
+        false
+    }
+
+    // Takes a row in the judge's own form, rule by rule.
+    #[inline(never)]
+    fn feed_by_rules(&mut self, row: &Row)
+        requires { row.now.dev < 8 }
+        ensures { (rows : List Row) → IsJudgeOf rows (judge_in self.old) → length rows < 2 ^ 63
+            → IsJudgeOf (row.now ∷ rows) (judge_in self.new) }
+    {
+        let mut judge = Judge::restored(self);
+        judge.feed_by_rules(row);
+        *self = judge.saved();
+    }
+
+    /// Takes one row more. Most rows change few words, and need no other form of the judge.
+    pub fn feed(&mut self, row: &Row)
+        requires { row.now.dev < 8 }
+        ensures { (rows : List Row) → IsJudgeOf rows (judge_in self.old) → length rows < 2 ^ 63
+            → IsJudgeOf (row.now ∷ rows) (judge_in self.new) }
+    {
+        if !self.takes(row) {
+            self.feed_by_rules(row);
+        }
     }
 }
