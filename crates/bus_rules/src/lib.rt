@@ -30,6 +30,8 @@ mod verdict;
 
 pub use bus_base::{Dev, Ns};
 pub use bus_trace::{Arbitration, Call, Calling, Change, Connection, Kind, Lines, Row};
+pub use course::Course;
+pub use data_rows::{crosses_in, duty_in_data, passes};
 pub use judge::{broken, broken_end, end_row, judge_plain};
 pub use laws::{broken_rules_are_lowest, verdicts_are_first};
 pub use order::is_of_device;

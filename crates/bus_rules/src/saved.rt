@@ -1,23 +1,17 @@
 //! The terms of the rules as plain words, which can be copied, written to a file and read back.
 //!
 //! Any words say some terms: what is out of range is cut to its range. What is saved and read back is the same.
-ghost use Rattle.std.specs.Prelude.{ℕ, true, false, ◌≡◌, ◌<◌, ◌∷◌, List, None};
+ghost use Rattle.std.specs.Prelude.{ℕ, ◌≡◌};
 ghost use Rattle.bus_trace.specs.LineSet.{LineSet};
 ghost use Rattle.bus_trace.specs.View.{View};
-ghost use Rattle.bus_trace.specs.declared.Row.{Row};
-ghost use Rattle.bus_rules.specs.Rules.{broken_rule};
 ghost use Rattle.bus_rules.specs.Saved.{course_in};
-ghost use Rattle.bus_rules.specs.DataRows.{standing_at, course_after_transfer};
+ghost use Rattle.bus_rules.specs.DataRows.{standing_at};
 
 use crate::course::Course;
-use crate::data_rows::{crosses_in, duty_in_data, passes};
-use bus_base::Ns;
-use bus_phases::{
-    Agreements, Raises, SavedDialogue, SavedPulses, duty_in, duty_word, is_attention_held,
-};
+use bus_phases::{Agreements, Raises, SavedDialogue, SavedPulses, duty_in, duty_word};
 use bus_trace::{
-    Change, LineView, Row, SavedArbitration, SavedCall, SavedConnection, SavedView, id_or_none_in,
-    id_or_none_word, is_yes, receiver_of, word_of,
+    SavedArbitration, SavedCall, SavedConnection, SavedView, id_or_none_in, id_or_none_word,
+    is_yes, word_of,
 };
 
 /// What stands on the bus after some rows.
@@ -89,9 +83,9 @@ impl SavedCourse {
         }
     }
 
-    // What was saved of what the short test asks for, and for the rest what stands before any row.
+    /// What was saved of what the short test asks for, and for the rest what stands before any row.
     #[inline(always)]
-    fn asked(&self) -> Course
+    pub fn asked(&self) -> Course
         ensures { (f : ℕ → LineSet) (v : View) → standing_at f v result ≡ standing_at f v (course_in self.now) }
     {
         let mut course = Course::new();
@@ -105,21 +99,6 @@ impl SavedCourse {
         course.dialogue.begun = is_yes(self.dialogue.begun);
         course
     }
-
-    // One row more that passes the short test. `held` says whether ATN is held over it.
-    #[inline(always)]
-    fn transfer(&mut self, held: bool, change: &Change, time: Ns)
-        ensures { course_in self.new ≡ course_after_transfer (course_in self.old) held change.now time }
-    {
-        self.receiver = id_or_none_word(receiver_of(&self.connection.get(), change));
-        let mut pulses = self.pulses.get();
-        pulses.count(change, time);
-        self.pulses = SavedPulses::of(pulses);
-        self.duty = duty_word(duty_in_data(duty_in(self.duty), change, held));
-        if crosses_in(change) {
-            self.dialogue.begun = word_of(true);
-        }
-    }
 }
 
 /// The terms of the rules after some rows.
@@ -130,39 +109,4 @@ pub struct SavedTerms {
     pub view: SavedView,
     /// What stands on the bus.
     pub course: SavedCourse,
-}
-
-impl SavedTerms {
-    ghost use Rattle.bus_rules.specs.Judging.{IsTermsOf};
-    ghost use Rattle.bus_rules.specs.Saved.{terms_in};
-
-    /// Takes a row that a short test tells to break no rule: whether it is one. Else nothing changes.
-    #[inline(always)]
-    pub fn takes(&mut self, row: &Row) -> bool
-        requires { row.now.dev < 8 }
-        ensures kept { (rows : List Row) → IsTermsOf rows (terms_in self.old) → result ≡ true
-            → IsTermsOf (row.now ∷ rows) (terms_in self.new) }
-        ensures lawful { (rows : List Row) → IsTermsOf rows (terms_in self.old) → result ≡ true
-            → broken_rule rows row.now ≡ None }
-        ensures left { result ≡ false → self.new ≡ self.old }
-    {
-        let mut view = LineView::restored(&self.view);
-        let course = self.course.asked();
-        let own = view.drives(row.dev);
-        let next = row.kind.driven_after(own);
-        let change = Change {
-            before: view.bus(),
-            after: view.bus_with(row.dev, next),
-            own,
-            next,
-        };
-        if passes(&view, &course, &change, row) {
-            let held = is_attention_held(&change, view.times().atn, row.time);
-            view.transfer(row, next, change.after);
-            self.view = view.saved();
-            self.course.transfer(held, &change, row.time);
-            return true;
-        }
-        false
-    }
 }

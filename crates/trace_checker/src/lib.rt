@@ -6,15 +6,17 @@
 //! trace with its end; both are what `judge_plain` of `bus_rules` tells of all rows at once.
 #![tactic(auto)]
 
-ghost use Rattle.std.specs.Prelude.{true, false, ◌≡◌, ◌<◌, ◌∷◌, ◌^◌, [], List, length};
+ghost use Rattle.std.specs.Prelude.{◌≡◌, ◌<◌, ◌∷◌, ◌^◌, [], List, length};
 ghost use Rattle.bus_trace.specs.declared.Row.{Row};
 ghost use Rattle.bus_rules.specs.Rules.{judged, judged_whole, verdict_of, if_lawful};
 
+mod saved;
+
 use bus_base::Ns;
 pub use bus_rules::Verdict;
-use bus_rules::{RuleNo, SavedTerms, Terms, end_row, lowest_at_end};
+use bus_rules::{RuleNo, Terms, end_row, lowest_at_end};
 pub use bus_trace::{Kind, Lines, Row};
-use bus_trace::{byte_in, byte_word};
+pub use saved::{SavedJudge, SavedVerdict};
 
 /// A judge of the rows of a trace so far.
 #[derive(Drop)]
@@ -22,66 +24,6 @@ pub struct Judge {
     terms: Terms,
     count: usize,
     verdict: Verdict,
-}
-
-/// A verdict as plain words.
-#[repr(C)]
-#[derive(Clone, Copy)]
-pub struct SavedVerdict {
-    /// Whether a row broke a rule.
-    pub is_broken: u64,
-    /// The row, counted from 1.
-    pub row: u64,
-    /// The lowest rule that it broke.
-    pub rule: u64,
-}
-
-impl SavedVerdict {
-    ghost use Rattle.trace_checker.specs.Saved.{verdict_in};
-
-    /// Saves a verdict.
-    pub fn of(verdict: Verdict) -> SavedVerdict
-        ensures { verdict_in result ≡ verdict }
-    {
-        match verdict {
-            Verdict::Lawful => SavedVerdict {
-                is_broken: 0,
-                row: 0,
-                rule: 0,
-            },
-            Verdict::Broken { row, rule } => SavedVerdict {
-                is_broken: 1,
-                row: row as u64,
-                rule: byte_word(rule),
-            },
-        }
-    }
-
-    /// The verdict that was saved.
-    pub fn get(&self) -> Verdict
-        ensures { result ≡ verdict_in self.now }
-    {
-        if self.is_broken == 0 {
-            Verdict::Lawful
-        } else {
-            Verdict::Broken {
-                row: self.row as usize,
-                rule: byte_in(self.rule),
-            }
-        }
-    }
-}
-
-/// A judge as plain words, which can be copied, written to a file and read back. Any words say some judge.
-#[repr(C)]
-#[derive(Clone, Copy)]
-pub struct SavedJudge {
-    /// The terms of the rules.
-    pub terms: SavedTerms,
-    /// How many rows it has seen.
-    pub count: u64,
-    /// Its verdict on them.
-    pub verdict: SavedVerdict,
 }
 
 // A verdict, if none was given before; the row's place is counted from 1.
@@ -188,55 +130,5 @@ impl Judge {
             lowest_at_end(&seen, end),
             self.count.saturating_add(1),
         )
-    }
-}
-
-impl SavedJudge {
-    ghost use Rattle.trace_checker.specs.Judging.{IsJudgeOf};
-    ghost use Rattle.trace_checker.specs.Saved.{judge_in};
-
-    /// The verdict on the rows so far.
-    pub fn verdict(&self) -> Verdict
-        ensures { (rows : List Row) → IsJudgeOf rows (judge_in self.now) → result ≡ judged rows }
-    {
-        self.verdict.get()
-    }
-
-    // Takes a row that a short test tells to break no rule: whether it is one. Else nothing changes.
-    #[inline(always)]
-    fn takes(&mut self, row: &Row) -> bool
-        requires { row.now.dev < 8 }
-        ensures kept { (rows : List Row) → IsJudgeOf rows (judge_in self.old) → length rows < 2 ^ 63
-            → result ≡ true → IsJudgeOf (row.now ∷ rows) (judge_in self.new) }
-        ensures left { result ≡ false → self.new ≡ self.old }
-    {
-        if self.terms.takes(row) {
-            self.count = self.count.saturating_add(1);
-            return true;
-        }
-        false
-    }
-
-    // Takes a row in the judge's own form, rule by rule.
-    #[inline(never)]
-    fn feed_by_rules(&mut self, row: &Row)
-        requires { row.now.dev < 8 }
-        ensures { (rows : List Row) → IsJudgeOf rows (judge_in self.old) → length rows < 2 ^ 63
-            → IsJudgeOf (row.now ∷ rows) (judge_in self.new) }
-    {
-        let mut judge = Judge::restored(self);
-        judge.feed_by_rules(row);
-        *self = judge.saved();
-    }
-
-    /// Takes one row more. Most rows change few words, and need no other form of the judge.
-    pub fn feed(&mut self, row: &Row)
-        requires { row.now.dev < 8 }
-        ensures { (rows : List Row) → IsJudgeOf rows (judge_in self.old) → length rows < 2 ^ 63
-            → IsJudgeOf (row.now ∷ rows) (judge_in self.new) }
-    {
-        if !self.takes(row) {
-            self.feed_by_rules(row);
-        }
     }
 }

@@ -3,7 +3,7 @@ use Rattle.std.proofs.lemmas.Grind.{common_steps}
 use Rattle.bus_rules.specs.declared.verdict.Verdict.{Verdict}
 use Rattle.bus_rules.specs.declared.verdict.Verdict.TheVariants.{Lawful, Broken}
 use Rattle.bus_rules.specs.Rules.{judged, verdict_of, if_lawful}
-use Rattle.trace_checker.proofs.SavedJudge.takes.Goals as goal
+use Rattle.trace_checker.proofs.saved.SavedJudge.takes.Goals as goal
 
 -- a row that breaks no rule leaves the verdict
 stays : (v : Verdict) → if_lawful v Lawful ≡ v

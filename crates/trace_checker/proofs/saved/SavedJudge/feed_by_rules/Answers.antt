@@ -1,7 +1,7 @@
 use Rattle.std.proofs.Common.{◌∷◌, sym, subst}
 use Rattle.trace_checker.specs.Judging.{IsJudgeOf}
 use Rattle.trace_checker.specs.declared.Judge.{Judge}
-use Rattle.trace_checker.proofs.SavedJudge.feed_by_rules.Goals as goal
+use Rattle.trace_checker.proofs.saved.SavedJudge.feed_by_rules.Goals as goal
 
 pub returns : goal.returns
 returns c = λ rows is few.

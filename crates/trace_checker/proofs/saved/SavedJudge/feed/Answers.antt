@@ -1,8 +1,8 @@
 use Rattle.std.proofs.Common.{refl, sym, subst}
 use Rattle.trace_checker.specs.Judging.{IsJudgeOf}
 use Rattle.trace_checker.specs.Saved.{judge_in}
-use Rattle.trace_checker.specs.declared.SavedJudge.{SavedJudge}
-use Rattle.trace_checker.proofs.SavedJudge.feed.Goals as goal
+use Rattle.trace_checker.specs.declared.saved.SavedJudge.{SavedJudge}
+use Rattle.trace_checker.proofs.saved.SavedJudge.feed.Goals as goal
 
 pub returns-then-not-takes : goal.returns-then-not-takes
 returns-then-not-takes c = λ rows is few.
