@@ -7,8 +7,8 @@ pub use std_proofs.{Common.{◌+◌, ◌<◌, ◌||◌, ◌∙◌, ◌∷◌, �
 pub use std_proofs.lemmas.Bool.{eqb-true, ltb-true, not-false, not-true, or_left, or_parts, or_right}
 pub use std_proofs.lemmas.{Bool.Decides.{nat_tests}, Option.{same_Some}}
 use Rattle.std.specs as std
-pub use std.{List.{list_any}, Prelude.{Err, Ok, Result, if◌then◌else◌, is_none, is_some, nat_le, nat_lt, slice_index}}
-pub use std.Prelude.{slice_index_or, slice_set, ⊤, ◌%◌, ◌-◌, ◌==◌}
+pub use std.{List.{list_any}, Prelude.{if◌then◌else◌, is_none, is_some, nat_le, nat_lt, slice_index, slice_index_or}}
+pub use std.Prelude.{slice_set, ⊤, ◌%◌, ◌-◌, ◌==◌}
 use Rattle.bus_due.specs.bus_base.proofs as bus_base_proofs
 pub use bus_base_proofs.Tests.{all_three, and_false, and_first, and_second, eq_self, eq_turned, implied, middle, nil_of}
 pub use bus_base_proofs.Tests.{none_number, or_none_first, or_second, or_true, plus_none, rises_none, rises_some}
@@ -29,8 +29,7 @@ use Rattle.bus_due.specs.bus_lines.specs as bus_lines
 pub use bus_lines.Handshakes.{Handshakes, answered_if, asked_if, handshakes_after, handshakes_on, no_handshakes}
 use Rattle.bus_due.specs.cdb_codec.specs as cdb_codec
 pub use cdb_codec.{Cdb.{command_of, group_len, has_group_len, is_len}, declared.Sense.{Sense}}
-pub use cdb_codec.declared.{command.{CdbFault.{CdbFault}, Command.{Command}}, sense.TheConstants.{ABORTED_COMMAND}}
-pub use cdb_codec.declared.sense.TheConstants.{INITIATOR_DETECTED_ERROR, PARITY_ERROR}
+pub use cdb_codec.declared.sense.TheConstants.{ABORTED_COMMAND, INITIATOR_DETECTED_ERROR, PARITY_ERROR}
 pub use cdb_codec.declared.status.TheConstants.{CHECK_CONDITION, GOOD, QUEUE_FULL}
 use Rattle.bus_due.specs.msg_grammar.specs as msg_grammar
 pub use msg_grammar.{Messages.{FitsIn, FitsOut, got_in, got_out, in_bytes, out_bytes}, declared.message.MsgIn.{MsgIn}}
@@ -50,20 +49,19 @@ pub use scenario.{Value.{ScenarioValue}, declared.value.{AbortDef.{AbortDef}, Cm
 pub use scenario.declared.value.{Policy.{Policy}, Tag.{Tag}, TargetDef.{TargetDef}, UnitDef.{UnitDef}}
 unfoldable pub use scenario.Needs.{need_of, sent_of}
 use Rattle.bus_due.specs.disk_array.proofs as disk_array_proofs
-pub use disk_array_proofs.{SeatLookups.{same_bool_is, same_id_is, same_nexus_is}, SeatOwn.{guest_process}}
-pub use disk_array_proofs.{SeatReplies.{id_self}, SoundArrays.{current_process, history_sound, id_is}}
+pub use disk_array_proofs.{ExecutionFacts.{not_aborted, status_known}, SeatLookups.{same_bool_is, same_id_is}}
+pub use disk_array_proofs.{SeatLookups.{same_nexus_is}, SeatOwn.{guest_process}, SeatReplies.{id_self}}
+pub use disk_array_proofs.SoundArrays.{current_process, history_sound, id_is}
 use Rattle.bus_due.specs.disk_array.specs as disk_array
 pub use disk_array.{ArrayHistory.{array_after, array_step, reply_in}, Contents.{Contents}, Execution.{CommandContext}}
-pub use disk_array.Execution.{Execution, Reply, aborted_reply, attention_execution, cdb_execution, check_condition}
-pub use disk_array.Execution.{command_execution, commands_cleared, execution, heeds_attention, is_good_range}
-pub use disk_array.Execution.{is_request_sense, needs_unit, queue_full, range_execution, range_of, reset_occurred}
-pub use disk_array.{Execution.{sense_of}, Order.{choice}, Processes.{Process, command_at, process_by, process_if}}
-pub use disk_array.{Processes.{process_of, same_bool, same_id}, Seats.{current_of, is_initiator}}
-pub use disk_array.{SoundArray.{AllOwnUnits, HasSeats, IsOwnRunning, IsOwnUnit, IsSound}, Steps.{event_step}}
-pub use disk_array.{Steps.{process_count, refuse_step, refuse_step_at}, Units.{Array, Nexus, RunningProcess, UnitState}}
-pub use disk_array.Units.{guest_at, has_no_current, is_held, nexus_of, nexuses_without, same_nexus, sense_of_nexus}
-pub use disk_array.Units.{senses_without, settled_array, starting_array, starting_units, unit_state_at}
-pub use disk_array.Units.{units_after_choice, with_current, with_unit, without_guest}
+pub use disk_array.Execution.{Execution, Reply, aborted_reply, check_condition, commands_cleared, execution}
+pub use disk_array.{Execution.{is_request_sense, queue_full, sense_of}, Order.{choice}, Processes.{Process, command_at}}
+pub use disk_array.{Processes.{process_by, process_if, process_of, same_bool, same_id}, Seats.{current_of}}
+pub use disk_array.{Seats.{is_initiator}, SoundArray.{AllOwnUnits, HasSeats, IsOwnRunning, IsOwnUnit, IsSound}}
+pub use disk_array.{Steps.{event_step, process_count, refuse_step, refuse_step_at}, Units.{Array, Nexus}}
+pub use disk_array.Units.{RunningProcess, UnitState, guest_at, has_no_current, is_held, nexus_of, nexuses_without}
+pub use disk_array.Units.{same_nexus, sense_of_nexus, senses_without, settled_array, starting_array, starting_units}
+pub use disk_array.Units.{unit_state_at, units_after_choice, with_current, with_unit, without_guest}
 use Rattle.bus_due.specs.bus_story.proofs as bus_story_proofs
 pub use bus_story_proofs.{CarriedLists.{carried_id, carried_with}, StorySteps.{begun_aims, byte_link, calling_aims}}
 pub use bus_story_proofs.StorySteps.{carried_link, check_keeps, ends_keep, events_aims, events_link, fault_link}

@@ -1,8 +1,8 @@
 -- What the target of a connection knows of the process that it serves, and of the queue of its unit.
-use Rattle.std.specs.Prelude.{ℕ, Bool, not, ◌&&◌, ◌==◌, List, [], length, Option, Some, None, is_some, nat_lt, if◌then◌else◌}
+use Rattle.std.specs.Prelude.{ℕ, Bool, not, ◌&&◌, ◌==◌, List, [], length, Option, Some, None, is_some, nat_lt}
+use Rattle.std.specs.Prelude.{if◌then◌else◌}
 use Rattle.std.specs.List.{list_any}
 use Rattle.bus_rules.specs.cdb_codec.specs.Cdb.{has_group_len, command_of}
-use Rattle.bus_rules.specs.cdb_codec.specs.declared.status.TheConstants.{GOOD}
 use Rattle.bus_dialogue.specs.scenario.specs.Needs.{is_write}
 use Rattle.bus_dialogue.specs.disk_array.specs.Order.{range_in}
 use Rattle.bus_dialogue.specs.declared.exchange.Task.{Task}
@@ -10,16 +10,18 @@ use Rattle.bus_dialogue.specs.scenario.specs.declared.value.Policy.{Policy}
 use Rattle.bus_dialogue.specs.scenario.specs.Value.{ScenarioValue}
 use Rattle.bus_dialogue.specs.disk_array.specs.Processes.{Process}
 use Rattle.bus_dialogue.specs.disk_array.specs.Execution.{Reply, execution, is_request_sense}
-use Rattle.bus_dialogue.specs.disk_array.specs.Units.{UnitState, Array, Nexus, same_nexus, nexus_of, unit_state_at, has_no_current, is_held}
+use Rattle.bus_dialogue.specs.disk_array.specs.Units.{UnitState, Array, Nexus, same_nexus, nexus_of, unit_state_at, has_no_current}
+use Rattle.bus_dialogue.specs.disk_array.specs.Units.{is_held}
 use Rattle.bus_dialogue.specs.disk_array.specs.Steps.{context_at, process_count}
-use Rattle.bus_dialogue.specs.disk_array.specs.ArrayHistory as Play
 use Rattle.bus_dialogue.specs.bus_story.specs.CarriedBytes.{CarriedBytes}
 use Rattle.bus_dialogue.specs.declared.exchange.Arrival.{Arrival}
-use Rattle.bus_dialogue.specs.declared.exchange.Arrival.TheVariants as arrivals
 use Rattle.bus_dialogue.specs.declared.exchange.Room.{Room}
 use Rattle.bus_dialogue.specs.Arrivals.{arrival_by}
 use Rattle.bus_due.specs.LastingState.{ProcessProgress, progress_in}
 use Rattle.bus_due.specs.RunState.{RunState, array_of, process_served, carried_here}
+use Rattle.bus_dialogue.specs.bus_story.specs.Right.{moved_bytes}
+use Rattle.bus_dialogue.specs.disk_array.specs.ArrayHistory as Play
+use Rattle.bus_dialogue.specs.declared.exchange.Arrival.TheVariants as arrivals
 
 abbrev pub size_of : Option UnitState → ℕ
 size_of None = 0
@@ -32,9 +34,9 @@ reply_now a p = (execution (context_at a (nexus_of p) (unit_state_at a.units p.t
 abbrev pub is_writing : Process → Bool
 is_writing p = is_write (command_of p.cdb)
 
--- How many bytes it moves: none where it ends with CHECK CONDITION.
+-- How many bytes it moves.
 abbrev pub moved_count : Process → Reply → ℕ
-moved_count p reply = if reply.status == GOOD then (if is_writing p then length p.sent else length reply.bytes) else 0
+moved_count p reply = length (moved_bytes p reply)
 
 abbrev pub blocks_in : Option (ℕ × ℕ) → Option ℕ
 blocks_in None = None

@@ -1,19 +1,16 @@
 -- What the plain disk array lists of a process: its status is GOOD, CHECK CONDITION or QUEUE FULL, one that is GOOD was given as the
 -- process ran, that of an automatic REQUEST SENSE has no more bytes than sense data, and the initiator of a command has room for its bytes
 -- (7.3, 7.5, 8.2.14).
-use Rattle.std.proofs.Common.{◌≡◌, Bool, true, false, not, ◌&&◌, ◌||◌, ◌∙◌, List, [], ◌∷◌, Option, Some, None, ℕ, refl, sym, ap, subst, ◌≤◌, length, take, arith}
-use Rattle.std.specs.Prelude.{if◌then◌else◌, ◌==◌, is_none, is_some, ⊤, min}
+use Rattle.std.proofs.Common.{◌≡◌, Bool, true, false, not, ◌&&◌, ◌||◌, ◌∙◌, List, [], ◌∷◌, Option, Some, None, ℕ, refl}
+use Rattle.std.proofs.Common.{sym, ap, subst, ◌≤◌, length, arith}
+use Rattle.std.specs.Prelude.{if◌then◌else◌, ◌==◌, is_none, is_some, ⊤}
 use Rattle.std.proofs.lemmas.Bool.{or_left, or_right}
-use Rattle.std.proofs.lemmas.List.{length-take}
 use Rattle.std.proofs.lemmas.Option.{same_Some}
 use Rattle.bus_base.specs.declared.Event.{Event}
-use Rattle.bus_base.specs.declared.Event.TheVariants as events
 use Rattle.bus_base.specs.declared.ProcId.{ProcId}
 use Rattle.bus_base.proofs.Tests.{wrong'}
 use Rattle.cdb_codec.specs.Cdb.{command_of}
-use Rattle.cdb_codec.specs.Replies.{sense_data}
 use Rattle.cdb_codec.specs.declared.replies.TheConstants.{SENSE_LEN}
-use Rattle.cdb_codec.specs.declared.Sense.{Sense}
 use Rattle.cdb_codec.specs.declared.sense.TheConstants.{ABORTED_COMMAND}
 use Rattle.cdb_codec.specs.declared.status.TheConstants.{GOOD}
 use Rattle.scenario.specs.Lookups.{has_target, unit_of}
@@ -21,9 +18,8 @@ use Rattle.scenario.specs.Value.{ScenarioValue}
 use Rattle.scenario.specs.Writing.{Obeys}
 use Rattle.scenario.specs.declared.value.CmdDef.{CmdDef}
 use Rattle.disk_array.specs.ArrayHistory.{array_after, array_step, reply_in}
-use Rattle.disk_array.specs.Execution.{CommandContext, Reply, attention_execution, check_condition, execution, needs_unit, queue_full, reply_execution, returned_sense, sense_of, unit_not_supported}
+use Rattle.disk_array.specs.Execution.{CommandContext, Reply, check_condition, execution, queue_full, sense_of}
 use Rattle.disk_array.specs.Processes.{Process, command_at, process_of, same_id, sense_block}
-use Rattle.disk_array.specs.Steps as Steps
 use Rattle.disk_array.specs.Units.{Array, RunningProcess, UnitState, guest_at, is_held, nexus_of, unit_state_at}
 use Rattle.disk_array.specs.SoundArray.{IsSound}
 use Rattle.disk_array.proofs.SoundArrays.{history_sound}
@@ -43,24 +39,15 @@ use Rattle.initiator.specs.Received.{data_room}
 use Rattle.delivery_laws.specs.right_laws.proofs.Ran.Lengths.{given_few, most_given, none_few}
 use Rattle.bus_engine.proofs.ReplyRooms.{room_there}
 use Rattle.delivery_laws.proofs.Replies.Senses.{execution_known, is_known}
+use Rattle.disk_array.proofs.ExecutionFacts.{sense_fetched}
+use Rattle.bus_base.specs.declared.Event.TheVariants as events
+use Rattle.disk_array.specs.Steps
 
 -- ---- what a command answers as it runs
 
 -- A REQUEST SENSE gives no more than the sense data (8.2.14).
 sense_few : (m : CommandContext) (sent : List ℕ) → length (execution m sense_block sent).reply.bytes ≤ SENSE_LEN
-sense_few m sent = go m.present m.attention
-  where
-    taken : length (take (min SENSE_LEN SENSE_LEN) (sense_data (returned_sense m.present m.stored))) ≤ SENSE_LEN
-    taken = let long = length-take (min SENSE_LEN SENSE_LEN) (sense_data (returned_sense m.present m.stored)) in omega (arith, long)
-
-    by : (o : Option Sense) → length (attention_execution m o sense_block sent).reply.bytes ≤ SENSE_LEN
-    by None = taken
-    by (Some a) = taken
-
-    go : (q : Bool) (o : Option Sense)
-        → length (if not q && needs_unit sense_block then reply_execution m (check_condition unit_not_supported) else attention_execution m o sense_block sent).reply.bytes ≤ SENSE_LEN
-    go true o = by o
-    go false o = by o
+sense_few m sent = subst (λ (n : ℕ). n ≤ SENSE_LEN) (λ i. length (sym (sense_fetched m sent) i).reply.bytes) (omega arith)
 
 -- ---- of each process
 

@@ -49,7 +49,7 @@ took s c n false r few = go (is_write (Cdb.command_of c.cdb)) (r.status == GOOD)
     none : length r.bytes ≤ 0 → length r.bytes ≡ 0
     none k = omega (arith, k)
 
-    go : (w g : Bool) → length r.bytes ≤ (if w then 0 else most) → take (if w then 0 else most) (if w && g then sent else r.bytes) ≡ r.bytes
+    go : (w g : Bool) → length r.bytes ≤ (if w then 0 else most) → take (if w then 0 else most) (if w then (if g then sent else []) else r.bytes) ≡ r.bytes
     go true g k = sym (nil_of r.bytes (none k))
     go false g k = take_all most r.bytes k
 

@@ -33,9 +33,9 @@ is_run_of id _ = false
 abbrev pub has_run : List Event → ProcId → Bool
 has_run history id = list_any (λ e. is_run_of id e) history
 
--- The bytes that a process moves: those that its initiator sends with a write that ended GOOD, else its reply's.
+-- The bytes that a process moves: a write those that its initiator sends, where it ends GOOD; any other its reply's.
 abbrev pub moved_bytes : Process → Reply → List ℕ
-moved_bytes p reply = if is_write (command_of p.cdb) && reply.status == GOOD then p.sent else reply.bytes
+moved_bytes p reply = if is_write (command_of p.cdb) then (if reply.status == GOOD then p.sent else []) else reply.bytes
 
 abbrev pub are_carried_bytes : CarriedBytes → List ℕ → List ℕ → ℕ → Bool
 are_carried_bytes k block moved status =

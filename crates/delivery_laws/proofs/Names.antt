@@ -27,13 +27,11 @@ unfoldable pub use bus_trace.{LineSet.{line_of}, View.{union_below}}
 use Rattle.bus_due.specs.bus_lines.specs as bus_lines
 pub use bus_lines.Handshakes.{Handshakes}
 use Rattle.bus_due.specs.cdb_codec.specs as cdb_codec
-pub use cdb_codec.Cdb.{are_zero, command_of, fields_of, has_group_len, sized_of, spare_room}
-pub use cdb_codec.{Operations.{operation_of}, declared.{Sense.{Sense}, command.CdbFault.{CdbFault}}}
-pub use cdb_codec.declared.{command.Command.{Command}, operation.{Operation.{Operation}, TheConstants.{INQUIRY}}}
-pub use cdb_codec.declared.operation.TheConstants.{READ_10, READ_6, READ_CAPACITY, REQUEST_SENSE, TEST_UNIT_READY}
-pub use cdb_codec.declared.{operation.TheConstants.{WRITE_10, WRITE_6}, sense.TheConstants.{ABORTED_COMMAND}}
-pub use cdb_codec.declared.{sense.TheConstants.{INITIATOR_DETECTED_ERROR}, status.TheConstants.{CHECK_CONDITION, GOOD}}
-pub use cdb_codec.declared.status.TheConstants.{QUEUE_FULL}
+pub use cdb_codec.{Cdb.{are_zero, command_of, has_group_len, sized_of, spare_room}, Operations.{operation_of}}
+pub use cdb_codec.declared.{Sense.{Sense}, command.{CdbFault.{CdbFault}, Command.{Command}}}
+pub use cdb_codec.declared.operation.{Operation.{Operation}, TheConstants.{INQUIRY, REQUEST_SENSE}}
+pub use cdb_codec.declared.sense.TheConstants.{ABORTED_COMMAND, INITIATOR_DETECTED_ERROR}
+pub use cdb_codec.declared.status.TheConstants.{CHECK_CONDITION, GOOD, QUEUE_FULL}
 use Rattle.bus_due.specs.msg_grammar.specs as msg_grammar
 unfoldable pub use msg_grammar.Messages.{form_in, form_out}
 use Rattle.bus_due.specs.bus_phases.specs as bus_phases
@@ -55,20 +53,22 @@ pub use scenario.declared.value.UnitDef.{UnitDef}
 unfoldable pub use scenario.{Needs.{need_of, sent_of}, Reading.{added, reset_def, said_after}}
 use Rattle.bus_due.specs.disk_array.proofs as disk_array_proofs
 pub use disk_array_proofs.ArrayReplies.{abort_lists, end_lists, fail_lists, loss_lists, reset_lists, took}
-pub use disk_array_proofs.{SeatLookups.{same_nexus_is, sense_put_at, senses_without_at}, SoundArrays.{history_sound}}
+pub use disk_array_proofs.Executed.{Passes, absent_executed, carried_executed, faulty_executed, outside_executed}
+pub use disk_array_proofs.{Executed.{sense_of_fault}, ExecutionFacts.{command_good, sense_fetched, status_known}}
+pub use disk_array_proofs.OperationCodes.{inquiry_command, is_inquiry_or_faulty, sense_opcode}
+pub use disk_array_proofs.{SeatLookups.{same_nexus_is, sense_put_at, senses_without_at}, SeatReplies.{id_turned}}
+pub use disk_array_proofs.SoundArrays.{history_sound}
 use Rattle.bus_due.specs.disk_array.specs as disk_array
 pub use disk_array.{ArrayHistory.{array_after, array_step, reply_in, reply_of}, Execution.{CommandContext, Execution}}
-pub use disk_array.Execution.{Reply, aborted_reply, attention_execution, block_out_of_range, cdb_execution}
-pub use disk_array.Execution.{check_condition, command_execution, commands_cleared, execution, heeds_attention}
-pub use disk_array.Execution.{is_good_range, is_opcode, is_request_sense, needs_unit, queue_full, range_execution}
-pub use disk_array.{Execution.{range_of, reply_execution, returned_sense, sense_of, unit_not_supported}, Order.{choice}}
-pub use disk_array.{Order.{without_process}, Processes.{Process, command_at, process_by, process_if, process_of}}
-pub use disk_array.{Processes.{same_bool, same_id, sense_block}, Seats.{is_initiator}, SoundArray.{HasSeats, IsSound}}
-pub use disk_array.Steps.{accept_step, accept_step_at, event_step, process_count, queue_step, running_process}
-pub use disk_array.{Steps.{settled_array_if, with_guest}, Units.{Array, Nexus, RunningProcess, UnitState, guest_at}}
-pub use disk_array.Units.{has_no_current, is_held, nexus_of, nexuses_without, same_nexus, sense_of_nexus}
-pub use disk_array.Units.{senses_without, settled_array, starting_array, starting_units, unit_after_choice}
-pub use disk_array.Units.{unit_state_at, with_current, with_unit, without_reply}
+pub use disk_array.Execution.{Reply, aborted_reply, check_condition, commands_cleared, execution, is_good_range}
+pub use disk_array.Execution.{is_opcode, is_request_sense, needs_unit, queue_full, range_of, returned_sense, sense_of}
+pub use disk_array.{Execution.{unit_not_supported}, Order.{choice, without_process}, Processes.{Process, command_at}}
+pub use disk_array.Processes.{process_by, process_if, process_of, same_bool, same_id, sense_block}
+pub use disk_array.{Seats.{is_initiator}, SoundArray.{HasSeats, IsSound}, Steps.{accept_step, accept_step_at}}
+pub use disk_array.Steps.{event_step, process_count, queue_step, running_process, settled_array_if, with_guest}
+pub use disk_array.Units.{Array, Nexus, RunningProcess, UnitState, guest_at, has_no_current, is_held, nexus_of}
+pub use disk_array.Units.{nexuses_without, same_nexus, sense_of_nexus, senses_without, settled_array, starting_array}
+pub use disk_array.Units.{starting_units, unit_after_choice, unit_state_at, with_current, with_unit, without_reply}
 use Rattle.bus_due.specs.bus_story.proofs as bus_story_proofs
 pub use bus_story_proofs.{CarriedLists.{carried_id}, StorySteps.{ends_checks, events_aims, restored_aims, sent_aims}}
 use Rattle.bus_due.specs.bus_story.specs as bus_story
@@ -128,7 +128,7 @@ pub use scsi_device_proofs.LineReads.{reset_by}
 use Rattle.progress_laws.specs.scsi_device.specs as scsi_device
 pub use scsi_device.{Lines.{FitsBus, IsHostLine, IsTargetLine}, Writes.{writers}}
 use Rattle.progress_laws.specs.target_units.proofs as target_units_proofs
-pub use target_units_proofs.{LiveQueue.{id_turned}, Rooms.{lines_always}}
+pub use target_units_proofs.Rooms.{lines_always}
 use Rattle.progress_laws.specs.target_units.specs as target_units
 pub use target_units.Rooms.{AreOfLines, IsOfLine}
 use Rattle.target_course.proofs as target_course_proofs

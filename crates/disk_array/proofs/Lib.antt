@@ -1,5 +1,9 @@
 mod Stories
 pub mod Touched
+pub mod WholeBlocks
+pub mod OperationCodes
+pub mod Executed
+pub mod ExecutionFacts
 pub mod SeatLookups
 pub mod SeatSteps
 pub mod SeatOwn

@@ -33,6 +33,24 @@ id_self id = λ i. eq_self id.command i && bool_self id.sense i
     bool_self true = refl
     bool_self false = refl
 
+pub id_turned : (a b : ProcId) → same_id a b ≡ false → same_id b a ≡ false
+id_turned a b h = go (same_id b a) refl
+  where
+    go : (y : Bool) → same_id b a ≡ y → y ≡ false
+    go false e = refl
+    go true e = let same : b ≡ a = same_id_is b a e in sym (subst (λ (n : ProcId). same_id n b ≡ true) same (id_self b)) ∙ h
+
+-- A guest has the number that it was found by.
+pub guest_id : (guests : List RunningProcess) (id : ProcId) (r : RunningProcess) → guest_at guests id ≡ Some r
+    → r.process.id ≡ id
+guest_id [] id r h = cc
+guest_id (g ∷ guests) id r h = go (same_id g.process.id id) refl h (λ k. guest_id guests id r k)
+  where
+    go : (y : Bool) → same_id g.process.id id ≡ y → (if y then Some g else guest_at guests id) ≡ Some r
+        → (guest_at guests id ≡ Some r → r.process.id ≡ id) → r.process.id ≡ id
+    go true e k more = let same : g ≡ r = cc in subst (λ (q : RunningProcess). q.process.id ≡ id) same (same_id_is g.process.id id e)
+    go false e k more = more k
+
 -- The reply of a process that was given last, and those of others.
 given_last : (replies : List (ProcId × Reply)) (id other : ProcId) (reply : Reply) → same_id id other ≡ true → reply_in ((id, reply) ∷ replies) other ≡ Some reply
 given_last replies id other reply e = λ i. if e i then Some reply else reply_in replies other

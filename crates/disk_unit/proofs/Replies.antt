@@ -1,17 +1,20 @@
 -- The bytes of replies, and when a command is carried out.
-use Rattle.std.proofs.Common.{ℕ, ◌≡◌, ◌+◌, ◌-◌, ◌*◌, ◌≤◌, Bool, true, false, List, [], ◌∙◌, refl, sym, ap, arith, length, take, drop, min}
+use Rattle.std.proofs.Common.{ℕ, ◌≡◌, ◌+◌, ◌-◌, ◌*◌, ◌≤◌, Bool, true, false, List, [], ◌∙◌, refl, sym, ap, arith}
+use Rattle.std.proofs.Common.{length, take, drop, min}
 use Rattle.std.specs.Prelude.{◌==◌, if◌then◌else◌}
 use Rattle.std.proofs.lemmas.List.{drop-take, take-take, length-take}
 use Rattle.cdb_codec.specs.declared.status.TheConstants.{GOOD}
 use Rattle.cdb_codec.specs.declared.command.Command.{Command}
-use Rattle.cdb_codec.specs.declared.command.Command.TheVariants as commands
 use Rattle.cdb_codec.specs.declared.replies.TheConstants.{SENSE_LEN, INQUIRY_LEN}
 use Rattle.cdb_codec.specs.Blocks.{blocks_moved}
 use Rattle.cdb_codec.specs.Replies.{sense_data, inquiry_data}
 use Rattle.disk_array.specs.Contents.{Contents, block_at}
-use Rattle.disk_array.specs.Execution.{no_sense, range_execution, command_execution, reply_execution, check_condition, block_out_of_range, is_good_range, range_of}
+use Rattle.disk_array.specs.Execution.{no_sense, range_execution, command_execution, reply_execution, check_condition}
+use Rattle.disk_array.specs.Execution.{block_out_of_range, is_good_range, range_of}
 use Rattle.disk_unit.specs.Disk.{command_reply, bytes_in, disk_context}
 use Rattle.disk_unit.proofs.Parts.{length_bytes}
+use Rattle.disk_array.proofs.ExecutionFacts.{command_good}
+use Rattle.cdb_codec.specs.declared.command.Command.TheVariants as commands
 
 pub take_part : (n at m : ℕ) (bytes : List ℕ) → at + n ≤ m → take n (drop at (take m bytes)) ≡ take n (drop at bytes)
 take_part n at m bytes h =
@@ -39,20 +42,10 @@ reply_length c w commands.ReadCapacity r e = refl
 reply_length c w (commands.Read10 lba count) r e = moved c w lba count r e
 reply_length c w (commands.Write10 lba count) r e = refl
 
-good_status : (c : Contents) (command : Command) → ((command_reply c command).status == GOOD) ≡ true
-good_status c commands.TestUnitReady = refl
-good_status c (commands.RequestSense room) = refl
-good_status c (commands.Read6 lba count) = refl
-good_status c (commands.Write6 lba count) = refl
-good_status c (commands.Inquiry room) = refl
-good_status c commands.ReadCapacity = refl
-good_status c (commands.Read10 lba count) = refl
-good_status c (commands.Write10 lba count) = refl
-
 -- A command without fault is carried out where its blocks are the unit's.
 pub carried_out : (c : Contents) (command : Command) → is_good_range c.count (range_of command) ≡ ((range_execution (disk_context c) command []).reply.status == GOOD)
 carried_out c command = go (is_good_range c.count (range_of command))
   where
     go : (x : Bool) → x ≡ ((if x then command_execution (disk_context c) command [] else reply_execution (disk_context c) (check_condition block_out_of_range)).reply.status == GOOD)
-    go true = sym (good_status c command)
+    go true = λ i. sym (command_good (disk_context c) command []) i == GOOD
     go false = refl

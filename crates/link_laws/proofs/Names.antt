@@ -1,15 +1,15 @@
 -- The names of other crates, and of this crate's definitions, that its proofs speak of, each by its home.
 -- A proof takes them by `use proofs.Names.{..}`; tools/checks/imports.py brings in those that a proof imports by their home.
 use Rattle.std.proofs as std_proofs
-pub use std_proofs.Common.{Bool, Err, List, None, Ok, Option, Some, [], ap, arith, drop, false, inl, inr, length, not}
-pub use std_proofs.Common.{refl, subst, suc, sym, take, true, zero, ℕ, ◌%◌, ◌&&◌, ◌*◌, ◌++◌, ◌+◌, ◌-◌, ◌<◌, ◌==◌, ◌^◌}
-pub use std_proofs.{Common.{◌||◌, ◌∙◌, ◌∷◌, ◌≡◌, ◌≢◌, ◌≤◌, ◌⊎◌}, lemmas.Bool.{and_parts, and_right, cases_Bool}}
-pub use std_proofs.lemmas.Bool.{cases_eq, eq-eqb, eqb-true, le-leb, lt-ltb, ltb-true, ne_eqb, not-true, true≢false}
+pub use std_proofs.Common.{Bool, List, None, Option, Some, [], ap, arith, drop, false, inl, inr, length, not, refl}
+pub use std_proofs.Common.{subst, suc, sym, take, true, zero, ℕ, ◌%◌, ◌&&◌, ◌*◌, ◌++◌, ◌+◌, ◌-◌, ◌<◌, ◌==◌, ◌^◌, ◌||◌}
+pub use std_proofs.{Common.{◌∙◌, ◌∷◌, ◌≡◌, ◌≢◌, ◌≤◌, ◌⊎◌}, lemmas.Bool.{and_parts, and_right, cases_Bool, cases_eq}}
+pub use std_proofs.lemmas.Bool.{eq-eqb, eqb-true, le-leb, lt-ltb, ltb-true, ne_eqb, not-true, true≢false}
 pub use std_proofs.lemmas.{Bool.Decides.{nat_tests}, List.{length-append, length-replicate, length-take}}
 pub use std_proofs.lemmas.Option.{none-some, same_Some}
 use Rattle.std.specs as std
-pub use std.{Int.{Bits.{or_self, or_zero_r}, RustNames.{bit_or}}, List.{AllByRecursion}, Prelude.{Result}}
-pub use std.Prelude.{if◌then◌else◌, is_none, is_some, max, min, nat_le, nat_lt, slice_index_or}
+pub use std.{Int.{Bits.{or_self, or_zero_r}, RustNames.{bit_or}}, List.{AllByRecursion}, Prelude.{if◌then◌else◌}}
+pub use std.Prelude.{is_none, is_some, max, min, nat_le, nat_lt, slice_index_or}
 use Rattle.bus_due.specs.bus_base.proofs as bus_base_proofs
 pub use bus_base_proofs.Tests.{and_false, eq_self, implication_parts, implied, next_some, none_number, or_false}
 pub use bus_base_proofs.Tests.{or_true, wrong', zero_of}
@@ -37,9 +37,8 @@ pub use bus_lines.{Handshakes.{strikes_if, strikes_last, time_of}, Stage.{stage}
 pub use bus_lines.declared.stage.Stage.TheVariants.{InConnection, OnFreeBus}
 use Rattle.bus_due.specs.cdb_codec.specs as cdb_codec
 pub use cdb_codec.{Blocks.{blocks_moved}, Cdb.{command_of}, Replies.{capacity_data, inquiry_data, sense_data}}
-pub use cdb_codec.declared.{Sense.{Sense}, command.{CdbFault.{CdbFault}, Command.{Command}}}
-pub use cdb_codec.declared.{replies.TheConstants.{INQUIRY_LEN, SENSE_LEN}, sense.TheConstants.{ABORTED_COMMAND}}
-pub use cdb_codec.declared.status.TheConstants.{CHECK_CONDITION, GOOD}
+pub use cdb_codec.declared.{Sense.{Sense}, command.Command.{Command}, replies.TheConstants.{INQUIRY_LEN, SENSE_LEN}}
+pub use cdb_codec.declared.{sense.TheConstants.{ABORTED_COMMAND}, status.TheConstants.{CHECK_CONDITION, GOOD}}
 use Rattle.bus_due.specs.msg_grammar.specs as msg_grammar
 pub use msg_grammar.declared.message.MsgIn.{MsgIn}
 use Rattle.bus_due.specs.bus_phases.specs as bus_phases
@@ -60,17 +59,17 @@ unfoldable pub use bus_rules.Seen.{seen_with}
 use Rattle.bus_due.specs.scenario.specs as scenario
 pub use scenario.{Lookups.{unit_of}, Reasons.{is_block_in}, Value.{ScenarioValue}, declared.value.FillDef.{FillDef}}
 pub use scenario.declared.value.{HostDef.{HostDef}, Policy.{Policy}, TargetDef.{TargetDef}, UnitDef.{UnitDef}}
+use Rattle.bus_due.specs.disk_array.proofs as disk_array_proofs
+pub use disk_array_proofs.Executed.{of_all}
 use Rattle.bus_due.specs.disk_array.specs as disk_array
 pub use disk_array.Contents.{Contents, blank_contents, block_at, bytes_at, filled_contents, no_contents, touched_block}
 pub use disk_array.{Contents.{touched_with, with_block, with_bytes, zero_block}, Execution.{CommandContext, Execution}}
-pub use disk_array.Execution.{Reply, attention_execution, block_out_of_range, cdb_execution, check_condition}
-pub use disk_array.Execution.{command_execution, commands_cleared, execution, good, heeds_attention, invalid_field}
-pub use disk_array.Execution.{invalid_opcode, is_good_range, is_request_sense, needs_unit, queue_full, range_execution}
-pub use disk_array.Execution.{range_of, reply_execution, returned_sense, sense_of, unit_not_supported, write_execution}
-pub use disk_array.{Order.{choice}, Processes.{Process, process_of}, Units.{Array, Nexus, RunningProcess, UnitState}}
-pub use disk_array.Units.{guest_at, has_no_current, is_held, nexus_of, nexuses_without, sense_of_nexus, senses_without}
-pub use disk_array.Units.{settled_array, starting_array, starting_units, unit_state_at, units_after_choice}
-pub use disk_array.Units.{with_current, with_unit}
+pub use disk_array.Execution.{Reply, check_condition, command_execution, commands_cleared, execution, good}
+pub use disk_array.Execution.{is_good_range, is_request_sense, queue_full, range_of, reply_execution, returned_sense}
+pub use disk_array.{Execution.{sense_of, write_execution}, Order.{choice}, Processes.{Process, process_of}}
+pub use disk_array.Units.{Array, Nexus, RunningProcess, UnitState, guest_at, has_no_current, is_held, nexus_of}
+pub use disk_array.Units.{nexuses_without, sense_of_nexus, senses_without, settled_array, starting_array}
+pub use disk_array.Units.{starting_units, unit_state_at, units_after_choice, with_current, with_unit}
 use Rattle.bus_due.specs.bus_story.proofs as bus_story_proofs
 pub use bus_story_proofs.StorySteps.{events_link}
 use Rattle.bus_due.specs.bus_story.specs as bus_story

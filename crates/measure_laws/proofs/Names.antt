@@ -58,7 +58,7 @@ pub use scenario.declared.value.{Policy.{Policy}, ResetDef.{ResetDef}, Tag.{Tag}
 pub use scenario.declared.value.UnitDef.{UnitDef}
 unfoldable pub use scenario.{Needs.{need_of, sent_of}, Reading.{added, fault_def, reset_def, said_after}}
 use Rattle.bus_due.specs.disk_array.proofs as disk_array_proofs
-pub use disk_array_proofs.{SeatLookups.{none_at}, SeatReplies.{id_self}}
+pub use disk_array_proofs.{ExecutionFacts.{good_range}, SeatLookups.{none_at}, SeatReplies.{id_self}}
 use Rattle.bus_due.specs.disk_array.specs as disk_array
 pub use disk_array.{ArrayHistory.{array_after}, Contents.{Contents}, Execution.{execution, is_good_range, range_of}}
 pub use disk_array.{Order.{range_in}, Processes.{Process, command_at, command_process, process_by, process_if}}
@@ -119,7 +119,7 @@ pub use scsi_device_proofs.{FitLines.{command_fits, obeys_fits}, LineReads.{faul
 use Rattle.progress_laws.specs.scsi_device.specs as scsi_device
 pub use scsi_device.Lines.{FitsBus, IsCommandLine, IsHostLine}
 use Rattle.progress_laws.specs.target_units.proofs as target_units_proofs
-pub use target_units_proofs.Rooms.{IsByLine, by_line, good_range}
+pub use target_units_proofs.Rooms.{IsByLine, by_line}
 use Rattle.progress_laws.specs.target_units.specs as target_units
 pub use target_units.Rooms.{AreOfLines, IsOfLine}
 use Rattle.progress_laws.specs.bus_books.proofs as bus_books_proofs
@@ -209,10 +209,10 @@ use Rattle.progress_laws.proofs as progress_laws_proofs
 pub use progress_laws_proofs.Debts.{Next.{ends_open, known_served}, Rows.{NoEnds, Shown, completes, no_ends, row_shown}}
 pub use progress_laws_proofs.{Outcomes.Seats.{initiator_there}, Owed.Rows.{changed}, Queues.Over.{all_over}}
 use Rattle.right_laws.proofs as right_laws_proofs
-pub use right_laws_proofs.DataIn.{Entries.{enters_read}, Facts.{ReadBooks, read_books}, Runs.{fits_reads, whole_now}}
-pub use right_laws_proofs.{Offers.Steps.{is_data_in}, Ran.Lengths.{given_few, most_given, need_is}}
-pub use right_laws_proofs.{Replies.Blocks.{HasWhole}, Samples.{Callings.{struck_out}, Ends.{initiator_lines}}}
-pub use right_laws_proofs.Samples.{Ends.{target_lines}, Moments.{apart_of}, NoFaults.{of_lines}}
+pub use right_laws_proofs.DataIn.{Entries.{enters_read}, Facts.{ReadBooks, read_books}, Runs.{fits_reads, moved_good}}
+pub use right_laws_proofs.{DataIn.Runs.{whole_now}, Offers.Steps.{is_data_in}, Ran.Lengths.{given_few, most_given}}
+pub use right_laws_proofs.{Ran.Lengths.{need_is}, Replies.Blocks.{HasWhole}, Samples.Callings.{struck_out}}
+pub use right_laws_proofs.Samples.{Ends.{initiator_lines, target_lines}, Moments.{apart_of}, NoFaults.{of_lines}}
 use Rattle.measure_laws.specs as measure_laws
 pub use measure_laws.Future.{abort_left, aborts_left, awaits_reset, bytes_after, bytes_over, command_left}
 pub use measure_laws.Future.{commands_left, cut_bytes, future_left, is_in_data, one_where, open_left, range_if}

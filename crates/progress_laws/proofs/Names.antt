@@ -31,7 +31,7 @@ use Rattle.bus_due.specs.bus_lines.specs as bus_lines
 pub use bus_lines.{Handshakes.{handshakes}, Stage.{stage}, declared.stage.Stage.TheVariants.{InArbitration, InCalling}}
 pub use bus_lines.declared.stage.Stage.TheVariants.{OnFreeBus}
 use Rattle.bus_due.specs.cdb_codec.specs as cdb_codec
-pub use cdb_codec.{Cdb.{command_of}, declared.{Sense.{Sense}, sense.TheConstants.{ABORTED_COMMAND}}}
+pub use cdb_codec.{Cdb.{command_of}, declared.sense.TheConstants.{ABORTED_COMMAND}}
 pub use cdb_codec.declared.status.TheConstants.{CHECK_CONDITION, GOOD}
 use Rattle.bus_due.specs.msg_grammar.specs as msg_grammar
 pub use msg_grammar.declared.message.{MsgIn.{MsgIn}, MsgOut.{MsgOut}}
@@ -57,22 +57,21 @@ pub use scenario.declared.value.{HostDef.{HostDef}, TargetDef.{TargetDef}, UnitD
 unfoldable pub use scenario.{Needs.{need_of, sent_of}, Reading.{added, host_def, said_after, unit_def}}
 use Rattle.bus_due.specs.disk_array.proofs as disk_array_proofs
 pub use disk_array_proofs.ArrayReplies.{abort_lists, end_lists, fail_lists, loss_lists, reset_lists, took}
-pub use disk_array_proofs.{ArrayUnits.{cleared_units, unit_reset_units}, SeatLookups.{nexus_put_at, nexuses_without_at}}
-pub use disk_array_proofs.{SeatLookups.{none_at, same_nexus_is}, SeatSteps.{any_none, choice_target}}
-pub use disk_array_proofs.SoundArrays.{step_sound}
+pub use disk_array_proofs.{ArrayUnits.{cleared_units, unit_reset_units}, ExecutionFacts.{sense_fetched}}
+pub use disk_array_proofs.{SeatLookups.{nexus_put_at, nexuses_without_at, none_at, same_nexus_is}, SeatSteps.{any_none}}
+pub use disk_array_proofs.{SeatSteps.{choice_target}, SoundArrays.{step_sound}}
 use Rattle.bus_due.specs.disk_array.specs as disk_array
 pub use disk_array.{ArrayHistory.{array_after, array_step, reply_in}, Execution.{CommandContext, Execution, Reply}}
-pub use disk_array.Execution.{attention_execution, check_condition, execution, is_request_sense, needs_unit, queue_full}
-pub use disk_array.{Execution.{reply_execution, sense_of, unit_not_supported}, Order.{choice, chosen_place, entries_of}}
-pub use disk_array.Order.{entry_of, is_head, last_head, last_of, may_run_after, picked_place, process_at, process_at_if}
-pub use disk_array.{Order.{runnable_after, runnable_by}, Processes.{Process, command_at, command_process, process_by}}
-pub use disk_array.Processes.{process_if, process_of, same_bool, same_id, sense_block, sense_process}
-pub use disk_array.Seats.{current_of, in_hold, is_initiator, nexus_at, unit_mapped, unit_with_choice, waits_in}
-pub use disk_array.SoundArray.{AllOwn, AllOwnUnits, AreApart, HasSeats, IsOwn, IsOwnRunning, IsOwnUnit, IsSound}
-pub use disk_array.{Steps.{has_ended, has_tag, is_of_unit, running_if}, Units.{Array, Nexus, RunningProcess, UnitState}}
-pub use disk_array.Units.{guest_at, has_no_current, is_at_unit, is_held, nexus_of, nexuses_without, same_nexus}
-pub use disk_array.Units.{senses_without, starting_array, starting_units, unit_state_at, units_after_choice}
-pub use disk_array.{Units.{with_current, with_unit}, declared.entries.Entry.{Entry}}
+pub use disk_array.{Execution.{check_condition, execution, is_request_sense, queue_full, sense_of}, Order.{choice}}
+pub use disk_array.Order.{chosen_place, entries_of, entry_of, is_head, last_head, last_of, may_run_after, picked_place}
+pub use disk_array.{Order.{process_at, process_at_if, runnable_after, runnable_by}, Processes.{Process, command_at}}
+pub use disk_array.Processes.{command_process, process_by, process_if, process_of, same_bool, same_id, sense_block}
+pub use disk_array.{Processes.{sense_process}, Seats.{current_of, in_hold, is_initiator, nexus_at, unit_mapped}}
+pub use disk_array.{Seats.{unit_with_choice, waits_in}, SoundArray.{AllOwn, AllOwnUnits, AreApart, HasSeats, IsOwn}}
+pub use disk_array.{SoundArray.{IsOwnRunning, IsOwnUnit, IsSound}, Steps.{has_ended, has_tag, is_of_unit, running_if}}
+pub use disk_array.Units.{Array, Nexus, RunningProcess, UnitState, guest_at, has_no_current, is_at_unit, is_held}
+pub use disk_array.Units.{nexus_of, nexuses_without, same_nexus, senses_without, starting_array, starting_units}
+pub use disk_array.{Units.{unit_state_at, units_after_choice, with_current, with_unit}, declared.entries.Entry.{Entry}}
 unfoldable pub use disk_array.Seats.{is_any_held}
 use Rattle.bus_due.specs.bus_story.proofs as bus_story_proofs
 pub use bus_story_proofs.StorySteps.{begun_aims, calling_aims, ends_checks, event_sent, events_aims, restored_sent}

@@ -6,8 +6,8 @@ pub use std_proofs.Common.{cond, drop, false, inl, inr, length, length-append, m
 pub use std_proofs.Common.{true, true≢false, zero, ℕ, ◌%◌, ◌&&◌, ◌*◌, ◌++◌, ◌+◌, ◌-◌, ◌<◌, ◌==◌, ◌^◌, ◌||◌, ◌∙◌, ◌∷◌}
 pub use std_proofs.{Common.{◌≡◌, ◌≢◌, ◌≤◌, ◌⊎◌}, lemmas.Bool.{and_from, and_left, and_parts, and_right, cases_eq}}
 pub use std_proofs.lemmas.Bool.{eqb-true, ltb-false, ltb-true, ne_eqb, not-false, not-true, or_parts, or_right}
-pub use std_proofs.lemmas.{Bool.Decides.{nat_tests}, List.{length-drop, length-replicate, length-take, reverse-append}}
-pub use std_proofs.lemmas.{List.{reverse-reverse}, Option.{same_Some}}
+pub use std_proofs.lemmas.{Bool.Decides.{nat_tests}, List.{length-take, reverse-append, reverse-reverse}}
+pub use std_proofs.lemmas.Option.{same_Some}
 use Rattle.std.specs as std
 pub use std.{Int.RustNames.{bit_or, count_ones}, List.{AllByRecursion, find, list_any}, Prelude.{if◌then◌else◌}}
 pub use std.Prelude.{is_none, is_some, min, nat_le, nat_lt, reverse, slice_index, slice_index_or, slice_set, ⊤}
@@ -40,13 +40,10 @@ pub use bus_lines.Handshakes.{Handshakes, answered_if, asked_if, handshakes, han
 pub use bus_lines.{Handshakes.{strikes_if}, Stage.{answer_stage, call_stage, stage, stage_by}}
 pub use bus_lines.declared.stage.Stage.{Stage, TheVariants.{InAnswer, InArbitration, InCalling, InReset, OnFreeBus}}
 use Rattle.bus_due.specs.cdb_codec.specs as cdb_codec
-pub use cdb_codec.{Blocks.{blocks_moved}, Cdb.{command_of, fields_of, has_group_len, sized_of}}
-pub use cdb_codec.{Operations.{operation_of}, Replies.{inquiry_data, sense_data}, declared.Sense.{Sense}}
-pub use cdb_codec.declared.{command.{CdbFault.{CdbFault}, Command.{Command}}, operation.Operation.{Operation}}
-pub use cdb_codec.declared.operation.TheConstants.{INQUIRY, READ_10, READ_6, READ_CAPACITY, REQUEST_SENSE}
-pub use cdb_codec.declared.operation.TheConstants.{TEST_UNIT_READY, WRITE_10, WRITE_6}
-pub use cdb_codec.declared.{replies.TheConstants.{INQUIRY_LEN, SENSE_LEN}, sense.TheConstants.{ABORTED_COMMAND}}
-pub use cdb_codec.declared.sense.TheConstants.{INITIATOR_DETECTED_ERROR, PARITY_ERROR}
+pub use cdb_codec.{Blocks.{blocks_moved}, Cdb.{command_of, has_group_len}, Replies.{inquiry_data, sense_data}}
+pub use cdb_codec.declared.{Sense.{Sense}, command.{CdbFault.{CdbFault}, Command.{Command}}}
+pub use cdb_codec.declared.{operation.TheConstants.{INQUIRY}, replies.TheConstants.{INQUIRY_LEN, SENSE_LEN}}
+pub use cdb_codec.declared.sense.TheConstants.{ABORTED_COMMAND, INITIATOR_DETECTED_ERROR, PARITY_ERROR}
 pub use cdb_codec.declared.status.TheConstants.{CHECK_CONDITION, GOOD}
 use Rattle.bus_due.specs.msg_grammar.specs as msg_grammar
 pub use msg_grammar.{Messages.{got_in, got_out}, declared.message.{MsgIn.{MsgIn}, MsgOut.{MsgOut}}}
@@ -70,25 +67,25 @@ pub use scenario.declared.value.{FaultDef.{FaultDef}, FillDef.{FillDef}, HostDef
 pub use scenario.declared.value.{TargetDef.{TargetDef}, UnitDef.{UnitDef}}
 unfoldable pub use scenario.{Needs.{need_of}, Reading.{added, said_after}}
 use Rattle.bus_due.specs.disk_array.proofs as disk_array_proofs
-pub use disk_array_proofs.{ArrayReplies.{end_lists, loss_lists}, SeatContexts.{choice_keeps, settled_context}}
-pub use disk_array_proofs.SeatLaws.{abort_law, accept_law, device_law, end_law, fail_law, loss_law, other_law}
-pub use disk_array_proofs.{SeatLaws.{refuse_law, reset_law, run_law}, SoundArrays.{history_sound, is_own, step_sound}}
-pub use disk_array_proofs.Touched.{block_same}
+pub use disk_array_proofs.{ArrayReplies.{end_lists, loss_lists}, Executed.{of_all, storing}}
+pub use disk_array_proofs.ExecutionFacts.{read_gives, sense_block_of, sense_executed, stored_apart, undone, whole_kept}
+pub use disk_array_proofs.{SeatContexts.{choice_keeps, settled_context}, SeatLaws.{abort_law, accept_law, device_law}}
+pub use disk_array_proofs.SeatLaws.{end_law, fail_law, loss_law, other_law, refuse_law, reset_law, run_law}
+pub use disk_array_proofs.{SoundArrays.{history_sound, is_own, step_sound}, WholeBlocks.{AreWhole, blank_whole}}
+pub use disk_array_proofs.WholeBlocks.{block_whole}
 use Rattle.bus_due.specs.disk_array.specs as disk_array
 pub use disk_array.ArrayHistory.{array_after, array_step, disks_of, reply_in, reply_of, shows_run}
-pub use disk_array.Contents.{Contents, blank_contents, block_at, bytes_at, filled_contents, no_contents, with_block}
-pub use disk_array.{Contents.{with_bytes}, Execution.{CommandContext, Execution, Reply, attention_execution}}
-pub use disk_array.Execution.{block_out_of_range, cdb_execution, check_condition, command_execution, execution}
-pub use disk_array.Execution.{heeds_attention, invalid_field, is_good_range, is_opcode, is_request_sense, needs_unit}
-pub use disk_array.Execution.{queue_full, range_execution, range_of, reply_execution, returned_sense, sense_of}
-pub use disk_array.{Execution.{unit_not_supported}, Order.{choice, range_in}, Processes.{Process, process_of, same_id}}
-pub use disk_array.Seats.{Seat, contents_of, context_of, current_of, guests_at, is_of_other_unit, seat_if, seat_of}
-pub use disk_array.{Seats.{settled_seat, settled_seat_if}, SoundArray.{AllOwn, AllOwnGuests, AllOwnUnits, AreApart}}
-pub use disk_array.{SoundArray.{HasSeats, IsOwn, IsOwnRunning, IsOwnUnit, IsSound}, Steps.{context_at, has_ended}}
-pub use disk_array.{Steps.{has_tag, is_of_unit, process_count, running_if, step}, Units.{Array, Nexus, RunningProcess}}
-pub use disk_array.Units.{UnitState, guest_at, has_no_current, is_held, nexus_of, sense_of_nexus, settled_array}
-pub use disk_array.Units.{starting_array, starting_unit, starting_units, unit_after_choice, unit_state_at}
-pub use disk_array.Units.{units_after_choice, with_current, without_reply}
+pub use disk_array.Contents.{Contents, blank_contents, bytes_at, filled_contents, no_contents, with_block}
+pub use disk_array.Execution.{CommandContext, Execution, Reply, check_condition, command_execution, execution}
+pub use disk_array.Execution.{invalid_field, is_good_range, is_opcode, is_request_sense, queue_full, range_of}
+pub use disk_array.{Execution.{returned_sense, sense_of, unit_not_supported}, Order.{choice, range_in}}
+pub use disk_array.{Processes.{Process, process_of, same_id}, Seats.{Seat, contents_of, context_of, current_of}}
+pub use disk_array.Seats.{guests_at, is_of_other_unit, seat_if, seat_of, settled_seat, settled_seat_if}
+pub use disk_array.SoundArray.{AllOwn, AllOwnGuests, AllOwnUnits, AreApart, HasSeats, IsOwn, IsOwnRunning, IsOwnUnit}
+pub use disk_array.{SoundArray.{IsSound}, Steps.{context_at, has_ended, has_tag, is_of_unit, process_count, running_if}}
+pub use disk_array.{Steps.{step}, Units.{Array, Nexus, RunningProcess, UnitState, guest_at, has_no_current, is_held}}
+pub use disk_array.Units.{nexus_of, sense_of_nexus, settled_array, starting_array, starting_unit, starting_units}
+pub use disk_array.Units.{unit_after_choice, unit_state_at, units_after_choice, with_current, without_reply}
 use Rattle.bus_due.specs.bus_story.proofs as bus_story_proofs
 pub use bus_story_proofs.{CarriedLists.{carried_id, carried_with}, StorySteps.{check_carried, ends_carried}}
 pub use bus_story_proofs.StorySteps.{free_carried, message_id}
@@ -117,7 +114,7 @@ pub use bus_story.TraceHistory.{story_with_restored, story_with_sent, trace_hist
 use Rattle.disk_unit.proofs as disk_unit_proofs
 pub use disk_unit_proofs.Parts.{length_bytes}
 use Rattle.disk_unit.specs as disk_unit
-pub use disk_unit.Disk.{blocks_written, blocks_written_by, written_of}
+pub use disk_unit.Disk.{blocks_written, blocks_written_by}
 use Rattle.bus_due.specs.bus_reactions.specs as bus_reactions
 pub use bus_reactions.Calling.{answer, answer_due, answered_due, bsy_takeover, called_due, caller_due, calling_abort}
 pub use bus_reactions.Calling.{calling_start, is_called, loser_release, reselection_end, selection_end, unanswered_due}

@@ -10,7 +10,7 @@ use Rattle.bus_due.specs.disk_array.specs.Processes.{Process, process_of}
 use Rattle.trace_laws.specs.scsi_device.specs.Writes.{is_of_size}
 use Rattle.bus_due.specs.bus_story.specs.BusState.{row_reading}
 use Rattle.bus_due.specs.bus_story.specs.HistoryEvents.{row_events_by}
-use Rattle.bus_due.specs.bus_story.specs.Right.{has_run}
+use Rattle.bus_due.specs.bus_story.specs.Right.{has_run, moved_bytes}
 use Rattle.bus_due.specs.RunState.{RunState, array_of, carried_here}
 use Rattle.bus_due.specs.RunSteps.{run_state, run_state_after}
 use Rattle.bus_due.specs.Tasks.{is_writing}
@@ -27,10 +27,10 @@ abbrev pub SendsAtRun : ScenarioValue → RunState → Row → Type 0
 SendsAtRun s k row =
     (p : Process) (reply : Reply) → IsRunning s k row p reply → is_writing p ≡ true → (reply.status == GOOD) ≡ true → (length p.sent ≤ bytes_come s k p) × (is_of_size s k p ≡ true)
 
--- Any other has carried the bytes of its reply.
+-- Any other has carried the bytes that it moves.
 abbrev pub GivesAtRun : ScenarioValue → RunState → Row → Type 0
 GivesAtRun s k row =
-    (p : Process) (reply : Reply) → IsRunning s k row p reply → (is_writing p && reply.status == GOOD) ≡ false → (carried_here k p.id).moved.bytes ≡ reply.bytes
+    (p : Process) (reply : Reply) → IsRunning s k row p reply → (is_writing p && reply.status == GOOD) ≡ false → (carried_here k p.id).moved.bytes ≡ moved_bytes p reply
 
 -- Of all rows.
 abbrev pub AllMove : ScenarioValue → List Row → Type 0

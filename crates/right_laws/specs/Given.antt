@@ -1,5 +1,5 @@
--- What a process that is not over has given or sent of its data: none, or some where it would end GOOD if it ran now, and where it does not
--- write a front of what it would give then (6.1.5, 6.6.20); and what this asks of a row.
+-- What a process that is not over has given or sent of its data: none, or some where a write would end GOOD if it ran now, and any other has
+-- given a front of what it would give then (6.1.5, 6.6.20); and what this asks of a row.
 use Rattle.std.specs.Prelude.{ℕ, ◌%◌, ◌≡◌, ◌≤◌, ◌<◌, ◌⊎◌, ◌==◌, true, false, List, [], ◌++◌, length, slice_index_or, Some, is_some}
 use Rattle.bus_due.specs.bus_base.specs.declared.ProcId.{ProcId}
 use Rattle.bus_due.specs.bus_trace.specs.Phases.{changes_phase, is_command, is_data}
@@ -23,7 +23,7 @@ pub record IsFront (bytes all : List ℕ) : Type 0 where
   pub all_is : bytes ++ rest ≡ all
 
 pub record GivesGood (a : Array) (p : Process) (bytes : List ℕ) : Type 0 where
-  pub good : (reply_now a p).status ≡ GOOD
+  pub good : is_writing p ≡ true → (reply_now a p).status ≡ GOOD
   pub front : is_writing p ≡ false → IsFront bytes (reply_now a p).bytes
 
 abbrev pub GivenIn : Array → Process → List ℕ → Type 0
@@ -39,10 +39,10 @@ GivenFacts s rows = OnOpen (HasGiven s (array_of s (run_state s rows)) (run_stat
 
 -- ---- what is asked of a row
 
--- As a byte of its data crosses it would end GOOD; and one that does not write gives the byte at its pointer, which stands in what it has
--- carried, or at its end, and in what it gives.
+-- As a byte of its data crosses: a write would end GOOD; any other gives the byte at its pointer, which stands in what it has carried, or at
+-- its end, and in what it gives.
 pub record GivesNext (s : ScenarioValue) (k : RunState) (p : Process) (id : ProcId) (byte : ℕ) : Type 0 where
-  pub good : (reply_now (array_of s k) p).status ≡ GOOD
+  pub good : is_writing p ≡ true → (reply_now (array_of s k) p).status ≡ GOOD
   pub byte_is : is_writing p ≡ false → byte ≡ slice_index_or (reply_now (array_of s k) p).bytes (carried_here k id).moved.active 0
   pub active_in : is_writing p ≡ false → (carried_here k id).moved.active ≤ length (carried_here k id).moved.bytes
   pub within : is_writing p ≡ false → (carried_here k id).moved.active < length (reply_now (array_of s k) p).bytes
@@ -61,7 +61,7 @@ NoneAtArrival k row =
 -- As it runs as many bytes were carried as its reply has.
 abbrev pub WholeAtRun : ScenarioValue → RunState → Row → Type 0
 WholeAtRun s k row =
-    (p : Process) (reply : Reply) → IsRunning s k row p reply → is_writing p ≡ false → (reply.status == GOOD) ≡ true → length reply.bytes ≤ length (carried_here k p.id).moved.bytes
+    (p : Process) (reply : Reply) → IsRunning s k row p reply → is_writing p ≡ false → length reply.bytes ≤ length (carried_here k p.id).moved.bytes
 
 -- One that has carried some of its data has the reply that it had.
 abbrev pub HasReplyStill : ScenarioValue → RunState → RunState → ProcId → Type 0

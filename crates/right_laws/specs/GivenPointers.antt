@@ -1,21 +1,18 @@
 -- Where the data pointer of a process that does not write stands as a byte of DATA IN crosses: as many bytes after the beginning of its run as
 -- were asked for, and the run has that byte; and as it runs, past the bytes of its reply (6.1.5.1, 6.6.6, 6.6.20).
-use Rattle.std.specs.Prelude.{ℕ, ◌+◌, ◌≡◌, ◌≤◌, ◌<◌, ◌==◌, Bool, true, false, not, ◌&&◌, ◌||◌, is_none, List, [], ◌∷◌, length, Some, ⊤}
+use Rattle.std.specs.Prelude.{ℕ, ◌+◌, ◌≡◌, ◌≤◌, ◌<◌, ◌==◌, Bool, true, false, not, ◌&&◌, ◌||◌, is_none, List, [], ◌∷◌}
+use Rattle.std.specs.Prelude.{length, Some, ⊤}
 use Rattle.bus_due.specs.bus_base.specs.declared.AbortKind.{AbortKind}
-use Rattle.bus_due.specs.bus_base.specs.declared.AbortKind.TheVariants as aborts
 use Rattle.bus_due.specs.bus_base.specs.declared.Event.{Event}
-use Rattle.bus_due.specs.bus_base.specs.declared.Event.TheVariants as events
 use Rattle.bus_due.specs.bus_base.specs.declared.ProcId.{ProcId}
 use Rattle.bus_due.specs.bus_trace.specs.declared.Row.{Row}
 use Rattle.bus_due.specs.bus_trace.specs.declared.connection.Connection.{Connection}
-use Rattle.bus_due.specs.cdb_codec.specs.declared.status.TheConstants.{GOOD}
 use Rattle.bus_due.specs.scenario.specs.Value.{ScenarioValue}
 use Rattle.bus_due.specs.disk_array.specs.Execution.{Reply}
 use Rattle.bus_due.specs.disk_array.specs.Processes.{Process, process_of}
 use Rattle.bus_due.specs.disk_array.specs.Seats.{is_elsewhere}
 use Rattle.bus_due.specs.bus_story.specs.BusState.{row_reading}
 use Rattle.bus_due.specs.bus_story.specs.HistoryEvents.{row_events_by}
-use Rattle.bus_due.specs.bus_dialogue.specs.declared.exchange.Phase.TheVariants as phases
 use Rattle.bus_due.specs.bus_dialogue.specs.declared.exchange.Task.{Task}
 use Rattle.bus_due.specs.bus_dialogue.specs.Arrivals.{policy_of}
 use Rattle.bus_due.specs.bus_dialogue.specs.DataRuns.{run_at, run_length}
@@ -27,6 +24,9 @@ use Rattle.bus_due.specs.Tasks.{is_writing, reply_now, task_of}
 use Rattle.right_laws.specs.Asked.{IsRunning}
 use Rattle.right_laws.specs.Given.{NoneAtArrival}
 use Rattle.right_laws.specs.Open.{OnOpen}
+use Rattle.bus_due.specs.bus_base.specs.declared.AbortKind.TheVariants as aborts
+use Rattle.bus_due.specs.bus_base.specs.declared.Event.TheVariants as events
+use Rattle.bus_due.specs.bus_dialogue.specs.declared.exchange.Phase.TheVariants as phases
 
 pub record PointsAtRun (s : ScenarioValue) (k : RunState) (n : Connection) (p : Process) (t : Task) : Type 0 where
   pub active_is : (carried_here k p.id).moved.active ≡ (run_at (policy_of (target_def_of s n.target)) t t.runs).start + k.handshakes.requests
@@ -40,7 +40,7 @@ PointsAtCrossing s k row =
 -- As it runs its pointer stands past the bytes of its reply.
 abbrev pub PointsAtEnd : ScenarioValue → RunState → Row → Type 0
 PointsAtEnd s k row =
-    (p : Process) (reply : Reply) → IsRunning s k row p reply → is_writing p ≡ false → (reply.status == GOOD) ≡ true → length reply.bytes ≤ (carried_here k p.id).moved.active
+    (p : Process) (reply : Reply) → IsRunning s k row p reply → is_writing p ≡ false → length reply.bytes ≤ (carried_here k p.id).moved.active
 
 -- ---- what changes a reply
 

@@ -1,11 +1,11 @@
 -- What is asked of a row of what processes give, and of their data pointers, as tests on what is kept before it and after it.
-use Rattle.std.specs.Prelude.{ℕ, ◌+◌, Bool, true, false, not, ◌&&◌, ◌||◌, ◌==◌, nat_le, nat_lt, List, [], ◌∷◌, length, Option, Some, None, is_some}
+use Rattle.std.specs.Prelude.{ℕ, ◌+◌, Bool, true, false, not, ◌&&◌, ◌||◌, ◌==◌, nat_le, nat_lt, List, [], ◌∷◌, length}
+use Rattle.std.specs.Prelude.{Option, Some, None, is_some}
 use Rattle.std.specs.List.{list_all}
 use Rattle.bus_due.specs.bus_base.specs.declared.Event.{Event}
 use Rattle.bus_due.specs.bus_trace.specs.Phases.{changes_phase, is_command}
 use Rattle.bus_due.specs.bus_trace.specs.declared.Row.{Row}
 use Rattle.bus_due.specs.bus_trace.specs.declared.connection.Connection.{Connection}
-use Rattle.bus_due.specs.cdb_codec.specs.declared.status.TheConstants.{GOOD}
 use Rattle.bus_due.specs.scenario.specs.Value.{ScenarioValue}
 use Rattle.bus_due.specs.scenario.specs.declared.value.CmdDef.{CmdDef}
 use Rattle.bus_due.specs.disk_array.specs.ArrayHistory.{reply_in}
@@ -60,7 +60,7 @@ are_new k row =
 -- As one runs.
 abbrev is_past : ScenarioValue → RunState → RunState → Process → Option Reply → Bool
 is_past s k j p None = true
-is_past s k j p (Some reply) = is_writing p || not (reply.status == GOOD) || nat_le (length reply.bytes) (carried_here k p.id).moved.active
+is_past s k j p (Some reply) = is_writing p || nat_le (length reply.bytes) (carried_here k p.id).moved.active
 
 abbrev is_past_if : ScenarioValue → RunState → RunState → List Event → Option Process → Bool
 is_past_if s k j shown None = true

@@ -23,7 +23,7 @@ abbrev is_given : ScenarioValue → RunState → Process → Bool
 is_given s k p =
     is_front (carried_here k p.id).moved.bytes (content_now (array_of s k) p) && nat_le (carried_here k p.id).moved.active (length (carried_here k p.id).moved.bytes)
     && nat_le (carried_here k p.id).moved.saved (length (carried_here k p.id).moved.bytes)
-    && (length (carried_here k p.id).moved.bytes == 0 || (reply_now (array_of s k) p).status == GOOD)
+    && (length (carried_here k p.id).moved.bytes == 0 || not (is_writing p) || (reply_now (array_of s k) p).status == GOOD)
 
 abbrev is_given_if : ScenarioValue → RunState → Option RunningProcess → Bool
 is_given_if s k None = true

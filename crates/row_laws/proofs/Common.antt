@@ -4,4 +4,3 @@ pub mod Impossible
 pub mod Tests
 pub mod PhaseLines
 pub mod EachLine
-pub mod SameProcess

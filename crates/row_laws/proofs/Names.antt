@@ -1,11 +1,11 @@
 -- The names of other crates, and of this crate's definitions, that its proofs speak of, each by its home.
 -- A proof takes them by `use proofs.Names.{..}`; tools/checks/imports.py brings in those that a proof imports by their home.
 use Rattle.std.proofs as std_proofs
-pub use std_proofs.Common.{Bool, Err, List, None, Ok, Option, Result, Some, [], ap, arith, false, inl, inr, length}
-pub use std_proofs.Common.{length-append, not, refl, replicate, subst, suc, sym, take, true, true≢false, zero, ℕ, ◌%◌}
-pub use std_proofs.Common.{◌&&◌, ◌*◌, ◌++◌, ◌+◌, ◌<◌, ◌==◌, ◌||◌, ◌∙◌, ◌∷◌, ◌≡◌, ◌≢◌, ◌≤◌, ◌⊎◌}
-pub use std_proofs.lemmas.Bool.{and_parts, cases_eq, eqb-true, leb-true, ltb-false, ltb-true, not_from_false, or_left}
-pub use std_proofs.lemmas.{Bool.{or_right, Decides.{nat_tests}}, Option.{none-some, same_Some}}
+pub use std_proofs.Common.{Bool, List, None, Ok, Option, Some, [], ap, arith, false, inl, inr, length, length-append}
+pub use std_proofs.Common.{not, refl, replicate, subst, suc, sym, take, true, true≢false, zero, ℕ, ◌%◌, ◌&&◌, ◌*◌, ◌++◌}
+pub use std_proofs.{Common.{◌+◌, ◌<◌, ◌==◌, ◌||◌, ◌∙◌, ◌∷◌, ◌≡◌, ◌≢◌, ◌≤◌, ◌⊎◌}, lemmas.Bool.{and_parts, cases_eq}}
+pub use std_proofs.lemmas.Bool.{eqb-true, leb-true, ltb-false, ltb-true, not_from_false, or_left, or_right}
+pub use std_proofs.lemmas.{Bool.Decides.{nat_tests}, Option.{none-some, same_Some}}
 use Rattle.std.specs as std
 pub use std.{Int.{Bits.{or_zero_r}, RustNames.{bit_or, count_ones}}, List.{AllByRecursion, find, list_all, list_any}}
 pub use std.Prelude.{drop, if◌then◌else◌, is_none, is_some, max, min, nat_le, nat_lt, slice_index_or, ⊤, ◌-◌}
@@ -72,18 +72,16 @@ unfoldable pub use scenario.Reading.{period_in, said_after, tag_in, target_def, 
 use Rattle.bus_due.specs.disk_array.proofs as disk_array_proofs
 pub use disk_array_proofs.ArrayReplies.{abort_lists, accept_lists, end_lists, executed_lists, fail_lists, loss_lists}
 pub use disk_array_proofs.{ArrayReplies.{refuse_lists, reset_lists, took}, ArrayUnits.{cleared_units, unit_reset_units}}
-pub use disk_array_proofs.{SeatEvents.{status_units}, SeatLaws.{fail_law, run_law}, SeatLookups.{same_id_is}}
-pub use disk_array_proofs.{SeatOwn.{guest_own, running_unit}, SeatReplies.{first, guest_replied, id_self, last_waits}}
-pub use disk_array_proofs.{SeatReplies.{no_guest_replied}, SoundArrays.{history_sound, start_sound, start_units}}
-pub use disk_array_proofs.SoundArrays.{step_sound}
+pub use disk_array_proofs.Executed.{IsRefused, absent, faulty, of_all, outside, sense_of_fault}
+pub use disk_array_proofs.{SeatEvents.{status_units}, SeatLaws.{fail_law, run_law}, SeatOwn.{guest_own, running_unit}}
+pub use disk_array_proofs.SeatReplies.{first, guest_id, guest_replied, last_waits, no_guest_replied}
+pub use disk_array_proofs.SoundArrays.{history_sound, start_sound, start_units, step_sound}
 use Rattle.bus_due.specs.disk_array.specs as disk_array
 pub use disk_array.{ArrayHistory.{array_after, array_step, reply_in}, Contents.{Contents, blank_contents, block_at}}
 pub use disk_array.Contents.{bytes_at, filled_contents, touched_block, touched_with, with_block, with_bytes, zero_block}
-pub use disk_array.Execution.{CommandContext, Execution, Reply, aborted_reply, attention_execution, block_out_of_range}
-pub use disk_array.Execution.{cdb_execution, check_condition, command_execution, commands_cleared, execution, good}
-pub use disk_array.Execution.{heeds_attention, invalid_field, invalid_opcode, is_good_range, is_request_sense}
-pub use disk_array.Execution.{needs_unit, queue_full, range_execution, range_of, reply_execution, returned_sense}
-pub use disk_array.{Execution.{sense_of, unit_not_supported, write_execution}, Order.{choice, chosen_place, entries_of}}
+pub use disk_array.Execution.{CommandContext, Execution, Reply, aborted_reply, check_condition, command_execution}
+pub use disk_array.Execution.{commands_cleared, execution, good, is_request_sense, queue_full, reply_execution}
+pub use disk_array.{Execution.{returned_sense, sense_of, write_execution}, Order.{choice, chosen_place, entries_of}}
 pub use disk_array.Order.{entry_of, has_none_before, has_ordered, is_head, is_held_back, is_ordered, picked_place}
 pub use disk_array.{Order.{process_at, process_at_if, runnable_by, without_process}, Processes.{Process, bytes_from}}
 pub use disk_array.Processes.{command_at, command_process, payload_bytes, process_by, process_if, process_of, same_id}

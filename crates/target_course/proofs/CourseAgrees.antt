@@ -295,15 +295,15 @@ served_is s rows n c front closed course = go (process_served s k) refl (front.s
 moved_is : (a : Array) (p : Process) (f : ProcessState) (writes : Bool) → writes ≡ is_writing p → f.plan.status ≡ (reply_now a p).status → f.plan.in_len ≡ length (reply_now a p).bytes
     → (is_writing p ≡ true → (f.plan.status == GOOD) ≡ true → f.plan.out_len ≡ length p.sent) → moved_by f.plan writes ≡ moved_count p (reply_now a p)
 moved_is a p f writes w e l out =
-    (λ i. if f.plan.status == GOOD then (if w i then f.plan.out_len else f.plan.in_len) else 0)
+    (λ i. if w i then (if f.plan.status == GOOD then f.plan.out_len else 0) else f.plan.in_len)
     ∙ go (f.plan.status == GOOD) (is_writing p) (λ g h. out h g)
-    ∙ (λ i. if e i == GOOD then (if is_writing p then length p.sent else length (reply_now a p).bytes) else 0)
+    ∙ (λ i. length (if is_writing p then (if e i == GOOD then p.sent else []) else (reply_now a p).bytes))
   where
     go : (g h : Bool) → (g ≡ true → h ≡ true → f.plan.out_len ≡ length p.sent)
-        → (if g then (if h then f.plan.out_len else f.plan.in_len) else 0) ≡ (if g then (if h then length p.sent else length (reply_now a p).bytes) else 0)
+        → (if h then (if g then f.plan.out_len else 0) else f.plan.in_len) ≡ length (if h then (if g then p.sent else []) else (reply_now a p).bytes)
     go true true z = z refl refl
-    go true false z = l
-    go false h z = refl
+    go false true z = refl
+    go g false z = l
 
 command_is : (s : ScenarioValue) (k : RunState) (p : Process) (c : CourseState) (f : ProcessState) (t : Task) → c.block ≡ p.cdb → IsStateOf s k p f → IsOutlookOf s k p f
     → t.writes ≡ is_writing p → t.moved ≡ moved_count p (reply_now (array_of s k) p) → t.blocks ≡ blocks_in (range_in (command_of p.cdb)) → t.size ≡ f.size → IsSameCommand (task_by c f) t

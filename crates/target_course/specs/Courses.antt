@@ -124,7 +124,7 @@ course_after w l c = record (if c.known then c else course_told w c) { plan = pl
 -- ---- what it decides by
 
 abbrev pub moved_by : outlook.Plan → Bool → ℕ
-moved_by plan writes = if plan.status == GOOD then (if writes then plan.out_len else plan.in_len) else 0
+moved_by plan writes = if writes then (if plan.status == GOOD then plan.out_len else 0) else plan.in_len
 
 abbrev pub status_known : outlook.Plan → Option ℕ → ℕ
 status_known plan None = plan.status

@@ -161,16 +161,16 @@ fn leaves_command(hearing: &Hearing, plan: &Plan) -> bool
         && !plan.struck
 }
 
-// How many bytes it moves: none where it does not end GOOD.
+// How many bytes it moves: what a write sends, where it ends GOOD; of any other what its reply gives.
 fn moved_by(plan: &disk_unit::Plan, writes: bool) -> u64
     ensures { result ≡ moved_by plan.now writes }
 {
-    if plan.status != GOOD {
-        0
-    } else if writes {
+    if !writes {
+        u64::from(plan.in_len)
+    } else if plan.status == GOOD {
         u64::from(plan.out_len)
     } else {
-        u64::from(plan.in_len)
+        0
     }
 }
 

@@ -1,103 +1,71 @@
 -- What a command answers where its unit is not there.
-use Rattle.std.proofs.Common.{ℕ, ◌≡◌, ◌<◌, ◌+◌, ◌≤◌, Bool, true, false, List, [], ◌∷◌, ◌∙◌, refl, sym, subst, length, take, drop, min, arith, Option, Some, None, Result, Ok, Err}
-use Rattle.std.specs.Prelude.{if◌then◌else◌, ◌&&◌, ◌==◌, not, is_some, slice_index, slice_index_or}
-use Rattle.std.proofs.lemmas.Bool.{eqb-true}
+use Rattle.std.proofs.Common.{ℕ, ◌≡◌, ◌<◌, ◌+◌, ◌≤◌, Bool, true, false, List, [], ◌∷◌, ◌∙◌, refl, sym, subst, length}
+use Rattle.std.proofs.Common.{take, drop, min, arith, Option, Some, None, Result, Ok, Err}
+use Rattle.std.specs.Prelude.{if◌then◌else◌, ◌&&◌, ◌==◌, not, is_some, slice_index_or}
 use Rattle.std.proofs.lemmas.List.{length-take}
 use Rattle.cdb_codec.specs.declared.Sense.{Sense}
 use Rattle.cdb_codec.specs.declared.operation.TheConstants.{INQUIRY, REQUEST_SENSE}
 use Rattle.cdb_codec.specs.declared.replies.TheConstants.{SENSE_LEN, INQUIRY_LEN}
 use Rattle.cdb_codec.specs.Replies.{sense_data, inquiry_data}
-use Rattle.cdb_codec.specs.declared.operation.Operation.TheVariants as operations
 use Rattle.cdb_codec.specs.declared.command.Command.{Command}
-use Rattle.cdb_codec.specs.declared.command.Command.TheVariants as commands
 use Rattle.cdb_codec.specs.declared.command.CdbFault.{CdbFault}
-use Rattle.cdb_codec.specs.declared.command.CdbFault.TheVariants as faults
-use Rattle.cdb_codec.specs.Operations.{operation_of}
-use Rattle.cdb_codec.specs.Cdb.{command_of, sized_of, has_group_len, are_zero, spare_room}
+use Rattle.cdb_codec.specs.Cdb.{command_of}
 use Rattle.disk_array.specs.Contents.{Contents, no_contents}
-use Rattle.disk_array.specs.Execution.{Reply, CommandContext, execution, attention_execution, cdb_execution, reply_execution, check_condition, unit_not_supported, is_opcode, is_request_sense, heeds_attention, invalid_field, returned_sense}
-use Rattle.disk_array.specs.Seats
+use Rattle.disk_array.specs.Execution.{Reply, CommandContext, execution, check_condition, unit_not_supported, is_opcode}
+use Rattle.disk_array.specs.Execution.{is_request_sense, invalid_field, returned_sense}
 use Rattle.disk_array.specs.Seats.{Seat}
 use Rattle.disk_unit.proofs.Replies.{take_part}
-use Rattle.target_units.specs.Absent.{AbsentState, IsAbsentAt, absent_reply, absent_reply_by, data_or_refusal, inquiry_room, sense_room}
-use Rattle.target_units.proofs.SenseBlocks.{heeds_none}
-
--- ---- a block whose operation code is that of INQUIRY is an INQUIRY, or has a fault of length or fields
-
-abbrev is_inquiry_or_faulty : Result Command CdbFault → Bool
-is_inquiry_or_faulty (Ok (commands.Inquiry room)) = true
-is_inquiry_or_faulty (Ok commands.TestUnitReady) = false
-is_inquiry_or_faulty (Ok (commands.RequestSense room)) = false
-is_inquiry_or_faulty (Ok (commands.Read6 lba count)) = false
-is_inquiry_or_faulty (Ok (commands.Write6 lba count)) = false
-is_inquiry_or_faulty (Ok commands.ReadCapacity) = false
-is_inquiry_or_faulty (Ok (commands.Read10 lba count)) = false
-is_inquiry_or_faulty (Ok (commands.Write10 lba count)) = false
-is_inquiry_or_faulty (Err faults.Opcode) = false
-is_inquiry_or_faulty (Err faults.Length) = true
-is_inquiry_or_faulty (Err faults.Field) = true
-
-sized_inquiry : (cdb : List ℕ) → is_inquiry_or_faulty (sized_of (Some operations.Inquiry) cdb) ≡ true
-sized_inquiry cdb = go (has_group_len cdb) (are_zero (spare_room cdb))
-  where
-    go : (y z : Bool) → is_inquiry_or_faulty (if y then (if z then Ok (commands.Inquiry (slice_index cdb 4)) else Err faults.Field) else Err faults.Length) ≡ true
-    go true true = refl
-    go true false = refl
-    go false z = refl
-
-inquiry_command : (cdb : List ℕ) → is_opcode cdb INQUIRY ≡ true → is_inquiry_or_faulty (command_of cdb) ≡ true
-inquiry_command cdb h = go (length cdb == 0) h
-  where
-    go : (y : Bool) → (not y && slice_index cdb 0 == INQUIRY) ≡ true → is_inquiry_or_faulty (if y then Err faults.Length else sized_of (operation_of (slice_index cdb 0)) cdb) ≡ true
-    go true k = refl
-    go false k =
-        let code : slice_index cdb 0 ≡ INQUIRY = eqb-true (slice_index cdb 0) INQUIRY k in
-        (λ i. is_inquiry_or_faulty (sized_of (operation_of (code i)) cdb)) ∙ sized_inquiry cdb
+use Rattle.target_units.specs.Absent.{AbsentState, IsAbsentAt, absent_reply, absent_reply_by, data_or_refusal}
+use Rattle.target_units.specs.Absent.{inquiry_room, sense_room}
+use Rattle.disk_array.proofs.OperationCodes.{is_inquiry_or_faulty, inquiry_command}
+use Rattle.disk_array.proofs.Executed.{Passes, absent_executed, faulty_executed, carried_executed}
+use Rattle.disk_array.proofs.ExecutionFacts.{sense_executed}
+use Rattle.cdb_codec.specs.declared.command.Command.TheVariants as commands
+use Rattle.cdb_codec.specs.declared.command.CdbFault.TheVariants as faults
+use Rattle.disk_array.specs.Seats
 
 -- ---- the reply
 
-pub replies : (stored attention : Option Sense) (c : Contents) (cdb sent : List ℕ) → (execution (record { present = false; contents = c; stored = stored; attention = attention }) cdb sent).reply ≡ absent_reply_by stored (is_opcode cdb INQUIRY) (command_of cdb)
-replies stored attention c cdb sent = go (is_opcode cdb INQUIRY) refl (command_of cdb) refl
+pub replies : (stored attention : Option Sense) (c : Contents) (cdb sent : List ℕ)
+    → (execution (record { present = false; contents = c; stored = stored; attention = attention }) cdb sent).reply ≡ absent_reply_by stored (is_opcode cdb INQUIRY) (command_of cdb)
+replies stored attention c cdb sent = go (is_opcode cdb INQUIRY) refl
   where
     m : CommandContext
     m = record { present = false; contents = c; stored = stored; attention = attention }
 
-    past : heeds_attention cdb ≡ false → (a : Option Sense) → attention_execution m a cdb sent ≡ cdb_execution m (command_of cdb) sent
-    past n None = refl
-    past n (Some a) = λ i. if n i then record { contents = c; reported = true; reply = check_condition a } else cdb_execution m (command_of cdb) sent
+    passes : is_opcode cdb INQUIRY ≡ true → Passes m cdb
+    passes e = record { there = λ i. not (e i) && not (is_request_sense (command_of cdb)); calm = λ sense a i. not (e i) && not (is_opcode cdb REQUEST_SENSE) }
 
-    inquired : (r : Result Command CdbFault) → is_inquiry_or_faulty r ≡ true → (cdb_execution m r sent).reply ≡ absent_reply_by stored true r
-    inquired (Ok (commands.Inquiry room)) k = refl
-    inquired (Ok commands.TestUnitReady) k = cc
-    inquired (Ok (commands.RequestSense room)) k = cc
-    inquired (Ok (commands.Read6 lba count)) k = cc
-    inquired (Ok (commands.Write6 lba count)) k = cc
-    inquired (Ok commands.ReadCapacity) k = cc
-    inquired (Ok (commands.Read10 lba count)) k = cc
-    inquired (Ok (commands.Write10 lba count)) k = cc
-    inquired (Err faults.Opcode) k = cc
-    inquired (Err faults.Length) k = refl
-    inquired (Err faults.Field) k = refl
+    inquired : is_opcode cdb INQUIRY ≡ true → (r : Result Command CdbFault) → command_of cdb ≡ r → is_inquiry_or_faulty r ≡ true → (execution m cdb sent).reply ≡ absent_reply_by stored true r
+    inquired e (Ok (commands.Inquiry room)) f k = λ i. (carried_executed m cdb sent (commands.Inquiry room) (passes e) f refl i).reply
+    inquired e (Ok commands.TestUnitReady) f k = cc
+    inquired e (Ok (commands.RequestSense room)) f k = cc
+    inquired e (Ok (commands.Read6 lba count)) f k = cc
+    inquired e (Ok (commands.Write6 lba count)) f k = cc
+    inquired e (Ok commands.ReadCapacity) f k = cc
+    inquired e (Ok (commands.Read10 lba count)) f k = cc
+    inquired e (Ok (commands.Write10 lba count)) f k = cc
+    inquired e (Err faults.Opcode) f k = cc
+    inquired e (Err faults.Length) f k = λ i. (faulty_executed m cdb sent faults.Length (passes e) f i).reply
+    inquired e (Err faults.Field) f k = λ i. (faulty_executed m cdb sent faults.Field (passes e) f i).reply
 
-    other : (r : Result Command CdbFault) → command_of cdb ≡ r → (if not (is_request_sense r) then reply_execution m (check_condition unit_not_supported) else attention_execution m attention cdb sent).reply ≡ absent_reply_by stored false r
-    other (Ok (commands.RequestSense room)) e =
-        (λ i. (past (heeds_none cdb (λ j. is_request_sense (e j))) attention i).reply)
-        ∙ (λ i. (cdb_execution m (e i) sent).reply)
-    other (Ok commands.TestUnitReady) e = refl
-    other (Ok (commands.Read6 lba count)) e = refl
-    other (Ok (commands.Write6 lba count)) e = refl
-    other (Ok (commands.Inquiry room)) e = refl
-    other (Ok commands.ReadCapacity) e = refl
-    other (Ok (commands.Read10 lba count)) e = refl
-    other (Ok (commands.Write10 lba count)) e = refl
-    other (Err fault) e = refl
+    refused : is_opcode cdb INQUIRY ≡ false → (r : Result Command CdbFault) → command_of cdb ≡ r → is_request_sense r ≡ false → (execution m cdb sent).reply ≡ check_condition unit_not_supported
+    refused e r f z = λ i. (absent_executed m cdb sent (λ j. not (e j) && not (((λ k. is_request_sense (f k)) ∙ z) j)) i).reply
 
-    go : (y : Bool) → is_opcode cdb INQUIRY ≡ y → (r : Result Command CdbFault) → command_of cdb ≡ r → (if not y && not (is_request_sense r) then reply_execution m (check_condition unit_not_supported) else attention_execution m attention cdb sent).reply ≡ absent_reply_by stored y r
-    go true e r f =
-        (λ i. (past (λ j. not (e j) && not (is_opcode cdb REQUEST_SENSE)) attention i).reply)
-        ∙ (λ i. (cdb_execution m (f i) sent).reply)
-        ∙ inquired r ((λ i. is_inquiry_or_faulty (sym f i)) ∙ inquiry_command cdb e)
-    go false e r f = other r f
+    other : is_opcode cdb INQUIRY ≡ false → (r : Result Command CdbFault) → command_of cdb ≡ r → (execution m cdb sent).reply ≡ absent_reply_by stored false r
+    other e (Ok (commands.RequestSense room)) f = λ i. (sense_executed m cdb sent (record { room = room; command_is = f }) i).reply
+    other e (Ok commands.TestUnitReady) f = refused e (Ok commands.TestUnitReady) f refl
+    other e (Ok (commands.Read6 lba count)) f = refused e (Ok (commands.Read6 lba count)) f refl
+    other e (Ok (commands.Write6 lba count)) f = refused e (Ok (commands.Write6 lba count)) f refl
+    other e (Ok (commands.Inquiry room)) f = refused e (Ok (commands.Inquiry room)) f refl
+    other e (Ok commands.ReadCapacity) f = refused e (Ok commands.ReadCapacity) f refl
+    other e (Ok (commands.Read10 lba count)) f = refused e (Ok (commands.Read10 lba count)) f refl
+    other e (Ok (commands.Write10 lba count)) f = refused e (Ok (commands.Write10 lba count)) f refl
+    other e (Err fault) f = refused e (Err fault) f refl
+
+    go : (y : Bool) → is_opcode cdb INQUIRY ≡ y → (execution m cdb sent).reply ≡ absent_reply_by stored y (command_of cdb)
+    go true e = inquired e (command_of cdb) refl (inquiry_command cdb e)
+    go false e = other e (command_of cdb) refl
 
 -- ---- a part of its bytes
 

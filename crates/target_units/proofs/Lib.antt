@@ -1,5 +1,4 @@
 pub mod LiveQueue
-pub mod SenseBlocks
 pub mod SeatSteps
 pub mod AbsentReplies
 pub mod AbsentSteps

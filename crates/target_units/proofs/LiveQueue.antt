@@ -12,7 +12,7 @@ use Rattle.disk_array.specs.Processes.{Process, same_id}
 use Rattle.disk_array.specs.Units.{RunningProcess, UnitState, guest_at, without_guest}
 use Rattle.disk_array.specs.Steps.{running_if, guests_with_reply, kept_guests}
 use Rattle.disk_array.specs.Seats.{is_initiator}
-use Rattle.disk_array.proofs.SeatReplies.{id_self}
+use Rattle.disk_array.proofs.SeatReplies.{id_self, id_turned}
 use Rattle.disk_array.proofs.SeatLookups.{same_id_is}
 use Rattle.tag_queue.specs.Queue.{Queued, has_key, key_of_process}
 use Rattle.disk_unit.specs.Books.{UnitBooks}
@@ -22,13 +22,6 @@ use Rattle.bus_due.specs.RunSteps.{is_same_running}
 use Rattle.target_units.specs.Seated.{AreQueued, running_id, entry_id, id_under, current_id, is_same_process}
 
 -- ---- the same process
-
-pub id_turned : (a b : ProcId) → same_id a b ≡ false → same_id b a ≡ false
-id_turned a b h = go (same_id b a) refl
-  where
-    go : (y : Bool) → same_id b a ≡ y → y ≡ false
-    go false e = refl
-    go true e = let same : b ≡ a = same_id_is b a e in wrong (sym (subst (λ (n : ProcId). same_id n b ≡ true) same (id_self b)) ∙ h)
 
 pub same_is : (a b : Option RunningProcess) → is_same_process (running_id a) (running_id b) ≡ is_same_running a b
 same_is None b = refl
@@ -167,15 +160,6 @@ not_live l u b id h w r = go b.queue.current u.current h.current ((λ i. list_an
         off false m = refl
 
 -- ---- what holds of each
-
--- The number of a guest is that.
-pub guest_id : (guests : List RunningProcess) (id : ProcId) (r : RunningProcess) → guest_at guests id ≡ Some r → r.process.id ≡ id
-guest_id [] id r h = cc
-guest_id (g ∷ guests) id r h = go (same_id g.process.id id) refl h (λ k. guest_id guests id r k)
-  where
-    go : (y : Bool) → same_id g.process.id id ≡ y → (if y then Some g else guest_at guests id) ≡ Some r → (guest_at guests id ≡ Some r → r.process.id ≡ id) → r.process.id ≡ id
-    go true e k more = let same : g ≡ r = cc in subst (λ (q : RunningProcess). q.process.id ≡ id) same (same_id_is g.process.id id e)
-    go false e k more = more k
 
 pub record IsQueued (hosts : List HostDef) (guests : List RunningProcess) (p : Process) : Type 0 where
   pub sense : is_request_sense (command_of p.cdb) ≡ false

@@ -1,15 +1,14 @@
 -- The memory for what is still written, as the array goes on; and what a process that runs needs of it.
-use Rattle.std.proofs.Common.{ℕ, zero, suc, ◌≡◌, ◌+◌, ◌*◌, ◌≤◌, ◌<◌, Bool, true, false, List, [], ◌∷◌, length, ◌∙◌, refl, sym, ap, subst, cond, arith, Option, Some, None, Result, Ok, Err}
-use Rattle.std.specs.Prelude.{if◌then◌else◌, ◌&&◌, ◌==◌, is_none, is_some, not, nat_lt, nat_le}
+use Rattle.std.proofs.Common.{ℕ, zero, suc, ◌≡◌, ◌+◌, ◌*◌, ◌≤◌, ◌<◌, Bool, true, false, List, [], ◌∷◌, length, ◌∙◌}
+use Rattle.std.proofs.Common.{refl, sym, ap, subst, cond, arith, Option, Some, None, Result, Ok, Err}
+use Rattle.std.specs.Prelude.{if◌then◌else◌, ◌&&◌, ◌==◌, is_none, nat_lt, nat_le}
 use Rattle.std.specs.List.{find}
 use Rattle.std.proofs.lemmas.Bool.Decides.{nat_tests}
 use Rattle.bus_base.specs.declared.Event.{Event}
 use Rattle.bus_base.specs.declared.ProcId.{ProcId}
 use Rattle.cdb_codec.specs.Blocks.{blocks_moved}
 use Rattle.cdb_codec.specs.Cdb.{command_of}
-use Rattle.cdb_codec.specs.declared.Sense.{Sense}
 use Rattle.cdb_codec.specs.declared.command.Command.{Command}
-use Rattle.cdb_codec.specs.declared.command.Command.TheVariants as commands
 use Rattle.cdb_codec.specs.declared.command.CdbFault.{CdbFault}
 use Rattle.cdb_codec.specs.declared.status.TheConstants.{GOOD}
 use Rattle.scenario.specs.declared.value.CmdDef.{CmdDef}
@@ -20,11 +19,13 @@ use Rattle.scenario.specs.Needs.{is_write, moved_by, need_of, sent_of}
 use Rattle.scenario.specs.Value.{ScenarioValue}
 use Rattle.disk_array.specs.ArrayHistory.{array_after, array_step, reply_in}
 use Rattle.disk_array.specs.Contents.{Contents, blank_contents, filled_contents, starting_contents, with_block}
-use Rattle.disk_array.specs.Execution.{Reply, CommandContext, execution, attention_execution, cdb_execution, command_execution, reply_execution, heeds_attention, needs_unit, is_good_range, range_of, is_request_sense, check_condition, block_out_of_range, unit_not_supported, queue_full}
-use Rattle.disk_array.specs.Processes.{Process, process_of, process_if, process_by, command_at, payload_bytes, sense_block, same_id}
+use Rattle.disk_array.specs.Execution.{Reply, execution, is_good_range, range_of, is_request_sense, queue_full}
+use Rattle.disk_array.specs.Processes.{Process, process_of, process_if, process_by, command_at, payload_bytes}
+use Rattle.disk_array.specs.Processes.{sense_block, same_id}
 use Rattle.disk_array.specs.Seats.{seat_of, contents_of, context_of}
 use Rattle.disk_array.specs.SoundArray.{IsOwn}
-use Rattle.disk_array.specs.Units.{Array, UnitState, starting_array, starting_unit, starting_units, settled_array, unit_state_at}
+use Rattle.disk_array.specs.Units.{Array, UnitState, starting_array, starting_unit, starting_units, settled_array}
+use Rattle.disk_array.specs.Units.{unit_state_at}
 use Rattle.disk_array.proofs.SeatReplies.{id_self}
 use Rattle.disk_unit.specs.Disk.{blocks_written, blocks_written_by, written_of}
 use Rattle.scsi_device.specs.Lines.{FitsBus, IsCommandLine}
@@ -35,8 +36,11 @@ use Rattle.target_units.specs.declared.logical.LogicalUnit.{LogicalUnit}
 use Rattle.target_units.specs.Units.{HaveRoom, spare_of, unit_in}
 use Rattle.target_units.specs.Rooms.{blocks_left, blocks_left_at, IsOfLine, AreOfLines, HasRoomFor}
 use Rattle.target_units.proofs.Starts.{start_settled}
-use Rattle.target_units.proofs.UnitTimes.{HasSameExtent, extent_self, extent_more, AreSame, HasMore, one_more, IsLater, step_later}
+use Rattle.disk_array.proofs.WholeBlocks.{HasSameExtent, extent_self, extent_more}
+use Rattle.target_units.proofs.UnitTimes.{AreSame, HasMore, one_more, IsLater, step_later}
 use Rattle.disk_array.proofs.SeatLookups.{never_first}
+use Rattle.disk_array.proofs.ExecutionFacts.{good_range}
+use Rattle.cdb_codec.specs.declared.command.Command.TheVariants as commands
 
 -- ---- the blocks of a unit stay those of its line
 
@@ -184,26 +188,6 @@ by_line s p e plain = go (command_at s.commands p.id.command) refl e
 
 -- ---- what it sends are the bytes of the blocks that it names
 
--- Where a command without fault is carried out its range is good.
-pub good_range : (m : CommandContext) (cdb sent : List ℕ) (c : Command) → m.present ≡ true → command_of cdb ≡ Ok c → (execution m cdb sent).reply.status ≡ GOOD → is_good_range m.contents.count (range_of c) ≡ true
-good_range m cdb sent c there is e =
-    by m.attention ((λ i. (if not (sym there i) && needs_unit cdb then reply_execution m (check_condition unit_not_supported) else attention_execution m m.attention cdb sent).reply.status) ∙ e)
-  where
-    ranged : (y : Bool) → is_good_range m.contents.count (range_of c) ≡ y → (if y then command_execution m c sent else reply_execution m (check_condition block_out_of_range)).reply.status ≡ GOOD → is_good_range m.contents.count (range_of c) ≡ true
-    ranged true f k = f
-    ranged false f k = absurd (omega (arith, k))
-
-    plain : (cdb_execution m (command_of cdb) sent).reply.status ≡ GOOD → is_good_range m.contents.count (range_of c) ≡ true
-    plain k = ranged (is_good_range m.contents.count (range_of c)) refl ((λ i. (cdb_execution m (sym is i) sent).reply.status) ∙ k)
-
-    by : (o : Option Sense) → (attention_execution m o cdb sent).reply.status ≡ GOOD → is_good_range m.contents.count (range_of c) ≡ true
-    by None k = plain k
-    by (Some sense) k = go (heeds_attention cdb) k
-      where
-        go : (y : Bool) → (if y then record { contents = m.contents; reported = true; reply = check_condition sense } else cdb_execution m (command_of cdb) sent).reply.status ≡ GOOD → is_good_range m.contents.count (range_of c) ≡ true
-        go true z = absurd (omega (arith, z))
-        go false z = plain z
-
 -- What a write needs at a unit of this line, whose blocks are these.
 sends_by : (r : Result Command CdbFault) (u : UnitDef) (c : Contents) → c.count ≡ u.blocks → c.size ≡ u.size → ((command : Command) → r ≡ Ok command → is_good_range c.count (range_of command) ≡ true)
     → (if is_write r then moved_by r (Some u) else 0) ≡ blocks_written_by c r * c.size
@@ -278,7 +262,7 @@ sends s a p fits lines target is plain =
         sends_by (command_of p.cdb) u v.contents h.0 h.1
         (λ command e.
         (λ i. is_good_range (contents_of (sym f i)).count (range_of command))
-        ∙ good_range (context_of (seat_of a p.target p.unit) p.initiator) p.cdb p.sent command (λ i. is_some (f i)) e good)
+        ∙ good_range (context_of (seat_of a p.target p.unit) p.initiator) p.cdb p.sent command e good)
 
 -- ---- a process that runs
 

@@ -1,51 +1,64 @@
 -- A unit at its seat after each event and the choice that follows it.
-use Rattle.std.proofs.Common.{ℕ, ◌≡◌, ◌<◌, ◌≤◌, ◌+◌, ◌*◌, length, take, arith, Bool, true, false, List, [], ◌∷◌, ◌++◌, ◌∙◌, refl, sym, subst, Option, Some, None, Result, Ok, Err}
+use Rattle.std.proofs.Common.{ℕ, ◌≡◌, ◌<◌, ◌≤◌, ◌+◌, ◌*◌, length, take, arith, Bool, true, false, List, [], ◌∷◌, ◌++◌}
+use Rattle.std.proofs.Common.{◌∙◌, refl, sym, subst, Option, Some, None, Result, Ok, Err}
 use Rattle.std.specs.Prelude.{if◌then◌else◌, ◌&&◌, ◌||◌, ◌==◌, not, nat_le, is_some, is_none}
 use Rattle.std.proofs.lemmas.Bool.{eqb-true, and_from, le-leb}
 use Rattle.std.proofs.lemmas.List.{take_all}
 use Rattle.bus_base.specs.declared.AbortKind.{AbortKind}
-use Rattle.bus_base.specs.declared.AbortKind.TheVariants as aborts
 use Rattle.bus_base.specs.declared.ProcId.{ProcId}
 use Rattle.bus_base.specs.declared.events.Class.{Class}
 use Rattle.bus_base.specs.declared.events.Pick.{Pick}
 use Rattle.cdb_codec.specs.declared.Sense.{Sense}
 use Rattle.cdb_codec.specs.declared.status.TheConstants.{GOOD, CHECK_CONDITION}
 use Rattle.cdb_codec.specs.declared.command.Command.{Command}
-use Rattle.cdb_codec.specs.declared.command.Command.TheVariants as commands
 use Rattle.cdb_codec.specs.declared.command.CdbFault.{CdbFault}
-use Rattle.cdb_codec.specs.declared.command.CdbFault.TheVariants as faults
 use Rattle.cdb_codec.specs.Cdb.{command_of}
 use Rattle.scenario.specs.declared.value.HostDef.{HostDef}
 use Rattle.disk_array.specs.declared.entries.Entry.{Entry}
 use Rattle.disk_array.specs.Contents.{Contents}
-use Rattle.disk_array.specs.Execution.{Reply, CommandContext, Execution, execution, attention_execution, heeds_attention, needs_unit, unit_not_supported, cdb_execution, command_execution, reply_execution, check_condition, block_out_of_range, is_good_range, range_of, is_request_sense, queue_full, aborted_reply}
+use Rattle.disk_array.specs.Execution.{Reply, Execution, execution, check_condition, is_good_range, range_of}
+use Rattle.disk_array.specs.Execution.{is_request_sense, queue_full, aborted_reply}
 use Rattle.disk_array.specs.Order.{entry_of, choice}
 use Rattle.disk_array.specs.Processes.{Process, same_id}
 use Rattle.disk_array.specs.Units.{RunningProcess, UnitState, with_current, has_no_current, guest_at, without_guest}
-use Rattle.disk_array.specs.Steps.{process_count, running_if, current_with_reply, unit_without, guests_with_reply, kept_running, kept_guests, has_tag}
-use Rattle.disk_array.specs.Seats
+use Rattle.disk_array.specs.Steps.{process_count, running_if, current_with_reply, unit_without, guests_with_reply}
+use Rattle.disk_array.specs.Steps.{kept_running, kept_guests, has_tag}
 use Rattle.disk_array.specs.Seats.{Seat, unit_with_choice, unit_with_reply, unit_with_contents, unit_kept}
-use Rattle.disk_array.proofs.SeatReplies.{id_self}
+use Rattle.disk_array.proofs.SeatReplies.{id_self, guest_id}
 use Rattle.disk_array.proofs.SeatLookups.{same_id_is}
 use Rattle.tag_queue.specs.Queue.{key_of_process}
-use Rattle.tag_queue.specs.declared.those.Those.TheVariants as those
 use Rattle.disk_unit.specs.AtSeats.{IsUnitAt}
-use Rattle.disk_unit.specs.Books.{UnitBooks, block_at, attention_at, initiator_at, books_with, books_after_choice, books_after_end, books_without, books_after_abort, books_after_abort_tag, books_after_reset}
-use Rattle.disk_unit.specs.Books
-use Rattle.disk_unit.specs.Disk.{blocks_written, blocks_written_by, written_of, disk_execution, disk_reply, disk_extent, is_carried_out, disk_context}
+use Rattle.disk_unit.specs.Books.{UnitBooks, block_at, attention_at, initiator_at, books_with, books_after_choice}
+use Rattle.disk_unit.specs.Books.{books_after_end, books_without, books_after_abort, books_after_abort_tag}
+use Rattle.disk_unit.specs.Books.{books_after_reset}
+use Rattle.disk_unit.specs.Disk.{blocks_written, blocks_written_by, written_of, disk_execution, disk_reply, disk_extent}
+use Rattle.disk_unit.specs.Disk.{is_carried_out, disk_context}
 use Rattle.disk_unit.specs.Keeping.{books_after_status}
-use Rattle.disk_unit.specs.LiveCommands.{LiveCommand, HasLive, IsCurrentOf, process_under, has_process, queued_of, live_but, has_this_key, is_one_of}
+use Rattle.disk_unit.specs.LiveCommands.{LiveCommand, HasLive, IsCurrentOf, process_under, has_process, queued_of}
+use Rattle.disk_unit.specs.LiveCommands.{live_but, has_this_key, is_one_of}
 use Rattle.disk_unit.specs.Plans.{sense_if}
-use Rattle.disk_unit.specs.Units
-use Rattle.disk_unit.specs.Units.{IsAborted, is_reported, reply_with, entry_with, told_of, books_if_reported, unit_reply}
+use Rattle.disk_unit.specs.Units.{IsAborted, is_reported, reply_with, entry_with, told_of, books_if_reported}
+use Rattle.disk_unit.specs.Units.{unit_reply}
 use Rattle.disk_unit.specs.declared.unit.Accepted.{Accepted}
-use Rattle.disk_unit.specs.declared.unit.Accepted.TheVariants as accepted
 use Rattle.disk_unit.specs.declared.unit.Reply.{Reply as UnitReply}
-use Rattle.disk_unit.proofs.AtSeats as seats
 use Rattle.disk_unit.proofs.LiveCommands.{process_found, room_is}
 use Rattle.bus_due.specs.RunSteps.{is_same_running}
 use Rattle.target_units.specs.Rooms.{HasRoomFor}
-use Rattle.target_units.specs.Seated.{SeatedState, IsSeated, IsAtSeat, IsSince, current_reply, reply_told, current_id, running_id, is_same_process, seat_time, settled, since_after, reply_kept, with_books, AreQueued, IsProcess, IsNew, IsArrived, IsRun, IsRunLive, can_run, taken_at, HasSent, state_after_failure, state_after_end, state_ended, state_after_loss, books_after_guest, books_by_guest, IsSensing, IsCut}
+use Rattle.target_units.specs.Seated.{SeatedState, IsSeated, IsAtSeat, IsSince, current_reply, reply_told, current_id}
+use Rattle.target_units.specs.Seated.{running_id, is_same_process, seat_time, settled, since_after, reply_kept}
+use Rattle.target_units.specs.Seated.{with_books, AreQueued, IsProcess, IsNew, IsArrived, IsRun, IsRunLive, can_run}
+use Rattle.target_units.specs.Seated.{taken_at, HasSent, state_after_failure, state_after_end, state_ended}
+use Rattle.target_units.specs.Seated.{state_after_loss, books_after_guest, books_by_guest, IsSensing, IsCut}
+use Rattle.disk_array.proofs.Executed.{carried_executed}
+use Rattle.disk_array.proofs.ExecutionFacts.{command_good, sense_block_of, sense_executed, sent_apart, undone}
+use Rattle.bus_base.specs.declared.AbortKind.TheVariants as aborts
+use Rattle.cdb_codec.specs.declared.command.Command.TheVariants as commands
+use Rattle.disk_array.specs.Seats
+use Rattle.tag_queue.specs.declared.those.Those.TheVariants as those
+use Rattle.disk_unit.specs.Books
+use Rattle.disk_unit.specs.Units
+use Rattle.disk_unit.specs.declared.unit.Accepted.TheVariants as accepted
+use Rattle.disk_unit.proofs.AtSeats as seats
 use Rattle.target_units.proofs.LiveQueue as queue
 
 some_none : {A : Type 0} {X : Type 0} (x : A) → None ≡ Some x → X
@@ -468,7 +481,7 @@ pub guest_ends : (hosts : List HostDef) (seat after : Seat) (time now : ℕ) (v 
     → guest_at seat.guests id ≡ Some (record { process = p; reply = Some given }) → p.initiator ≡ from → reply ≡ told_of given → IsSensing given p senses → Seats.seat_after_end id status seat ≡ Some after
     → AtAfter hosts seat after time now (settled (current_id v.books) now (with_books v (books_after_guest v.books from reply senses)))
 guest_ends hosts seat after time now v from reply senses status id p given lt h g initiator told sense e =
-    let same : p.id ≡ id = queue.guest_id seat.guests id (record { process = p; reply = Some given }) g in
+    let same : p.id ≡ id = guest_id seat.guests id (record { process = p; reply = Some given }) g in
     let own : guest_at seat.guests p.id ≡ Some (record { process = p; reply = Some given }) = subst (λ (n : ProcId). guest_at seat.guests n ≡ Some (record { process = p; reply = Some given })) (sym same) g in
     let fresh : has_process h.0 p.id ≡ false = queue.guest_not_live hosts seat.guests h.0 p.id (record { process = p; reply = Some given }) h.2.queued own in
     let next : Seat = Seats.seat_without (Seats.seat_after_status seat p given) p.id in
@@ -537,31 +550,9 @@ aborts_at hosts seat time now v w kind by lt cut h = cuts hosts seat time now v 
 
 -- ---- a command runs
 
--- Without a fault, and with a good range, a command ends GOOD.
-command_good : (c : Contents) (command : Command) → (command_execution (disk_context c) command []).reply.status ≡ GOOD
-command_good c commands.TestUnitReady = refl
-command_good c (commands.RequestSense room) = refl
-command_good c (commands.Read6 lba count) = refl
-command_good c (commands.Write6 lba count) = refl
-command_good c (commands.Inquiry room) = refl
-command_good c commands.ReadCapacity = refl
-command_good c (commands.Read10 lba count) = refl
-command_good c (commands.Write10 lba count) = refl
-
 -- A command that is not carried out changes nothing, whatever was sent.
 not_carried : (c : Contents) (cdb sent : List ℕ) → is_carried_out c cdb ≡ false → (disk_execution c cdb sent).contents ≡ c
-not_carried c cdb sent h = go (command_of cdb) h
-  where
-    good : (command : Command) (y : Bool) → ((if y then command_execution (disk_context c) command [] else reply_execution (disk_context c) (check_condition block_out_of_range)).reply.status == GOOD) ≡ false
-        → (if y then command_execution (disk_context c) command sent else reply_execution (disk_context c) (check_condition block_out_of_range)).contents ≡ c
-    good command true k = let bad : true ≡ false = (λ i. sym (command_good c command) i == GOOD) ∙ k in cc
-    good command false k = refl
-
-    go : (r : Result Command CdbFault) → ((cdb_execution (disk_context c) r []).reply.status == GOOD) ≡ false → (cdb_execution (disk_context c) r sent).contents ≡ c
-    go (Ok command) k = good command (is_good_range c.count (range_of command)) k
-    go (Err faults.Opcode) k = refl
-    go (Err faults.Length) k = refl
-    go (Err faults.Field) k = refl
+not_carried c cdb sent h = (undone (disk_context c) cdb sent ((λ i. (sent_apart (disk_context c) cdb sent [] i).status == GOOD) ∙ h)).contents
 
 unreported : (attention : Option Sense) (cdb : List ℕ) (reply : Reply) → is_reported attention cdb ≡ false → reply_with attention cdb reply ≡ reply
 unreported None cdb reply h = refl
@@ -639,16 +630,17 @@ run_reply r p reply kept e h =
 
 -- A command that is not carried out writes no blocks.
 not_written : (c : Contents) (cdb : List ℕ) → is_carried_out c cdb ≡ false → blocks_written c cdb ≡ 0
-not_written c cdb h = go (command_of cdb) h
+not_written c cdb h = go (command_of cdb) refl
   where
-    ranged : (command : Command) (y : Bool) → ((if y then command_execution (disk_context c) command [] else reply_execution (disk_context c) (check_condition block_out_of_range)).reply.status == GOOD) ≡ false
-        → (if y then written_of command else 0) ≡ 0
-    ranged command false k = refl
-    ranged command true k = let bad : true ≡ false = (λ i. sym (command_good c command) i == GOOD) ∙ k in cc
+    ranged : (command : Command) → command_of cdb ≡ Ok command → (y : Bool) → is_good_range c.count (range_of command) ≡ y → (if y then written_of command else 0) ≡ 0
+    ranged command e false g = refl
+    ranged command e true g =
+        let done = carried_executed (disk_context c) cdb [] command (record { there = refl; calm = λ sense a. some_none sense a }) e g in
+        let bad : true ≡ false = (λ i. sym (command_good (disk_context c) command []) i == GOOD) ∙ (λ i. (sym done i).reply.status == GOOD) ∙ h in cc
 
-    go : (r : Result Command CdbFault) → ((cdb_execution (disk_context c) r []).reply.status == GOOD) ≡ false → blocks_written_by c r ≡ 0
-    go (Ok command) k = ranged command (is_good_range c.count (range_of command)) k
-    go (Err fault) k = refl
+    go : (r : Result Command CdbFault) → command_of cdb ≡ r → blocks_written_by c r ≡ 0
+    go (Ok command) e = ranged command e (is_good_range c.count (range_of command)) refl
+    go (Err fault) e = refl
 
 -- The command of this key may run with these bytes, and they are those of the process where it is carried out.
 record MayRun (seat : Seat) (v : SeatedState) (key : ℕ) (p : Process) (sent : List ℕ) : Type 0 where
@@ -753,32 +745,6 @@ runs_plain hosts seat time v id p h none running_is =
 
 -- ---- a REQUEST SENSE runs outside the queue
 
-record IsKeptBy (m : CommandContext) (done : Execution) : Type 0 where
-  contents : done.contents ≡ m.contents
-  reported : done.reported ≡ false
-
-sense_kept : (m : CommandContext) (cdb sent : List ℕ) → is_request_sense (command_of cdb) ≡ true → heeds_attention cdb ≡ false → IsKeptBy m (execution m cdb sent)
-sense_kept m cdb sent f heeds = all (not m.present && needs_unit cdb)
-  where
-    by : (r : Result Command CdbFault) → is_request_sense r ≡ true → IsKeptBy m (cdb_execution m r sent)
-    by (Ok (commands.RequestSense room)) k = record { contents = refl; reported = refl }
-    by (Ok commands.TestUnitReady) k = cc
-    by (Ok (commands.Read6 lba count)) k = cc
-    by (Ok (commands.Write6 lba count)) k = cc
-    by (Ok (commands.Inquiry room)) k = cc
-    by (Ok commands.ReadCapacity) k = cc
-    by (Ok (commands.Read10 lba count)) k = cc
-    by (Ok (commands.Write10 lba count)) k = cc
-    by (Err fault) k = cc
-
-    by_attention : (a : Option Sense) → IsKeptBy m (attention_execution m a cdb sent)
-    by_attention None = by (command_of cdb) f
-    by_attention (Some a) = subst (λ (y : Bool). IsKeptBy m (if y then record { contents = m.contents; reported = true; reply = check_condition a } else cdb_execution m (command_of cdb) sent)) (sym heeds) (by (command_of cdb) f)
-
-    all : (y : Bool) → IsKeptBy m (if y then reply_execution m (check_condition unit_not_supported) else attention_execution m m.attention cdb sent)
-    all true = record { contents = refl; reported = refl }
-    all false = by_attention m.attention
-
 guest_run_step : (seat after : Seat) (id : ProcId) (r : RunningProcess) → guest_at seat.guests id ≡ Some r → Seats.seat_after_run id seat ≡ Some after → Seats.seat_with_execution seat r.process (done_at seat r.process) ≡ after
 guest_run_step seat after id r g e =
     go (is_none r.reply) ((λ i. Seats.seat_after_run_of seat (is_some (sym g i)) (if is_some (sym g i) then sym g i else running_if (Seats.current_of seat.unit) id)) ∙ e)
@@ -816,19 +782,19 @@ other_kept (Some r) id reply h = go (same_id r.process.id id) h
     go false k = refl
 
 pub guest_runs : (hosts : List HostDef) (seat after : Seat) (time now : ℕ) (v w : SeatedState) (id : ProcId) (r : RunningProcess) (sent : List ℕ) (result : Option UnitReply) → IsRunLive v sent (key_of_process v.books.queue.arrived id) result w → IsAtSeat hosts seat time v
-    → guest_at seat.guests id ≡ Some r → is_request_sense (command_of r.process.cdb) ≡ true → heeds_attention r.process.cdb ≡ false → Seats.seat_after_run id seat ≡ Some after
+    → guest_at seat.guests id ≡ Some r → is_request_sense (command_of r.process.cdb) ≡ true → Seats.seat_after_run id seat ≡ Some after
     → AtAfter hosts seat after time now (settled (current_id v.books) now w) × (w.spare ≡ v.spare)
-guest_runs hosts seat after time now v w id r sent result ran h g sense heeds e =
+guest_runs hosts seat after time now v w id r sent result ran h g sense e =
     let p : Process = r.process in
     let done : Execution = done_at seat p in
-    let same : p.id ≡ id = queue.guest_id seat.guests id r g in
+    let same : p.id ≡ id = guest_id seat.guests id r g in
     let fresh : has_process h.0 id ≡ false = queue.guest_not_live hosts seat.guests h.0 id r h.2.queued g in
     let none : key_of_process v.books.queue.arrived id ≡ None = (λ i. key_of_process (h.2.kept.commands.arrived i) id) ∙ queue.not_found h.0 id fresh in
     let stays : IsRunLive v sent None result w = subst (λ (x : Option ℕ). IsRunLive v sent x result w) none ran in
-    let kept : IsKeptBy (Seats.context_of seat p.initiator) done = sense_kept (Seats.context_of seat p.initiator) p.cdb p.sent sense heeds in
+    let kept = sense_executed (Seats.context_of seat p.initiator) p.cdb p.sent (sense_block_of p.cdb sense) in
     let next : Seat = Seats.seat_with_reply seat p.id done.reply in
     let it : Seats.seat_with_execution seat p done ≡ next =
-    (λ i. Seats.seat_with_reply (record seat { unit = Seats.unit_mapped (unit_with_contents (kept.contents i)) seat.unit; attentions = if kept.reported i then Seats.with_sense_of seat.attentions p.initiator None else seat.attentions }) p.id done.reply)
+    (λ i. Seats.seat_with_reply (record seat { unit = Seats.unit_mapped (unit_with_contents (kept i).contents) seat.unit; attentions = if (kept i).reported then Seats.with_sense_of seat.attentions p.initiator None else seat.attentions }) p.id done.reply)
     ∙ (λ i. Seats.seat_with_reply (record seat { unit = unit_kept_so seat.unit i }) p.id done.reply) in
     let current : current_with_reply h.1.current p.id done.reply ≡ h.1.current =
     other_kept h.1.current p.id done.reply ((λ i. running_if h.1.current (same i)) ∙ not_current h.0 h.1 v.books id h.2.kept.commands fresh) in (

@@ -1,9 +1,9 @@
 -- What a write of a scenario sends.
-use Rattle.std.proofs.Common.{ℕ, ◌≡◌, ◌*◌, true, false, length, ◌∙◌, refl, sym, arith, Option, Some, None, Result, Ok, Err}
+use Rattle.std.proofs.Common.{ℕ, ◌≡◌, ◌*◌, true, false, length, ◌∙◌, refl, sym, arith, Option, Some, None, Result, Ok}
+use Rattle.std.proofs.Common.{Err}
 use Rattle.std.specs.Prelude.{if◌then◌else◌, is_some}
 use Rattle.cdb_codec.specs.Cdb.{command_of}
 use Rattle.cdb_codec.specs.declared.command.Command.{Command}
-use Rattle.cdb_codec.specs.declared.command.Command.TheVariants as commands
 use Rattle.cdb_codec.specs.declared.command.CdbFault.{CdbFault}
 use Rattle.cdb_codec.specs.declared.status.TheConstants.{GOOD}
 use Rattle.scenario.specs.Lookups.{has_target}
@@ -19,8 +19,10 @@ use Rattle.bus_due.specs.Tasks.{reply_now, size_of}
 use Rattle.disk_unit.specs.Disk.{blocks_written, blocks_written_by, written_of}
 use Rattle.scsi_device.specs.Lines.{FitsBus}
 use Rattle.target_units.specs.Rooms.{AreOfLines}
-use Rattle.target_units.proofs.Rooms.{plain_id, good_range, Sends, sends}
+use Rattle.target_units.proofs.Rooms.{plain_id, Sends, sends}
+use Rattle.disk_array.proofs.ExecutionFacts.{good_range}
 use Rattle.target_units.proofs.UnitTellings.{reply_same}
+use Rattle.cdb_codec.specs.declared.command.Command.TheVariants as commands
 
 write_id : (s : ScenarioValue) (p : Process) → process_of s p.id ≡ Some p → is_write (command_of p.cdb) ≡ true → p.id.sense ≡ false
 write_id s p e writes = plain_id s p e (no_sense (command_of p.cdb) writes)
@@ -62,5 +64,5 @@ named s a p fits lines target is writes good =
     go (Some v) f =
         let there : is_some (unit_state_at a.units p.target p.unit) ≡ true = λ i. is_some (f i) in
         let count : blocks_written_by (contents_of (unit_state_at a.units p.target p.unit)) (command_of p.cdb) ≡ count_in (range_in (command_of p.cdb)) =
-        written_named (contents_of (unit_state_at a.units p.target p.unit)) (command_of p.cdb) writes (λ command e. good_range (context_of (seat_of a p.target p.unit) p.initiator) p.cdb p.sent command there e status) in
+        written_named (contents_of (unit_state_at a.units p.target p.unit)) (command_of p.cdb) writes (λ command e. good_range (context_of (seat_of a p.target p.unit) p.initiator) p.cdb p.sent command e status) in
         (λ i. sym count i * size_of (f i)) ∙ (λ i. blocks_written (contents_of (unit_state_at a.units p.target p.unit)) p.cdb * (contents_of (sym f i)).size) ∙ sym (all.bytes status)

@@ -1,5 +1,6 @@
 -- What a unit tells is what its seat has.
-use Rattle.std.proofs.Common.{ℕ, ◌≡◌, ◌<◌, ◌+◌, ◌-◌, ◌^◌, ◌∙◌, Bool, true, false, List, [], refl, sym, length, take, min, Option, Some, None, Result, Ok, Err, drop, subst, ◌≤◌}
+use Rattle.std.proofs.Common.{ℕ, ◌≡◌, ◌<◌, ◌+◌, ◌-◌, ◌^◌, ◌∙◌, Bool, true, false, List, [], refl, sym, length, take}
+use Rattle.std.proofs.Common.{min, Option, Some, None, drop, ◌≤◌}
 use Rattle.std.specs.Prelude.{if◌then◌else◌, ◌&&◌, ◌==◌, not, nat_lt, is_some, slice_index_or}
 use Rattle.std.proofs.Math.Nat.{min-eq_left}
 use Rattle.std.proofs.lemmas.List.{length-take}
@@ -7,18 +8,14 @@ use native.Mathlib.Omega.{arith}
 use Rattle.cdb_codec.specs.declared.Sense.{Sense}
 use Rattle.cdb_codec.specs.declared.status.TheConstants.{GOOD}
 use Rattle.cdb_codec.specs.declared.replies.TheConstants.{SENSE_LEN}
-use Rattle.cdb_codec.specs.declared.command.Command.{Command}
-use Rattle.cdb_codec.specs.declared.command.Command.TheVariants as commands
-use Rattle.cdb_codec.specs.declared.command.CdbFault.{CdbFault}
-use Rattle.cdb_codec.specs.declared.command.CdbFault.TheVariants as faults
 use Rattle.cdb_codec.specs.Cdb.{command_of}
 use Rattle.cdb_codec.specs.Replies.{sense_data}
 use Rattle.scenario.specs.declared.value.HostDef.{HostDef}
 use Rattle.disk_array.specs.Contents.{Contents}
-use Rattle.disk_array.specs.Execution.{Reply, CommandContext, execution, attention_execution, cdb_execution, command_execution, reply_execution, check_condition, block_out_of_range, unit_not_supported, is_good_range, range_of, is_request_sense, heeds_attention, needs_unit, no_sense, returned_sense, Execution}
+use Rattle.disk_array.specs.Execution.{Reply, execution, check_condition, is_request_sense, heeds_attention, no_sense}
+use Rattle.disk_array.specs.Execution.{returned_sense}
 use Rattle.disk_array.specs.Units.{RunningProcess, UnitState, has_no_current}
 use Rattle.disk_array.specs.Steps.{process_count, running_count}
-use Rattle.disk_array.specs.Seats
 use Rattle.disk_array.specs.Seats.{Seat}
 use Rattle.bus_due.specs.bus_dialogue.specs.Wants.{ready_in}
 use Rattle.tag_queue.specs.Queue.{is_held}
@@ -29,12 +26,17 @@ use Rattle.disk_unit.specs.Plans.{plan_of}
 use Rattle.disk_unit.specs.Units.{is_reported, reply_with, plan_for}
 use Rattle.disk_unit.specs.declared.media.Plan.{Plan}
 use Rattle.disk_unit.proofs.Executions.{executed, unit_context}
-use Rattle.disk_unit.proofs.Keeping as keeping
 use Rattle.disk_unit.proofs.LiveCommands.{entry_found, block_found, room_is}
 use Rattle.target_units.specs.Readies.{ready_unit}
-use Rattle.target_units.specs.Seated.{SeatedState, IsAtSeat, IsSince, seated_context, running_entry, running_block, current_reply, entry_under, current_entry, block_under, ready_by_entry, room_by, room_at}
+use Rattle.target_units.specs.Seated.{SeatedState, IsAtSeat, IsSince, seated_context, running_entry, running_block}
+use Rattle.target_units.specs.Seated.{current_reply, entry_under, current_entry, block_under, ready_by_entry, room_by}
+use Rattle.target_units.specs.Seated.{room_at}
 use Rattle.disk_unit.proofs.Replies.{take_part}
-use Rattle.target_units.proofs.SenseBlocks.{heeds_none}
+use Rattle.disk_array.proofs.OperationCodes.{heeds_none}
+use Rattle.disk_array.proofs.ExecutionFacts.{IsSenseBlock, sense_block_of, sense_executed, sent_apart}
+use Rattle.cdb_codec.specs.declared.command.Command.TheVariants as commands
+use Rattle.disk_array.specs.Seats
+use Rattle.disk_unit.proofs.Keeping as keeping
 
 -- ---- the queue
 
@@ -119,42 +121,6 @@ reply_seen hosts seat time v h = h.2.reply ∙ (λ i. current_reply (Seats.curre
 
 -- ---- what a command would answer
 
--- The reply does not depend on what was sent.
-pub reply_unsent : (m : CommandContext) (cdb sent : List ℕ) → (execution m cdb []).reply ≡ (execution m cdb sent).reply
-reply_unsent m cdb sent = all (not m.present && needs_unit cdb)
-  where
-    command : (c : Command) → (command_execution m c []).reply ≡ (command_execution m c sent).reply
-    command commands.TestUnitReady = refl
-    command (commands.RequestSense room) = refl
-    command (commands.Read6 lba count) = refl
-    command (commands.Write6 lba count) = refl
-    command (commands.Inquiry room) = refl
-    command commands.ReadCapacity = refl
-    command (commands.Read10 lba count) = refl
-    command (commands.Write10 lba count) = refl
-
-    ranged : (c : Command) (y : Bool) → (if y then command_execution m c [] else reply_execution m (check_condition block_out_of_range)).reply ≡ (if y then command_execution m c sent else reply_execution m (check_condition block_out_of_range)).reply
-    ranged c true = command c
-    ranged c false = refl
-
-    by : (r : Result Command CdbFault) → (cdb_execution m r []).reply ≡ (cdb_execution m r sent).reply
-    by (Ok c) = ranged c (is_good_range m.contents.count (range_of c))
-    by (Err faults.Opcode) = refl
-    by (Err faults.Length) = refl
-    by (Err faults.Field) = refl
-
-    heeding : (a : Sense) (y : Bool) → (if y then record { contents = m.contents; reported = true; reply = check_condition a } else cdb_execution m (command_of cdb) []).reply ≡ (if y then record { contents = m.contents; reported = true; reply = check_condition a } else cdb_execution m (command_of cdb) sent).reply
-    heeding a true = refl
-    heeding a false = by (command_of cdb)
-
-    by_attention : (a : Option Sense) → (attention_execution m a cdb []).reply ≡ (attention_execution m a cdb sent).reply
-    by_attention None = by (command_of cdb)
-    by_attention (Some a) = heeding a (heeds_attention cdb)
-
-    all : (y : Bool) → (if y then reply_execution m (check_condition unit_not_supported) else attention_execution m m.attention cdb []).reply ≡ (if y then reply_execution m (check_condition unit_not_supported) else attention_execution m m.attention cdb sent).reply
-    all true = refl
-    all false = by_attention m.attention
-
 sense_length : (room : ℕ) (a b : Sense) → length (take (min room SENSE_LEN) (sense_data a)) ≡ length (take (min room SENSE_LEN) (sense_data b))
 sense_length room a b = length-take (min room SENSE_LEN) (sense_data a) ∙ sym (length-take (min room SENSE_LEN) (sense_data b))
 
@@ -170,26 +136,15 @@ unchanged (Some a) cdb reply h = λ i. if h i then check_condition a else reply
 sense_plan : (c : Contents) (stored attention : Option Sense) (cdb : List ℕ) (out : ℕ) → is_request_sense (command_of cdb) ≡ true → plan_of (reply_with attention cdb (disk_reply c cdb)) out ≡ plan_of (execution (unit_context c stored attention) cdb []).reply out
 sense_plan c stored attention cdb out f =
     (λ i. plan_of (unchanged attention cdb (disk_reply c cdb) none i) out)
-    ∙ by (command_of cdb) f
-    ∙ (λ i. plan_of (sym (past attention) i).reply out)
+    ∙ (λ i. plan_of (sense_executed (disk_context c) cdb [] k i).reply out)
+    ∙ (λ i. record { status = GOOD; sense = None; in_len = sense_length k.room no_sense (returned_sense true stored) i; out_len = out })
+    ∙ (λ i. plan_of (sym (sense_executed (unit_context c stored attention) cdb [] k) i).reply out)
   where
     none : heeds_attention cdb ≡ false
     none = heeds_none cdb f
 
-    by : (r : Result Command CdbFault) → is_request_sense r ≡ true → plan_of (cdb_execution (disk_context c) r []).reply out ≡ plan_of (cdb_execution (unit_context c stored attention) r []).reply out
-    by (Ok (commands.RequestSense room)) k = λ i. record { status = GOOD; sense = None; in_len = sense_length room no_sense (returned_sense true stored) i; out_len = out }
-    by (Ok commands.TestUnitReady) k = cc
-    by (Ok (commands.Read6 lba count)) k = cc
-    by (Ok (commands.Write6 lba count)) k = cc
-    by (Ok (commands.Inquiry room)) k = cc
-    by (Ok commands.ReadCapacity) k = cc
-    by (Ok (commands.Read10 lba count)) k = cc
-    by (Ok (commands.Write10 lba count)) k = cc
-    by (Err fault) k = cc
-
-    past : (a : Option Sense) → attention_execution (unit_context c stored attention) a cdb [] ≡ cdb_execution (unit_context c stored attention) (command_of cdb) []
-    past None = refl
-    past (Some a) = λ i. if none i then record { contents = c; reported = true; reply = check_condition a } else cdb_execution (unit_context c stored attention) (command_of cdb) []
+    k : IsSenseBlock cdb
+    k = sense_block_of cdb f
 
 pub planned : (c : Contents) (stored attention : Option Sense) (cdb : List ℕ) (taken : ℕ) (plan : Plan) → plan ≡ plan_for attention cdb (disk_reply c cdb) taken → plan ≡ plan_of (execution (unit_context c stored attention) cdb []).reply plan.out_len
 planned c stored attention cdb taken plan h =
@@ -214,7 +169,7 @@ pub plan_seen : (hosts : List HostDef) (seat : Seat) (time : ℕ) (v : SeatedSta
 plan_seen hosts seat time v from cdb sent plan lt e h host =
     e
     ∙ (λ i. plan_of (execution (sym (context_is hosts seat time v from lt host h) i) cdb []).reply plan.out_len)
-    ∙ (λ i. plan_of (reply_unsent (Seats.context_of seat from) cdb sent i) plan.out_len)
+    ∙ (λ i. plan_of (sent_apart (Seats.context_of seat from) cdb [] sent i) plan.out_len)
 
 -- ---- the bytes that it would give
 
@@ -227,25 +182,9 @@ pub record IsSensed (bytes : List ℕ) (sense : Sense) : Type 0 where
   pub is : bytes ≡ take room (sense_data sense)
 
 pub sense_bytes : (c : Contents) (stored attention : Option Sense) (cdb : List ℕ) → is_request_sense (command_of cdb) ≡ true → IsSensed (execution (unit_context c stored attention) cdb []).reply.bytes (returned_sense true stored)
-sense_bytes c stored attention cdb f = subst (λ (d : Execution). IsSensed d.reply.bytes (returned_sense true stored)) (sym (past attention)) (by (command_of cdb) f)
-  where
-    none : heeds_attention cdb ≡ false
-    none = heeds_none cdb f
-
-    by : (r : Result Command CdbFault) → is_request_sense r ≡ true → IsSensed (cdb_execution (unit_context c stored attention) r []).reply.bytes (returned_sense true stored)
-    by (Ok (commands.RequestSense room)) k = record { room = min room SENSE_LEN; is = refl }
-    by (Ok commands.TestUnitReady) k = cc
-    by (Ok (commands.Read6 lba count)) k = cc
-    by (Ok (commands.Write6 lba count)) k = cc
-    by (Ok (commands.Inquiry room)) k = cc
-    by (Ok commands.ReadCapacity) k = cc
-    by (Ok (commands.Read10 lba count)) k = cc
-    by (Ok (commands.Write10 lba count)) k = cc
-    by (Err fault) k = cc
-
-    past : (a : Option Sense) → attention_execution (unit_context c stored attention) a cdb [] ≡ cdb_execution (unit_context c stored attention) (command_of cdb) []
-    past None = refl
-    past (Some a) = λ i. if none i then record { contents = c; reported = true; reply = check_condition a } else cdb_execution (unit_context c stored attention) (command_of cdb) []
+sense_bytes c stored attention cdb f =
+    let k = sense_block_of cdb f in
+    record { room = min k.room SENSE_LEN; is = λ i. (sense_executed (unit_context c stored attention) cdb [] k i).reply.bytes }
 
 -- A part of them is that part of all sense data.
 pub sense_within : (bytes : List ℕ) (sense : Sense) (at n : ℕ) → IsSensed bytes sense → at + n ≤ length bytes → at + n ≤ 18
@@ -265,4 +204,4 @@ pub bytes_seen : (hosts : List HostDef) (seat : Seat) (time : ℕ) (v : SeatedSt
     → (execution (seated_context v from) cdb []).reply.bytes ≡ (execution (Seats.context_of seat from) cdb sent).reply.bytes
 bytes_seen hosts seat time v from cdb sent lt h host =
     (λ i. (execution (sym (context_is hosts seat time v from lt host h) i) cdb []).reply.bytes)
-    ∙ (λ i. (reply_unsent (Seats.context_of seat from) cdb sent i).bytes)
+    ∙ (λ i. (sent_apart (Seats.context_of seat from) cdb [] sent i).bytes)

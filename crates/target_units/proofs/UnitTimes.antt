@@ -1,31 +1,26 @@
 -- The units of the array stand in one order, with as many blocks of as many bytes, and their times beside them; and what was
 -- replied stays so.
-use Rattle.std.proofs.Common.{ℕ, ◌≡◌, ◌+◌, zero, suc, take, drop, Result, Ok, Err, Bool, true, false, List, [], ◌∷◌, ◌++◌, ◌∙◌, refl, sym, ap, subst, length, Option, Some, None}
+use Rattle.std.proofs.Common.{ℕ, ◌≡◌, ◌+◌, suc, Bool, true, false, List, [], ◌∷◌, ◌++◌, ◌∙◌, refl, sym, ap, subst}
+use Rattle.std.proofs.Common.{length, Option, Some, None}
 use Rattle.std.specs.Prelude.{if◌then◌else◌, ◌&&◌, ◌||◌, ◌==◌, not, is_some, is_none, nat_lt}
 use Rattle.std.proofs.lemmas.Bool.{eqb-true}
 use Rattle.bus_base.specs.declared.AbortKind.{AbortKind}
-use Rattle.bus_base.specs.declared.AbortKind.TheVariants as aborts
 use Rattle.bus_base.specs.declared.Event.{Event}
-use Rattle.bus_base.specs.declared.Event.TheVariants as events
 use Rattle.bus_base.specs.declared.ProcId.{ProcId}
 use Rattle.cdb_codec.specs.declared.sense.TheConstants.{ABORTED_COMMAND}
 use Rattle.cdb_codec.specs.declared.status.TheConstants.{GOOD, CHECK_CONDITION}
 use Rattle.cdb_codec.specs.Cdb.{command_of}
 use Rattle.scenario.specs.declared.value.HostDef.{HostDef}
 use Rattle.scenario.specs.Value.{ScenarioValue}
-use Rattle.cdb_codec.specs.Blocks.{blocks_moved}
-use Rattle.cdb_codec.specs.declared.Sense.{Sense}
-use Rattle.cdb_codec.specs.declared.command.Command.{Command}
-use Rattle.cdb_codec.specs.declared.command.Command.TheVariants as commands
-use Rattle.cdb_codec.specs.declared.command.CdbFault.{CdbFault}
-use Rattle.cdb_codec.specs.declared.command.CdbFault.TheVariants as faults
 use Rattle.disk_array.specs.ArrayHistory.{reply_in}
-use Rattle.disk_array.specs.Contents.{Contents, with_block, with_bytes}
-use Rattle.disk_array.specs.Execution.{Reply, CommandContext, Execution, execution, attention_execution, cdb_execution, command_execution, reply_execution, heeds_attention, needs_unit, unit_not_supported, is_good_range, range_of, block_out_of_range, is_request_sense, check_condition, sense_of, queue_full, commands_cleared}
+use Rattle.disk_array.specs.Contents.{Contents}
+use Rattle.disk_array.specs.Execution.{Reply, Execution, execution, is_request_sense, check_condition, sense_of}
+use Rattle.disk_array.specs.Execution.{queue_full, commands_cleared}
 use Rattle.disk_array.specs.Order.{choice}
 use Rattle.disk_array.specs.Processes.{Process, process_of, same_id}
-use Rattle.disk_array.specs.Units.{RunningProcess, UnitState, Nexus, Array, is_held, unit_state_at, with_unit, guest_at, nexus_of, with_current, has_no_current, units_after_choice, sense_of_nexus, senses_without, nexuses_without, settled_array}
-use Rattle.disk_array.specs.Steps
+use Rattle.disk_array.specs.Units.{RunningProcess, UnitState, Nexus, Array, is_held, unit_state_at, with_unit, guest_at}
+use Rattle.disk_array.specs.Units.{nexus_of, with_current, has_no_current, units_after_choice, sense_of_nexus}
+use Rattle.disk_array.specs.Units.{senses_without, nexuses_without, settled_array}
 use Rattle.disk_array.specs.Steps.{event_step, step, settled_array_if}
 use Rattle.disk_array.specs.Seats.{current_of}
 use Rattle.disk_array.proofs.SeatLookups.{found_target, found_unit}
@@ -33,14 +28,11 @@ use Rattle.disk_array.proofs.SeatReplies.{found_id}
 use Rattle.bus_due.specs.Wants.{since_of}
 use Rattle.bus_due.specs.RunSteps.{is_same_running, current_times_after}
 use Rattle.scsi_device.proofs.Finds.{none_some}
-
--- As many blocks, of as many bytes.
-pub record HasSameExtent (c d : Contents) : Type 0 where
-  pub count : d.count ≡ c.count
-  pub size : d.size ≡ c.size
-
-pub extent_self : (c : Contents) → HasSameExtent c c
-extent_self c = record { count = refl; size = refl }
+use Rattle.disk_array.proofs.ExecutionFacts.{extent_kept}
+use Rattle.disk_array.proofs.WholeBlocks.{HasSameExtent, extent_self, extent_more}
+use Rattle.bus_base.specs.declared.AbortKind.TheVariants as aborts
+use Rattle.bus_base.specs.declared.Event.TheVariants as events
+use Rattle.disk_array.specs.Steps
 
 -- The same targets and numbers, in one order.
 abbrev pub AreSame : List UnitState → List UnitState → Type 0
@@ -52,9 +44,6 @@ AreSame (u ∷ before) (v ∷ after) = (v.target ≡ u.target) × (v.unit ≡ u.
 same_self : (us : List UnitState) → AreSame us us
 same_self [] = tt
 same_self (u ∷ us) = (refl, refl, extent_self u.contents, same_self us)
-
-pub extent_more : (c d e : Contents) → HasSameExtent c d → HasSameExtent d e → HasSameExtent c e
-extent_more c d e h k = record { count = k.count ∙ h.count; size = k.size ∙ h.size }
 
 same_more : (us vs ws : List UnitState) → AreSame us vs → AreSame vs ws → AreSame us ws
 same_more [] [] [] h k = tt
@@ -134,48 +123,6 @@ same_chosen holds (u ∷ us) = go (has_no_current u.current && not (is_held hold
     go true None more = (refl, refl, extent_self u.contents, more)
     go true (Some p) more = (refl, refl, extent_self u.contents, more)
     go false p more = (refl, refl, extent_self u.contents, more)
-
--- A command changes no number of blocks, nor their size.
-bytes_extent : (n : ℕ) (c : Contents) (lba : ℕ) (bytes : List ℕ) → HasSameExtent c (with_bytes c lba n bytes)
-bytes_extent zero c lba bytes = extent_self c
-bytes_extent (suc n) c lba bytes =
-    extent_more c (with_block c lba (take c.size bytes)) (with_bytes (with_block c lba (take c.size bytes)) (lba + 1) n (drop c.size bytes)) (record { count = refl; size = refl })
-    (bytes_extent n (with_block c lba (take c.size bytes)) (lba + 1) (drop c.size bytes))
-
-pub extent_kept : (m : CommandContext) (cdb sent : List ℕ) → HasSameExtent m.contents (execution m cdb sent).contents
-extent_kept m cdb sent = all (not m.present && needs_unit cdb)
-  where
-    command : (c : Command) → HasSameExtent m.contents (command_execution m c sent).contents
-    command commands.TestUnitReady = extent_self m.contents
-    command (commands.RequestSense room) = extent_self m.contents
-    command (commands.Read6 lba count) = extent_self m.contents
-    command (commands.Write6 lba count) = bytes_extent (blocks_moved (commands.Write6 lba count)) m.contents lba sent
-    command (commands.Inquiry room) = extent_self m.contents
-    command commands.ReadCapacity = extent_self m.contents
-    command (commands.Read10 lba count) = extent_self m.contents
-    command (commands.Write10 lba count) = bytes_extent count m.contents lba sent
-
-    in_range : (c : Command) (y : Bool) → HasSameExtent m.contents (if y then command_execution m c sent else reply_execution m (check_condition block_out_of_range)).contents
-    in_range c true = command c
-    in_range c false = extent_self m.contents
-
-    by : (r : Result Command CdbFault) → HasSameExtent m.contents (cdb_execution m r sent).contents
-    by (Ok c) = in_range c (is_good_range m.contents.count (range_of c))
-    by (Err faults.Opcode) = extent_self m.contents
-    by (Err faults.Length) = extent_self m.contents
-    by (Err faults.Field) = extent_self m.contents
-
-    by_attention : (o : Option Sense) → HasSameExtent m.contents (attention_execution m o cdb sent).contents
-    by_attention None = by (command_of cdb)
-    by_attention (Some sense) = go (heeds_attention cdb)
-      where
-        go : (y : Bool) → HasSameExtent m.contents (if y then record { contents = m.contents; reported = true; reply = check_condition sense } else cdb_execution m (command_of cdb) sent).contents
-        go true = extent_self m.contents
-        go false = by (command_of cdb)
-
-    all : (y : Bool) → HasSameExtent m.contents (if y then reply_execution m (check_condition unit_not_supported) else attention_execution m m.attention cdb sent).contents
-    all true = extent_self m.contents
-    all false = by_attention m.attention
 
 -- ---- senses, holds and attentions are no part of them
 

@@ -57,13 +57,12 @@ pub use scenario.declared.value.{AbortDef.{AbortDef}, CmdDef.{CmdDef}, Policy.{P
 pub use scenario.declared.value.{TargetDef.{TargetDef}, UnitDef.{UnitDef}}
 unfoldable pub use scenario.{Needs.{need_of, sent_of}, Reading.{policy_in, target_def}}
 use Rattle.bus_due.specs.disk_array.proofs as disk_array_proofs
-pub use disk_array_proofs.{SeatLookups.{found_target, found_unit}, SeatOwn.{own_found}, SeatSteps.{choice_target}}
-pub use disk_array_proofs.{SeatSteps.{choice_unit}, SoundArrays.{current_process, history_sound, is_own, start_sound}}
-pub use disk_array_proofs.SoundArrays.{step_sound}
+pub use disk_array_proofs.{Executed.{absent_executed}, ExecutionFacts.{good_range}, SeatLookups.{found_target}}
+pub use disk_array_proofs.{SeatLookups.{found_unit}, SeatOwn.{own_found}, SeatSteps.{choice_target, choice_unit}}
+pub use disk_array_proofs.SoundArrays.{current_process, history_sound, is_own, start_sound, step_sound}
 use Rattle.bus_due.specs.disk_array.specs as disk_array
 pub use disk_array.{ArrayHistory.{array_after, array_step, is_run, reply_in, shows_run}, Contents.{Contents}}
-pub use disk_array.Execution.{CommandContext, Reply, aborted_reply, attention_execution, check_condition, execution}
-pub use disk_array.Execution.{is_opcode, is_request_sense, needs_unit, reply_execution, unit_not_supported}
+pub use disk_array.Execution.{CommandContext, Reply, aborted_reply, execution, is_opcode, is_request_sense, needs_unit}
 pub use disk_array.{Order.{choice, count_in, range_in}, Processes.{Process, command_at, process_by, process_if}}
 pub use disk_array.{Processes.{process_of, same_id}, Seats.{contents_of, context_of, current_of, is_initiator, seat_of}}
 pub use disk_array.SoundArray.{AllOwnUnits, AreApart, HasSeats, IsOwn, IsOwnRunning, IsOwnUnit, IsSound}
@@ -145,7 +144,7 @@ pub use scsi_device.Writes.{is_data_out, is_next_byte, is_whole_run, is_writer, 
 pub use scsi_device.Writes.{is_written_in, is_written_on, is_written_run, start_of_run, writer_of, writers}
 pub use scsi_device.Writes.{writers_with, written}
 use Rattle.target_units.proofs as target_units_proofs
-pub use target_units_proofs.{Rooms.{by_line, good_range, lines_always, lines_start, sends}, Sendings.{written_named}}
+pub use target_units_proofs.{Rooms.{by_line, lines_always, lines_start, sends}, Sendings.{written_named}}
 pub use target_units_proofs.{Starts.{start_settled}, UnitTimes.{running_is}}
 use Rattle.target_units.specs as target_units
 pub use target_units.Rooms.{AreOfLines, IsOfLine}

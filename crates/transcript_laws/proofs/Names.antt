@@ -44,7 +44,7 @@ use Rattle.bus_due.specs.scenario.specs as scenario
 pub use scenario.{Value.{ScenarioValue}, Writing.{Obeys}, declared.value.{AbortDef.{AbortDef}, CmdDef.{CmdDef}}}
 pub use scenario.declared.value.{HostDef.{HostDef}, Tag.{Tag}}
 use Rattle.bus_due.specs.disk_array.proofs as disk_array_proofs
-pub use disk_array_proofs.SeatLookups.{none_at, number_same, same_bool_is}
+pub use disk_array_proofs.{SeatLookups.{none_at, number_same, same_bool_is}, SeatReplies.{id_turned}}
 use Rattle.bus_due.specs.disk_array.specs as disk_array
 pub use disk_array.{ArrayHistory.{array_after, reply_in}, Execution.{Reply}, Order.{same_number, tag_number}}
 pub use disk_array.Processes.{command_at, process_by, process_if, same_bool, same_id}
@@ -97,8 +97,6 @@ use Rattle.progress_laws.specs.scsi_device.proofs as scsi_device_proofs
 pub use scsi_device_proofs.{FitLines.{obeys_fits, units_are}, PhaseLines.{command_is}}
 use Rattle.progress_laws.specs.scsi_device.specs as scsi_device
 pub use scsi_device.{Heard.{is_command_phase}, Lines.{AreUnits}}
-use Rattle.progress_laws.specs.target_units.proofs as target_units_proofs
-pub use target_units_proofs.LiveQueue.{id_turned}
 use Rattle.progress_laws.specs.bus_books.proofs as bus_books_proofs
 pub use bus_books_proofs.Carried.{Areas.{with_command_byte}, Blocks.{same_self}, Facts.{process_id}}
 pub use bus_books_proofs.Common.InConnection.{InConnection, SamePhase, in_connection, reading_is, same_phase_is}

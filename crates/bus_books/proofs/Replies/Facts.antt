@@ -1,17 +1,15 @@
 -- After every history each reply that was given has its cause in it.
 use Rattle.bus_books.proofs
 use proofs.Names.{ℕ, ◌≡◌, Bool, true, false, List, [], ◌∷◌, ◌++◌, ◌∙◌, refl, sym, subst, Option, Some, None, not, ◌&&◌}
-use proofs.Names.{◌||◌, inl, inr, eqb-true, and_parts, and_from, or_right, or_left, cases_Bool, if◌then◌else◌, ◌==◌}
-use proofs.Names.{is_some, is_none, nat_lt, Result, Ok, Err, eq_self, AbortKind, Event, ProcId, command_of, Sense}
-use proofs.Names.{CdbFault, Command, ABORTED_COMMAND, GOOD, CHECK_CONDITION, QUEUE_FULL, ScenarioValue, HostDef}
-use proofs.Names.{UnitDef, same_id_is, id_self, id_is, array_step, array_after, reply_in, Contents, Reply, Execution}
-use proofs.Names.{CommandContext, execution, attention_execution, cdb_execution, range_execution, command_execution}
-use proofs.Names.{is_request_sense, is_good_range, range_of, heeds_attention, needs_unit, queue_full, check_condition}
-use proofs.Names.{commands_cleared, reset_occurred, aborted_reply, choice, Process, process_of, same_id, RunningProcess}
-use proofs.Names.{UnitState, Nexus, Array, same_nexus, sense_of_nexus, senses_without, nexuses_without, is_held}
-use proofs.Names.{unit_state_at, with_unit, guest_at, without_guest, with_current, has_no_current, units_after_choice}
-use proofs.Names.{settled_array, starting_array, starting_units, nexus_of, same_event, has_event, is_refused_at}
-use proofs.Names.{was_refused, finds_full_queue, has_cause}
+use proofs.Names.{◌||◌, inl, inr, ◌⊎◌, eqb-true, and_parts, and_from, or_right, or_left, cases_Bool, if◌then◌else◌}
+use proofs.Names.{◌==◌, is_some, is_none, nat_lt, eq_self, AbortKind, Event, ProcId, command_of, Sense, ABORTED_COMMAND}
+use proofs.Names.{GOOD, CHECK_CONDITION, QUEUE_FULL, ScenarioValue, HostDef, UnitDef, not_aborted, status_known}
+use proofs.Names.{same_id_is, id_self, id_is, array_step, array_after, reply_in, Contents, Reply, Execution}
+use proofs.Names.{CommandContext, execution, is_request_sense, queue_full, commands_cleared, aborted_reply, choice}
+use proofs.Names.{Process, process_of, same_id, RunningProcess, UnitState, Nexus, Array, same_nexus, sense_of_nexus}
+use proofs.Names.{senses_without, nexuses_without, is_held, unit_state_at, with_unit, guest_at, without_guest}
+use proofs.Names.{with_current, has_no_current, units_after_choice, settled_array, starting_array, starting_units}
+use proofs.Names.{nexus_of, same_event, has_event, is_refused_at, was_refused, finds_full_queue, has_cause}
 use Rattle.bus_due.specs.disk_array.specs.Steps
 
 -- ---- one of several
@@ -205,36 +203,15 @@ plain_cause s h id reply k =
     let two = and_parts (not (reply.status == QUEUE_FULL)) (not (reply.sense.key == ABORTED_COMMAND)) k in
     and_from _ _ (or_left (not (reply.status == QUEUE_FULL)) (was_refused s h id) two.0) (or_left (not (reply.sense.key == ABORTED_COMMAND)) (has_event h (Event.Fail id reply.sense.asc)) two.1)
 
-plain_command : (m : CommandContext) (c : Command) (sent : List ℕ) → is_plain (command_execution m c sent).reply ≡ true
-plain_command m Command.TestUnitReady sent = refl
-plain_command m _ sent = refl
-
-plain_range : (m : CommandContext) (c : Command) (sent : List ℕ) → is_plain (range_execution m c sent).reply ≡ true
-plain_range m c sent =
-    elim (cases_Bool (is_good_range m.contents.count (range_of c))) [
-      | inl e ↦ rw e (plain_command m c sent)
-      | inr e ↦ rw e
-    ]
-
-plain_block : (m : CommandContext) (c : Result Command CdbFault) (sent : List ℕ) → is_plain (cdb_execution m c sent).reply ≡ true
-plain_block m (Ok c) sent = plain_range m c sent
-plain_block m (Err CdbFault.Opcode) sent = refl
-plain_block m _ sent = refl
-
-plain_attention : (m : CommandContext) (x : Option Sense) (cdb sent : List ℕ) → IsAttention x → is_plain (attention_execution m x cdb sent).reply ≡ true
-plain_attention m None cdb sent b = plain_block m (command_of cdb) sent
-plain_attention m (Some sense) cdb sent b =
-    elim (cases_Bool (heeds_attention cdb)) [
-      | inl e ↦ rw e (λ i. not (b i))
-      | inr e ↦ rw e (plain_block m (command_of cdb) sent)
-    ]
-
 plain_execution : (m : CommandContext) (cdb sent : List ℕ) → IsAttention m.attention → is_plain (execution m cdb sent).reply ≡ true
-plain_execution m cdb sent b =
-    elim (cases_Bool (not m.present && needs_unit cdb)) [
-      | inl e ↦ rw e
-      | inr e ↦ rw e (plain_attention m m.attention cdb sent b)
-    ]
+plain_execution m cdb sent b = by (status_known m cdb sent)
+  where
+    plain : ((execution m cdb sent).reply.sense.key == ABORTED_COMMAND) ≡ false
+    plain = not_aborted m cdb sent (λ sense e. subst IsAttention e b)
+
+    by : ((execution m cdb sent).reply.status ≡ GOOD) ⊎ ((execution m cdb sent).reply.status ≡ CHECK_CONDITION) → is_plain (execution m cdb sent).reply ≡ true
+    by (inl e) = λ i. not (e i == QUEUE_FULL) && not (plain i)
+    by (inr e) = λ i. not (e i == QUEUE_FULL) && not (plain i)
 
 attention_here : (a : Array) (q : Nexus) (u : Option UnitState) → AreAttentions a.attentions → IsAttention (Steps.context_at a q u).attention
 attention_here a q None b = attention_at a.attentions q b

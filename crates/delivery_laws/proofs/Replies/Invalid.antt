@@ -1,61 +1,15 @@
 -- A command that is not valid is answered with CHECK CONDITION where no attention stands, and the sense of what is wrong with it first (7.2, 8.2).
 use Rattle.delivery_laws.proofs
 use proofs.Names.{ℕ, ◌≡◌, Bool, true, false, not, ◌&&◌, ◌||◌, ◌∙◌, List, [], ◌∷◌, ◌++◌, Option, Some, None, Result, Ok}
-use proofs.Names.{Err, length, refl, sym, ap, not-false, same_Some, list_all, if◌then◌else◌, ◌==◌, is_some, slice_index}
-use proofs.Names.{and_second, wrong, wrong', Event, command_of, sized_of, fields_of, has_group_len, operation_of}
-use proofs.Names.{CdbFault, Command, Operation, INQUIRY, READ_10, READ_6, READ_CAPACITY, REQUEST_SENSE, TEST_UNIT_READY}
-use proofs.Names.{WRITE_10, WRITE_6, has_target, unit_of, ScenarioValue, Obeys, CmdDef, UnitDef, CommandContext, Reply}
-use proofs.Names.{attention_execution, cdb_execution, check_condition, command_execution, execution, block_out_of_range}
-use proofs.Names.{is_good_range, is_opcode, is_request_sense, needs_unit, range_of, range_execution, reply_execution}
-use proofs.Names.{unit_not_supported, command_at, process_by, process_if, Array, Nexus, UnitState, nexus_of}
-use proofs.Names.{unit_state_at, command_id, fits_unit, is_sound_command, is_valid, lines_always, AreOfLines, IsOfLine}
-use proofs.{Names.{HasRun, checked_sense, fault_sense, is_calm_event}, Replies.Valid.{calm_context, fair_after}}
+use proofs.Names.{Err, refl, sym, ap, not-false, same_Some, list_all, if◌then◌else◌, ◌==◌, is_some, and_second, wrong}
+use proofs.Names.{Event, command_of, CdbFault, Command, INQUIRY, REQUEST_SENSE, has_target, unit_of, ScenarioValue}
+use proofs.Names.{Obeys, CmdDef, UnitDef, Passes, absent_executed, faulty_executed, outside_executed, sense_of_fault}
+use proofs.Names.{sense_opcode, CommandContext, Reply, check_condition, execution, is_good_range, is_opcode}
+use proofs.Names.{is_request_sense, needs_unit, range_of, unit_not_supported, command_at, process_by, process_if, Array}
+use proofs.Names.{Nexus, UnitState, nexus_of, unit_state_at, command_id, fits_unit, is_sound_command, is_valid}
+use proofs.Names.{lines_always, AreOfLines, IsOfLine, none_some, HasRun, checked_sense, fault_sense, is_calm_event}
+use proofs.Replies.Valid.{calm_context, fair_after}
 use Rattle.bus_due.specs.disk_array.specs.Steps
-
--- ---- REQUEST SENSE without fault has its operation code
-
-other_fields : (o : Operation) (cdb : List ℕ) → (Some o ≡ Some Operation.RequestSense → ⊥) → is_request_sense (sized_of (Some o) cdb) ≡ false
-other_fields o cdb apart = go (has_group_len cdb)
-  where
-    zeros : (k : Command) → is_request_sense (Ok k) ≡ false → (q : Bool) → is_request_sense (if q then Ok k else Err CdbFault.Field) ≡ false
-    zeros k e true = e
-    zeros k e false = refl
-
-    fields : (o : Operation) → (Some o ≡ Some Operation.RequestSense → ⊥) → is_request_sense (fields_of o cdb) ≡ false
-    fields Operation.TestUnitReady h = zeros Command.TestUnitReady refl _
-    fields Operation.RequestSense h = absurd (h refl)
-    fields Operation.ReadCapacity h = zeros Command.ReadCapacity refl _
-    fields _ h = zeros _ refl _
-
-    go : (q : Bool) → is_request_sense (if q then fields_of o cdb else Err CdbFault.Length) ≡ false
-    go true = fields o apart
-    go false = refl
-
-sense_opcode : (cdb : List ℕ) → is_request_sense (command_of cdb) ≡ true → is_opcode cdb REQUEST_SENSE ≡ true
-sense_opcode cdb e = sized (length cdb == 0) e
-  where
-    code : ℕ
-    code = slice_index cdb 0
-
-    other : {A : Type 0} (o : Operation) → (Some o ≡ Some Operation.RequestSense → ⊥) → is_request_sense (sized_of (Some o) cdb) ≡ true → A
-    other o apart z = wrong (sym z ∙ other_fields o cdb apart)
-
-    by : (a b c d f g h i : Bool) → is_request_sense (sized_of (if a then Some Operation.TestUnitReady else if b then Some Operation.RequestSense else if c then Some Operation.Read6 else if d then Some Operation.Write6
-        else if f then Some Operation.Inquiry else if g then Some Operation.ReadCapacity else if h then Some Operation.Read10 else if i then Some Operation.Write10 else None) cdb) ≡ true → b ≡ true
-    by true b c d f g h i z = other Operation.TestUnitReady (λ x. cc) z
-    by false true c d f g h i z = refl
-    by false false true d f g h i z = other Operation.Read6 (λ x. cc) z
-    by false false false true f g h i z = other Operation.Write6 (λ x. cc) z
-    by false false false false true g h i z = other Operation.Inquiry (λ x. cc) z
-    by false false false false false true h i z = other Operation.ReadCapacity (λ x. cc) z
-    by false false false false false false true i z = other Operation.Read10 (λ x. cc) z
-    by false false false false false false false true z = other Operation.Write10 (λ x. cc) z
-    by false false false false false false false false z = wrong' z
-
-    sized : (q : Bool) → is_request_sense (if q then Err CdbFault.Length else sized_of (operation_of code) cdb) ≡ true → (not q && code == REQUEST_SENSE) ≡ true
-    sized true z = wrong' z
-    sized false z =
-        by (code == TEST_UNIT_READY) (code == REQUEST_SENSE) (code == READ_6) (code == WRITE_6) (code == INQUIRY) (code == READ_CAPACITY) (code == READ_10) (code == WRITE_10) z
 
 -- ---- the checks
 
@@ -73,22 +27,22 @@ unsound d cdb k e = go (is_opcode cdb INQUIRY) refl (is_opcode cdb REQUEST_SENSE
     go false f true g z = wrong z
     go false f false g z = record { inquiry = f; sense = g; fits = z }
 
--- A command without fault, out of its unit's range.
-out_of_range : (m : CommandContext) (k : Command) (sent : List ℕ) → is_good_range m.contents.count (range_of k) ≡ false → (range_execution m k sent).reply ≡ check_condition block_out_of_range
-out_of_range m k sent e = λ i. (if e i then command_execution m k sent else reply_execution m (check_condition block_out_of_range)).reply
-
-faulty : (m : CommandContext) (sent : List ℕ) (f : CdbFault) → (cdb_execution m (Err f) sent).reply ≡ check_condition (fault_sense (Err f))
-faulty m sent CdbFault.Opcode = refl
-faulty m sent _ = refl
-
 -- What is wrong with it, where its unit is there or not needed.
-wrong_block : (s : ScenarioValue) (c : CmdDef) (m : CommandContext) (sent : List ℕ) → m.attention ≡ None → ((k : Command) → command_of c.cdb ≡ Ok k → is_good_range m.contents.count (range_of k) ≡ false)
-    → (attention_execution m m.attention c.cdb sent).reply ≡ check_condition (fault_sense (command_of c.cdb))
-wrong_block s c m sent calm range = (λ i. (attention_execution m (calm i) c.cdb sent).reply) ∙ go (command_of c.cdb) refl
+wrong_block : (c : CmdDef) (m : CommandContext) (sent : List ℕ) → (not m.present && needs_unit c.cdb) ≡ false → m.attention ≡ None
+    → ((k : Command) → command_of c.cdb ≡ Ok k → is_good_range m.contents.count (range_of k) ≡ false) → (execution m c.cdb sent).reply ≡ check_condition (fault_sense (command_of c.cdb))
+wrong_block c m sent there calm range = go (command_of c.cdb) refl
   where
-    go : (r : Result Command CdbFault) → command_of c.cdb ≡ r → (cdb_execution m r sent).reply ≡ check_condition (fault_sense r)
-    go (Ok k) e = out_of_range m k sent (range k e)
-    go (Err f) e = faulty m sent f
+    passes : Passes m c.cdb
+    passes = record { there = there; calm = λ sense a. none_some sense (sym calm ∙ a) }
+
+    by_fault : (f : CdbFault) → check_condition (sense_of_fault f) ≡ check_condition (fault_sense (Err f))
+    by_fault CdbFault.Opcode = refl
+    by_fault CdbFault.Length = refl
+    by_fault CdbFault.Field = refl
+
+    go : (r : Result Command CdbFault) → command_of c.cdb ≡ r → (execution m c.cdb sent).reply ≡ check_condition (fault_sense r)
+    go (Ok k) e = λ i. (outside_executed m c.cdb sent k passes e (range k e) i).reply
+    go (Err f) e = (λ i. (faulty_executed m c.cdb sent f passes e i).reply) ∙ by_fault f
 
 pub invalid_answers : (s : ScenarioValue) (a : Array) (q : Nexus) (c : CmdDef) (sent : List ℕ) → AreOfLines s a → a.attentions ≡ [] → has_target s c.target ≡ true → is_valid s c ≡ false
     → (execution (Steps.context_at a q (unit_state_at a.units c.target c.unit)) c.cdb sent).reply ≡ check_condition (checked_sense s c)
@@ -112,14 +66,13 @@ invalid_answers s a q c sent lines calm there invalid = by (unit_of s c.target c
             let needed : (not false && not (is_request_sense (command_of c.cdb))) ≡ false = (λ i. not (sym w.inquiry i) && not (is_request_sense (command_of c.cdb))) ∙ f in
             wrong (sym (sense_opcode c.cdb (not-false (is_request_sense (command_of c.cdb)) needed)) ∙ w.sense)
 
-        needs : (x : Bool) → needs_unit c.cdb ≡ x
-            → (if not false && x then reply_execution m (check_condition unit_not_supported) else attention_execution m m.attention c.cdb sent).reply ≡ check_condition (if not false && x then unit_not_supported else fault_sense (command_of c.cdb))
-        needs true f = refl
-        needs false f = wrong_block s c m sent (calm_context a q None calm) (unneeded f)
+        needs : (x : Bool) → needs_unit c.cdb ≡ x → (execution m c.cdb sent).reply ≡ check_condition (if not false && x then unit_not_supported else fault_sense (command_of c.cdb))
+        needs true f = λ i. (absent_executed m c.cdb sent f i).reply
+        needs false f = wrong_block c m sent f (calm_context a q None calm) (unneeded f)
     by None e (Some u) line = absurd line
     by (Some d) e None line = absurd line
     by (Some d) e (Some u) line =
-        wrong_block s c (Steps.context_at a q (Some u)) sent (calm_context a q (Some u) calm) (λ k is. ap (λ (n : ℕ). is_good_range n (range_of k)) line.0 ∙ (bad (Some d) e k is).fits)
+        wrong_block c (Steps.context_at a q (Some u)) sent refl (calm_context a q (Some u) calm) (λ k is. ap (λ (n : ℕ). is_good_range n (range_of k)) line.0 ∙ (bad (Some d) e k is).fits)
         ∙ (λ i. check_condition (if not (is_some (sym e i)) && needs_unit c.cdb then unit_not_supported else fault_sense (command_of c.cdb)))
 
 -- ---- in a calm history

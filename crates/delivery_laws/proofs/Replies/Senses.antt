@@ -2,15 +2,13 @@
 -- brings bytes (7.3, 8.2.14).
 use Rattle.delivery_laws.proofs
 use proofs.Names.{◌≡◌, Bool, true, false, not, ◌&&◌, ◌||◌, ◌∙◌, List, [], ◌∷◌, Option, Some, None, ℕ, refl, sym, ap}
-use proofs.Names.{subst, Result, Ok, Err, inl, inr, cases_Bool, same_Some, if◌then◌else◌, ◌==◌, is_none, is_some, ⊤}
-use proofs.Names.{wrong', Event, ProcId, command_of, Sense, CdbFault, Command, ABORTED_COMMAND, CHECK_CONDITION, GOOD}
-use proofs.Names.{QUEUE_FULL, ScenarioValue, Obeys, abort_lists, fail_lists, loss_lists, reset_lists, took, end_lists}
-use proofs.Names.{history_sound, array_after, array_step, reply_in, CommandContext, Reply, attention_execution}
-use proofs.Names.{block_out_of_range, cdb_execution, check_condition, command_execution, execution, heeds_attention}
-use proofs.Names.{is_good_range, needs_unit, queue_full, range_execution, range_of, reply_execution, sense_of}
-use proofs.Names.{unit_not_supported, process_of, same_id, sense_block, IsSound, Array, RunningProcess, UnitState}
-use proofs.Names.{guest_at, is_held, nexus_of, unit_state_at, obeys_fits, seats_are, id_is, none_some, executed}
-use proofs.Names.{reply_at, accepted, refused, settles, running_id, sense_cdb, running_own}
+use proofs.Names.{subst, inl, inr, ◌⊎◌, same_Some, if◌then◌else◌, ◌==◌, is_none, is_some, ⊤, wrong', Event, ProcId}
+use proofs.Names.{ABORTED_COMMAND, CHECK_CONDITION, GOOD, QUEUE_FULL, ScenarioValue, Obeys, abort_lists, fail_lists}
+use proofs.Names.{loss_lists, reset_lists, took, end_lists, sense_fetched, status_known, history_sound, array_after}
+use proofs.Names.{array_step, reply_in, CommandContext, Reply, check_condition, execution, queue_full, sense_of}
+use proofs.Names.{process_of, same_id, sense_block, IsSound, Array, RunningProcess, UnitState, guest_at, is_held}
+use proofs.Names.{nexus_of, unit_state_at, obeys_fits, seats_are, id_is, none_some, executed, reply_at, accepted}
+use proofs.Names.{refused, settles, running_id, sense_cdb, running_own}
 use Rattle.bus_due.specs.disk_array.specs.Steps
 
 abbrev pub is_known : ℕ → Bool
@@ -22,44 +20,15 @@ is_filled (b ∷ bytes) = true
 
 -- ---- what a command answers as it runs
 
-command_known : (m : CommandContext) (c : Command) (sent : List ℕ) → is_known (command_execution m c sent).reply.status ≡ true
-command_known m Command.TestUnitReady sent = refl
-command_known m _ sent = refl
-
-range_known : (m : CommandContext) (c : Command) (sent : List ℕ) → is_known (range_execution m c sent).reply.status ≡ true
-range_known m c sent =
-    elim (cases_Bool (is_good_range m.contents.count (range_of c))) [
-      | inl e ↦ rw e (command_known m c sent)
-      | inr e ↦ rw e
-    ]
-
-cdb_known : (m : CommandContext) (c : Result Command CdbFault) (sent : List ℕ) → is_known (cdb_execution m c sent).reply.status ≡ true
-cdb_known m (Ok c) sent = range_known m c sent
-cdb_known m (Err CdbFault.Opcode) sent = refl
-cdb_known m _ sent = refl
-
-attention_known : (m : CommandContext) (o : Option Sense) (cdb sent : List ℕ) → is_known (attention_execution m o cdb sent).reply.status ≡ true
-attention_known m None cdb sent = cdb_known m (command_of cdb) sent
-attention_known m (Some x) cdb sent =
-    elim (cases_Bool (heeds_attention cdb)) [ inl e ↦ rw e | inr e ↦ rw e (cdb_known m (command_of cdb) sent) ]
-
 pub execution_known : (m : CommandContext) (cdb sent : List ℕ) → is_known (execution m cdb sent).reply.status ≡ true
-execution_known m cdb sent =
-    elim (cases_Bool (not m.present && needs_unit cdb)) [
-      | inl e ↦ rw e
-      | inr e ↦ rw e (attention_known m m.attention cdb sent)
-    ]
+execution_known m cdb sent = by (status_known m cdb sent)
+  where
+    by : ((execution m cdb sent).reply.status ≡ GOOD) ⊎ ((execution m cdb sent).reply.status ≡ CHECK_CONDITION) → is_known (execution m cdb sent).reply.status ≡ true
+    by (inl e) = λ i. is_known (e i)
+    by (inr e) = λ i. is_known (e i)
 
 sense_filled : (m : CommandContext) (sent : List ℕ) → is_filled (execution m sense_block sent).reply.bytes ≡ true
-sense_filled m sent = go m.present m.attention
-  where
-    by : (o : Option Sense) → is_filled (attention_execution m o sense_block sent).reply.bytes ≡ true
-    by None = refl
-    by (Some a) = refl
-
-    go : (q : Bool) (o : Option Sense) → is_filled (if not q && needs_unit sense_block then reply_execution m (check_condition unit_not_supported) else attention_execution m o sense_block sent).reply.bytes ≡ true
-    go true o = by o
-    go false o = by o
+sense_filled m sent = λ i. is_filled (sense_fetched m sent i).reply.bytes
 
 -- ---- of each process
 

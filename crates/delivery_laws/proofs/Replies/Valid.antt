@@ -6,51 +6,29 @@ use proofs.Names.{same_Some, list_all, list_any, if◌then◌else◌, ◌==◌, 
 use proofs.Names.{and_first, and_second, Event, ProcId, command_of, sized_of, has_group_len, are_zero, spare_room}
 use proofs.Names.{operation_of, CdbFault, Command, Operation, INQUIRY, REQUEST_SENSE, ABORTED_COMMAND, CHECK_CONDITION}
 use proofs.Names.{GOOD, has_target, unit_of, ScenarioValue, Obeys, CmdDef, UnitDef, fail_lists, loss_lists, took}
-use proofs.Names.{end_lists, history_sound, array_after, array_step, reply_in, CommandContext, Reply}
-use proofs.Names.{attention_execution, block_out_of_range, cdb_execution, check_condition, command_execution, execution}
-use proofs.Names.{is_good_range, is_opcode, is_request_sense, needs_unit, queue_full, range_execution, range_of}
-use proofs.Names.{reply_execution, sense_of, unit_not_supported, Process, command_at, process_of, process_if}
-use proofs.Names.{process_by, same_id, IsSound, Array, Nexus, RunningProcess, UnitState, guest_at, is_held, nexus_of}
-use proofs.Names.{nexuses_without, sense_of_nexus, senses_without, settled_array, unit_state_at, with_unit, command_id}
-use proofs.Names.{fits_unit, is_sound_command, is_valid, obeys_fits, seats_are, lines_always, AreOfLines, IsOfLine}
-use proofs.Names.{id_is, self_id, none_some, executed, reply_at, accepted, refused, settles, running_id, running_own}
-use proofs.Names.{is_given_up_by, is_calm_event}
+use proofs.Names.{end_lists, carried_executed, command_good, inquiry_command, is_inquiry_or_faulty, history_sound}
+use proofs.Names.{array_after, array_step, reply_in, CommandContext, Reply, check_condition, execution, is_good_range}
+use proofs.Names.{is_opcode, is_request_sense, needs_unit, queue_full, range_of, sense_of, Process, command_at}
+use proofs.Names.{process_of, process_if, process_by, same_id, IsSound, Array, Nexus, RunningProcess, UnitState}
+use proofs.Names.{guest_at, is_held, nexus_of, nexuses_without, sense_of_nexus, senses_without, settled_array}
+use proofs.Names.{unit_state_at, with_unit, command_id, fits_unit, is_sound_command, is_valid, obeys_fits, seats_are}
+use proofs.Names.{lines_always, AreOfLines, IsOfLine, id_is, self_id, none_some, executed, reply_at, accepted, refused}
+use proofs.Names.{settles, running_id, running_own, is_given_up_by, is_calm_event}
 use Rattle.bus_due.specs.disk_array.specs.Steps
 
 -- ---- what a command without fault answers, where no attention stands and its range is good
 
-command_good : (m : CommandContext) (c : Command) (sent : List ℕ) → (command_execution m c sent).reply.status ≡ GOOD
-command_good m Command.TestUnitReady sent = refl
-command_good m _ sent = refl
-
-range_good : (m : CommandContext) (c : Command) (sent : List ℕ) → is_good_range m.contents.count (range_of c) ≡ true → (range_execution m c sent).reply.status ≡ GOOD
-range_good m c sent e = ap (λ (q : Bool). (if q then command_execution m c sent else reply_execution m (check_condition block_out_of_range)).reply.status) e ∙ command_good m c sent
-
 run_good : (m : CommandContext) (cdb sent : List ℕ) (c : Command) → (not m.present && needs_unit cdb) ≡ false → m.attention ≡ None → command_of cdb ≡ Ok c → is_good_range m.contents.count (range_of c) ≡ true → (execution m cdb sent).reply.status ≡ GOOD
 run_good m cdb sent c there calm is range =
-    ap (λ (q : Bool). (if q then reply_execution m (check_condition unit_not_supported) else attention_execution m m.attention cdb sent).reply.status) there
-    ∙ (λ i. (attention_execution m (calm i) cdb sent).reply.status)
-    ∙ (λ i. (cdb_execution m (is i) sent).reply.status)
-    ∙ range_good m c sent range
+    (λ i. (carried_executed m cdb sent c (record { there = there; calm = λ sense a. none_some sense (sym calm ∙ a) }) is range i).reply.status)
+    ∙ command_good m c sent
 
 -- ---- INQUIRY and REQUEST SENSE without fault name no blocks, and need no unit
-
-abbrev is_inquiry_or_faulty : Result Command CdbFault → Bool
-is_inquiry_or_faulty (Ok (Command.Inquiry room)) = true
-is_inquiry_or_faulty (Err fault) = true
-is_inquiry_or_faulty _ = false
 
 abbrev is_sense_or_faulty : Result Command CdbFault → Bool
 is_sense_or_faulty (Ok (Command.RequestSense room)) = true
 is_sense_or_faulty (Err fault) = true
 is_sense_or_faulty _ = false
-
-sized_inquiry : (cdb : List ℕ) → is_inquiry_or_faulty (sized_of (Some Operation.Inquiry) cdb) ≡ true
-sized_inquiry cdb = go (has_group_len cdb) (are_zero (spare_room cdb))
-  where
-    go : (y z : Bool) → is_inquiry_or_faulty (if y then (if z then Ok (Command.Inquiry (slice_index cdb 4)) else Err CdbFault.Field) else Err CdbFault.Length) ≡ true
-    go true true = refl
-    go _ _ = refl
 
 sized_sense : (cdb : List ℕ) → is_sense_or_faulty (sized_of (Some Operation.RequestSense) cdb) ≡ true
 sized_sense cdb = go (has_group_len cdb) (are_zero (spare_room cdb))
@@ -58,15 +36,6 @@ sized_sense cdb = go (has_group_len cdb) (are_zero (spare_room cdb))
     go : (y z : Bool) → is_sense_or_faulty (if y then (if z then Ok (Command.RequestSense (slice_index cdb 4)) else Err CdbFault.Field) else Err CdbFault.Length) ≡ true
     go true true = refl
     go _ _ = refl
-
-inquiry_command : (cdb : List ℕ) → is_opcode cdb INQUIRY ≡ true → is_inquiry_or_faulty (command_of cdb) ≡ true
-inquiry_command cdb h = go (length cdb == 0) h
-  where
-    go : (y : Bool) → (not y && slice_index cdb 0 == INQUIRY) ≡ true → is_inquiry_or_faulty (if y then Err CdbFault.Length else sized_of (operation_of (slice_index cdb 0)) cdb) ≡ true
-    go true k = refl
-    go false k =
-        let code : slice_index cdb 0 ≡ INQUIRY = eqb-true (slice_index cdb 0) INQUIRY k in
-        (λ i. is_inquiry_or_faulty (sized_of (operation_of (code i)) cdb)) ∙ sized_inquiry cdb
 
 sense_command : (cdb : List ℕ) → is_opcode cdb REQUEST_SENSE ≡ true → is_sense_or_faulty (command_of cdb) ≡ true
 sense_command cdb h = go (length cdb == 0) h

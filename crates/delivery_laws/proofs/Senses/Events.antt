@@ -4,17 +4,16 @@ use Rattle.delivery_laws.proofs
 use proofs.Names.{inl, inr, ℕ, ◌≡◌, ◌⊎◌, Bool, true, false, not, ◌&&◌, ◌||◌, ◌∙◌, List, [], ◌∷◌, ◌++◌, Option, Some}
 use proofs.Names.{None, refl, sym, ap, subst, eqb-true, cases_Bool, same_Some, list_any, if◌then◌else◌, ◌==◌, is_none}
 use proofs.Names.{is_some, nat_lt, ⊤, wrong, wrong', AbortKind, Event, ProcId, command_of, Sense, ABORTED_COMMAND}
-use proofs.Names.{CHECK_CONDITION, GOOD, ScenarioValue, CmdDef, HostDef, same_nexus_is, sense_put_at, senses_without_at}
-use proofs.Names.{reply_in, CommandContext, Execution, Reply, attention_execution, check_condition, commands_cleared}
-use proofs.Names.{execution, is_request_sense, needs_unit, queue_full, reply_execution, returned_sense, sense_of}
-use proofs.Names.{unit_not_supported, Process, command_at, process_of, same_id, sense_block, IsSound, running_process}
-use proofs.Names.{Array, Nexus, RunningProcess, UnitState, guest_at, is_held, nexus_of, nexuses_without, same_nexus}
-use proofs.Names.{sense_of_nexus, senses_without, unit_state_at, with_unit, ends_checks, Sent, command_id, has_item}
-use proofs.Names.{process, sense_id, sense_item, sense_in, Ending, Story, by_abort, by_reset, by_status, is_aborted}
-use proofs.Names.{is_sense_stopped, story_after_event, story_with_end, story_with_ends, id_is, self_nexus, none_some}
-use proofs.Names.{reply_at, running_id, AreChecked, ends_over, ends_senses, events_grow, in_append, sense_cdb}
-use proofs.Names.{debt_before, is_checked, is_not_over, same_debt, OfCommand, of_command, running_own, nexus_at, Debts}
-use proofs.Names.{IsDebt, PaysWell, is_owed, nexus_of_command}
+use proofs.Names.{CHECK_CONDITION, GOOD, ScenarioValue, CmdDef, HostDef, sense_fetched, same_nexus_is, sense_put_at}
+use proofs.Names.{senses_without_at, reply_in, CommandContext, Execution, Reply, check_condition, commands_cleared}
+use proofs.Names.{execution, is_request_sense, queue_full, returned_sense, sense_of, Process, command_at, process_of}
+use proofs.Names.{same_id, sense_block, IsSound, running_process, Array, Nexus, RunningProcess, UnitState, guest_at}
+use proofs.Names.{is_held, nexus_of, nexuses_without, same_nexus, sense_of_nexus, senses_without, unit_state_at}
+use proofs.Names.{with_unit, ends_checks, Sent, command_id, has_item, process, sense_id, sense_item, sense_in, Ending}
+use proofs.Names.{Story, by_abort, by_reset, by_status, is_aborted, is_sense_stopped, story_after_event, story_with_end}
+use proofs.Names.{story_with_ends, id_is, self_nexus, none_some, reply_at, running_id, AreChecked, ends_over}
+use proofs.Names.{ends_senses, events_grow, in_append, sense_cdb, debt_before, is_checked, is_not_over, same_debt}
+use proofs.Names.{OfCommand, of_command, running_own, nexus_at, Debts, IsDebt, PaysWell, is_owed, nexus_of_command}
 use Rattle.bus_due.specs.disk_array.specs.Steps
 
 -- ---- what is kept
@@ -220,16 +219,7 @@ command_more s b senses replies id x none plain h = one_more s b senses replies 
 -- ---- what an automatic REQUEST SENSE brings
 
 sense_brought : (m : CommandContext) (sent : List ℕ) (x : Sense) → m.stored ≡ Some x → sense_in (execution m sense_block sent).reply.bytes ≡ Some x
-sense_brought m sent x e = go m.present m.attention ∙ (λ i. Some (returned_sense m.present (e i)))
-  where
-    by : (o : Option Sense) → sense_in (attention_execution m o sense_block sent).reply.bytes ≡ Some (returned_sense m.present m.stored)
-    by None = refl
-    by (Some a) = refl
-
-    go : (q : Bool) (o : Option Sense)
-        → sense_in (if not q && needs_unit sense_block then reply_execution m (check_condition unit_not_supported) else attention_execution m o sense_block sent).reply.bytes ≡ Some (returned_sense m.present m.stored)
-    go true o = by o
-    go false o = by o
+sense_brought m sent x e = (λ i. sense_in (sense_fetched m sent i).reply.bytes) ∙ (λ i. Some (returned_sense m.present (e i)))
 
 context_stored : (a : Array) (q : Nexus) (u : Option UnitState) → (Steps.context_at a q u).stored ≡ sense_of_nexus a.senses q
 context_stored a q None = refl

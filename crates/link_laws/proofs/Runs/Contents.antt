@@ -1,20 +1,18 @@
 -- What the logical units hold stays within the limits of a scenario, whatever events there are; so a command gives few bytes.
 use Rattle.link_laws.proofs
 use proofs.Names.{ℕ, zero, suc, ◌≡◌, ◌≤◌, ◌+◌, ◌*◌, ◌-◌, ◌^◌, Bool, true, false, not, ◌&&◌, ◌||◌, List, [], ◌∷◌, ◌++◌}
-use proofs.Names.{length, take, drop, Option, Some, None, Ok, Err, refl, arith, ◌==◌, inl, inr, and_parts, cases_Bool}
-use proofs.Names.{nat_tests, length-append, length-replicate, length-take, AllByRecursion, if◌then◌else◌, min, nat_le}
-use proofs.Names.{nat_lt, Result, is_some, is_none, AbortKind, Event, ProcId, blocks_moved, command_of, sense_data}
-use proofs.Names.{inquiry_data, capacity_data, Sense, CdbFault, Command, SENSE_LEN, INQUIRY_LEN, ABORTED_COMMAND, GOOD}
-use proofs.Names.{CHECK_CONDITION, unit_of, is_block_in, ScenarioValue, FillDef, HostDef, UnitDef, Contents}
-use proofs.Names.{no_contents, zero_block, touched_block, block_at, touched_with, with_block, bytes_at, with_bytes}
-use proofs.Names.{blank_contents, filled_contents, Reply, CommandContext, Execution, good, check_condition, queue_full}
-use proofs.Names.{sense_of, needs_unit, heeds_attention, range_of, is_good_range, returned_sense, reply_execution}
-use proofs.Names.{write_execution, command_execution, range_execution, cdb_execution, attention_execution, execution}
-use proofs.Names.{invalid_opcode, invalid_field, block_out_of_range, unit_not_supported, commands_cleared}
-use proofs.Names.{is_request_sense, choice, Process, process_of, RunningProcess, UnitState, Nexus, Array, unit_state_at}
-use proofs.Names.{with_unit, guest_at, with_current, has_no_current, is_held, units_after_choice, settled_array}
-use proofs.Names.{starting_array, starting_units, nexus_of, sense_of_nexus, senses_without, nexuses_without, unit_fits}
-use proofs.Names.{FitsBus, IsUnitLine}
+use proofs.Names.{length, take, drop, Option, Some, None, refl, arith, ◌==◌, inl, inr, and_parts, cases_Bool, nat_tests}
+use proofs.Names.{length-append, length-replicate, length-take, AllByRecursion, if◌then◌else◌, min, nat_le, nat_lt}
+use proofs.Names.{is_some, is_none, AbortKind, Event, ProcId, blocks_moved, command_of, sense_data, inquiry_data}
+use proofs.Names.{capacity_data, Sense, Command, SENSE_LEN, INQUIRY_LEN, ABORTED_COMMAND, GOOD, CHECK_CONDITION}
+use proofs.Names.{unit_of, is_block_in, ScenarioValue, FillDef, HostDef, UnitDef, of_all, Contents, no_contents}
+use proofs.Names.{zero_block, touched_block, block_at, touched_with, with_block, bytes_at, with_bytes, blank_contents}
+use proofs.Names.{filled_contents, Reply, CommandContext, Execution, good, check_condition, queue_full, sense_of}
+use proofs.Names.{range_of, is_good_range, returned_sense, reply_execution, write_execution, command_execution}
+use proofs.Names.{execution, commands_cleared, is_request_sense, choice, Process, process_of, RunningProcess, UnitState}
+use proofs.Names.{Nexus, Array, unit_state_at, with_unit, guest_at, with_current, has_no_current, is_held}
+use proofs.Names.{units_after_choice, settled_array, starting_array, starting_units, nexus_of, sense_of_nexus}
+use proofs.Names.{senses_without, nexuses_without, unit_fits, FitsBus, IsUnitLine}
 use Rattle.bus_due.specs.disk_array.specs.ArrayHistory as Play
 use Rattle.bus_due.specs.disk_array.specs.Steps
 
@@ -118,33 +116,12 @@ gives m Command.ReadCapacity sent h e = replies m (good (capacity_data (m.conten
 gives m (Command.Read10 lba count) sent h e = reads m lba count h e
 gives m (Command.Write10 lba count) sent h e = writes m lba count sent h
 
-in_range : (m : CommandContext) (c : Command) (sent : List ℕ) → HasShortBlocks m.contents → GivesFew (range_execution m c sent)
-in_range m c sent h =
-    elim (cases_Bool (is_good_range m.contents.count (range_of c))) [
-      | inl f ↦ rw f (gives m c sent h f)
-      | inr f ↦ rw f (checks m block_out_of_range h)
-    ]
-
-by_block : (m : CommandContext) (r : Result Command CdbFault) (sent : List ℕ) → HasShortBlocks m.contents → GivesFew (cdb_execution m r sent)
-by_block m (Ok c) sent h = in_range m c sent h
-by_block m (Err CdbFault.Opcode) sent h = checks m invalid_opcode h
-by_block m (Err CdbFault.Length) sent h = checks m invalid_field h
-by_block m (Err CdbFault.Field) sent h = checks m invalid_field h
-
-heeds : (m : CommandContext) (o : Option Sense) (cdb sent : List ℕ) → HasShortBlocks m.contents → GivesFew (attention_execution m o cdb sent)
-heeds m None cdb sent h = by_block m (command_of cdb) sent h
-heeds m (Some x) cdb sent h =
-    elim (cases_Bool (heeds_attention cdb)) [
-      | inl e ↦ rw e (record { contents = h; bytes = omega arith })
-      | inr e ↦ rw e (by_block m (command_of cdb) sent h)
-    ]
-
 pub gives_few : (m : CommandContext) (cdb sent : List ℕ) → HasShortBlocks m.contents → GivesFew (execution m cdb sent)
-gives_few m cdb sent h =
-    elim (cases_Bool (not m.present && needs_unit cdb)) [
-      | inl e ↦ rw e (checks m unit_not_supported h)
-      | inr e ↦ rw e (heeds m m.attention cdb sent h)
-    ]
+gives_few m cdb sent h = of_all m cdb sent GivesFew (record {
+  refused_is = λ sense k. checks m sense h;
+  reported_is = λ sense a. record { contents = h; bytes = omega arith };
+  disk_is = λ c is g. gives m c sent h g;
+})
 
 -- ---- the units of the array
 

@@ -36,10 +36,10 @@ or_start_short s (Some a) fits h = h
 moved_few : (p : Process) (r : Reply) → length p.sent ≤ 65536 → length r.bytes ≤ 2 ^ 43 → moved_count p r ≤ 2 ^ 43
 moved_few p r sent given = go (r.status == GOOD) (is_writing p)
   where
-    go : (a b : Bool) → (if a then (if b then length p.sent else length r.bytes) else 0) ≤ 2 ^ 43
+    go : (a b : Bool) → length (if b then (if a then p.sent else []) else r.bytes) ≤ 2 ^ 43
     go true true = omega (arith, sent)
-    go true false = given
-    go false b = omega arith
+    go false true = omega arith
+    go a false = given
 
 cut : (start step moved : ℕ) → min (start + step) moved - start ≤ moved
 cut start step moved = omega arith

@@ -2,7 +2,7 @@
 -- pays for those of the run.
 use Rattle.measure_laws.proofs
 use proofs.Names.{inl, inr, ℕ, ◌≡◌, ◌≤◌, ◌<◌, ◌⊎◌, ◌∙◌, Bool, true, false, ◌&&◌, List, ◌∷◌, length, Option, Some, None}
-use proofs.Names.{Result, Ok, Err, refl, sym, ap, subst, arith, ltb-true, same_Some, ◌+◌, ◌*◌, ◌-◌, not, ◌==◌, drop}
+use proofs.Names.{Result, Ok, Err, refl, sym, ap, subst, arith, [], ltb-true, same_Some, ◌+◌, ◌*◌, ◌-◌, not, ◌==◌, drop}
 use proofs.Names.{if◌then◌else◌, is_some, nat_lt, and_false, wrong, wrong', plus_none, ProcId, LineSet, changes_phase}
 use proofs.Names.{is_data, connection, bus, Row, Change, Connection, command_of, CdbFault, Command, GOOD, has_target}
 use proofs.Names.{unit_of, is_write, moved_by, need_of, sent_of, ScenarioValue, Obeys, CmdDef, Policy, UnitDef}
@@ -81,14 +81,14 @@ sent_few s c = go (is_write (command_of c.cdb))
     go true = omega arith
     go false = omega arith
 
-counted_few : (good writes : Bool) (sent given most : ℕ) → sent ≤ most → (writes ≡ false → given ≤ most) → (if good then (if writes then sent else given) else 0) ≤ most
+counted_few : (good writes : Bool) (sent given : List ℕ) (most : ℕ) → length sent ≤ most → (writes ≡ false → length given ≤ most) → length (if writes then (if good then sent else []) else given) ≤ most
 counted_few true true sent given most h g = h
-counted_few true false sent given most h g = g refl
-counted_few false writes sent given most h g = omega arith
+counted_few false true sent given most h g = omega arith
+counted_few good false sent given most h g = g refl
 
 moved_few : (s : ScenarioValue) (a : Array) (q : Process) (line : IsByLine s q) → Obeys s → AreOfLines s a → HasWhole a → has_target s q.target ≡ true → moved_count q (reply_now a q) ≤ need_of s line.line
 moved_few s a q line o lines whole there =
-    counted_few ((reply_now a q).status == GOOD) (is_writing q) (length q.sent) (length (reply_now a q).bytes) (need_of s line.line)
+    counted_few ((reply_now a q).status == GOOD) (is_writing q) q.sent (reply_now a q).bytes (need_of s line.line)
     (chain (length q.sent) (sent_of s line.line) (need_of s line.line) (ap (λ (x : List ℕ). length x) line.sent ∙ fits.sent) (sent_few s line.line))
     (λ reads. subst (λ (x : ℕ). length (reply_now a q).bytes ≤ x) (need reads) (given_few s a q lines whole))
   where
@@ -118,13 +118,12 @@ sense_cdb s q own sense = go (command_at s.commands q.id.command) own
 
 sense_few : (s : ScenarioValue) (a : Array) (q : Process) → q.cdb ≡ sense_block → AreOfLines s a → HasWhole a → moved_count q (reply_now a q) ≤ 18
 sense_few s a q e lines whole =
-    counted ((reply_now a q).status == GOOD) (is_writing q) (length q.sent) (length (reply_now a q).bytes) (ap (λ (x : List ℕ). is_write (command_of x)) e)
+    counted ((reply_now a q).status == GOOD) (is_writing q) q.sent (reply_now a q).bytes (ap (λ (x : List ℕ). is_write (command_of x)) e)
     (subst (λ (x : List ℕ). length (reply_now a q).bytes ≤ most_given (command_of x) (unit_of s q.target q.unit)) e (given_few s a q lines whole))
   where
-    counted : (good writes : Bool) (sent given : ℕ) → writes ≡ false → given ≤ 18 → (if good then (if writes then sent else given) else 0) ≤ 18
-    counted true true sent given z h = wrong z
-    counted true false sent given z h = h
-    counted false writes sent given z h = omega arith
+    counted : (good writes : Bool) (sent given : List ℕ) → writes ≡ false → length given ≤ 18 → length (if writes then (if good then sent else []) else given) ≤ 18
+    counted good true sent given z h = wrong z
+    counted good false sent given z h = h
 
 -- ---- the process that is served
 

@@ -1,14 +1,14 @@
 -- A command that has more data runs to make has them of the runs that are set aside for it: what it moves is what it needs.
 use Rattle.measure_laws.proofs
-use proofs.Names.{ℕ, ◌≡◌, ◌<◌, ◌∙◌, Bool, true, false, ◌&&◌, List, [], ◌∷◌, length, Option, Some, None, Result, Ok, Err}
-use proofs.Names.{refl, sym, ap, arith, and_parts, eqb-true, same_Some, find, list_any, ◌+◌, ◌*◌, ◌||◌, ◌==◌}
-use proofs.Names.{if◌then◌else◌, is_some, nat_le, nat_lt, wrong', blocks_moved, command_of, CdbFault, Command, GOOD}
-use proofs.Names.{has_target, unit_of, moved_by, need_of, ScenarioValue, Obeys, CmdDef, Policy, TargetDef, UnitDef}
-use proofs.Names.{array_after, Contents, execution, is_good_range, range_of, range_in, Process, command_process}
-use proofs.Names.{process_by, process_if, process_of, sense_process, command_at, context_at, Array, UnitState, nexus_of}
+use proofs.Names.{ℕ, ◌≡◌, ◌<◌, ◌∙◌, Bool, true, false, ◌&&◌, List, [], ◌∷◌, Option, Some, None, Result, Ok, Err, refl}
+use proofs.Names.{sym, ap, arith, and_parts, same_Some, find, list_any, ◌+◌, ◌*◌, ◌||◌, ◌==◌, if◌then◌else◌, is_some}
+use proofs.Names.{nat_le, nat_lt, wrong', blocks_moved, command_of, CdbFault, Command, GOOD, has_target, unit_of}
+use proofs.Names.{moved_by, need_of, ScenarioValue, Obeys, CmdDef, Policy, TargetDef, UnitDef, good_range, array_after}
+use proofs.Names.{Contents, execution, is_good_range, range_of, range_in, Process, command_process, process_by}
+use proofs.Names.{process_if, process_of, sense_process, command_at, context_at, Array, UnitState, nexus_of}
 use proofs.Names.{unit_state_at, data_runs, runs_at, runs_of, runs_over, policy_of, runs_in, target_def_of, RunState}
-use proofs.Names.{array_of, blocks_in, is_writing, moved_count, reply_now, size_of, IsByLine, good_range, IsOfLine}
-use proofs.Names.{none_some, some_zero, zero_times, by_bool, task_here, FitsRuns, fits_runs, lines_now, fits_reads}
+use proofs.Names.{array_of, blocks_in, is_writing, moved_count, reply_now, size_of, IsByLine, IsOfLine, none_some}
+use proofs.Names.{some_zero, zero_times, by_bool, task_here, FitsRuns, fits_runs, lines_now, fits_reads, moved_good}
 use proofs.{Names.{need_is}, Data.Leavings.{HasMore}}
 
 -- ---- an automatic REQUEST SENSE moves no blocks
@@ -60,12 +60,6 @@ target_there s dev = go s.targets
         by true more z = refl
         by false more z = more z
 
-carried_out : (a : Array) (q : Process) → (moved_count q (reply_now a q) == 0) ≡ false → (reply_now a q).status ≡ GOOD
-carried_out a q some =
-    by_bool ((reply_now a q).status == GOOD)
-    (λ e. eqb-true (reply_now a q).status GOOD e)
-    (λ e. some_zero (moved_count q (reply_now a q)) some (λ i. if e i then (if is_writing q then length q.sent else length (reply_now a q).bytes) else 0))
-
 pub need_moved : (s : ScenarioValue) (k : RunState) (q : Process) (h : IsByLine s q) (blocks : ℕ) → Obeys s → k.array ≡ array_after s k.story.history → process_of s q.id ≡ Some q
     → is_some (target_def_of s q.target) ≡ true → blocks_in (range_in (command_of q.cdb)) ≡ Some blocks → (moved_count q (reply_now (array_of s k) q) == 0) ≡ false
     → need_of s h.line ≡ moved_count q (reply_now (array_of s k) q)
@@ -88,8 +82,8 @@ need_moved s k q h blocks o is own there named some =
     go None (Some v) e l = absurd l
     go (Some u) (Some v) e l =
         let good : (execution (context_at a (nexus_of q) (Some v)) q.cdb q.sent).reply.status ≡ GOOD =
-        ap (λ (x : Option UnitState). (execution (context_at a (nexus_of q) x) q.cdb q.sent).reply.status) (sym e) ∙ carried_out a q some in
-        blocks_needed (command_of q.cdb) u v.contents blocks named l.0 l.1 (λ c f. good_range (context_at a (nexus_of q) (Some v)) q.cdb q.sent c refl f good)
+        ap (λ (x : Option UnitState). (execution (context_at a (nexus_of q) x) q.cdb q.sent).reply.status) (sym e) ∙ moved_good a q some in
+        blocks_needed (command_of q.cdb) u v.contents blocks named l.0 l.1 (λ c f. good_range (context_at a (nexus_of q) (Some v)) q.cdb q.sent c f good)
         ∙ ap (λ (x : Option UnitState). blocks * size_of x) (sym e) ∙ sym all
 
 -- ---- its runs are those that are set aside

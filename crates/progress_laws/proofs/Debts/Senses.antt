@@ -2,29 +2,19 @@
 use Rattle.progress_laws.proofs
 use proofs.Names.{ℕ, ◌≡◌, Bool, true, false, not, ◌&&◌, ◌||◌, ◌∙◌, List, ◌∷◌, Option, Some, None, refl, sym, ap, subst}
 use proofs.Names.{inl, inr, cases_Bool, same_Some, if◌then◌else◌, ◌==◌, is_none, is_some, wrong, wrong', and_second}
-use proofs.Names.{Event, ProcId, command_of, Sense, ABORTED_COMMAND, GOOD, ScenarioValue, CmdDef, abort_lists}
-use proofs.Names.{fail_lists, loss_lists, reset_lists, took, end_lists, reply_in, CommandContext, Reply}
-use proofs.Names.{attention_execution, check_condition, execution, is_request_sense, needs_unit, queue_full}
-use proofs.Names.{reply_execution, sense_of, unit_not_supported, Process, process_by, process_if, process_of}
-use proofs.Names.{command_at, same_bool, same_id, sense_block, IsSound, Array, RunningProcess, UnitState, guest_at}
-use proofs.Names.{is_held, nexus_of, unit_state_at, Sent, sense_id, none_some, executed, reply_at, accepted, settles}
-use proofs.{Names.{running_id, AreFetched, PaysWell}, Owed.Events.{running_own}}
+use proofs.Names.{Event, ProcId, command_of, ABORTED_COMMAND, GOOD, ScenarioValue, CmdDef, abort_lists, fail_lists}
+use proofs.Names.{loss_lists, reset_lists, took, end_lists, sense_fetched, reply_in, CommandContext, Reply}
+use proofs.Names.{check_condition, execution, is_request_sense, queue_full, sense_of, Process, process_by, process_if}
+use proofs.Names.{process_of, command_at, same_bool, same_id, sense_block, IsSound, Array, RunningProcess, UnitState}
+use proofs.Names.{guest_at, is_held, nexus_of, unit_state_at, Sent, sense_id, none_some, executed, reply_at, accepted}
+use proofs.{Names.{settles, running_id, AreFetched, PaysWell}, Owed.Events.{running_own}}
 use Rattle.bus_due.specs.disk_array.proofs.SoundArrays.{id_is}
 use Rattle.bus_due.specs.disk_array.specs.Steps
 
 -- ---- what it answers
 
 fetches_good : (m : CommandContext) (sent : List ℕ) → (execution m sense_block sent).reply.status ≡ GOOD
-fetches_good m sent = go m.present m.attention
-  where
-    by : (o : Option Sense) → (attention_execution m o sense_block sent).reply.status ≡ GOOD
-    by None = refl
-    by (Some a) = refl
-
-    go : (q : Bool) (o : Option Sense)
-        → (if not q && needs_unit sense_block then reply_execution m (check_condition unit_not_supported) else attention_execution m o sense_block sent).reply.status ≡ GOOD
-    go true o = by o
-    go false o = by o
+fetches_good m sent = λ i. (sense_fetched m sent i).reply.status
 
 pub sense_cdb : (s : ScenarioValue) (id : ProcId) (p : Process) → id.sense ≡ true → process_of s id ≡ Some p → p.cdb ≡ sense_block
 sense_cdb s id p e is = go (command_at s.commands id.command) is

@@ -1,9 +1,9 @@
 -- As a process that does not write runs, and ends GOOD, its data pointer stands past the bytes of its reply: the last of its runs is done, or
 -- it gives none (6.1.5.1, 6.6.6, 7.3).
 use Rattle.right_laws.proofs
-use proofs.Names.{ℕ, ◌≡◌, ◌⊎◌, inl, inr, ◌+◌, ◌-◌, ◌≤◌, arith, Bool, true, false, ◌==◌, ◌∙◌, List, ◌∷◌, length, Option}
-use proofs.Names.{Some, None, refl, sym, ap, subst, and_parts, ltb-false, same_Some, if◌then◌else◌, is_some, nat_lt}
-use proofs.Names.{wrong, wrong', zero_of, Event, changes_phase, Row, Connection, GOOD, ScenarioValue, Policy}
+use proofs.Names.{ℕ, ◌≡◌, ◌⊎◌, inl, inr, ◌+◌, ◌-◌, ◌≤◌, arith, Bool, true, false, ◌==◌, ◌∙◌, List, [], ◌∷◌, length}
+use proofs.Names.{Option, Some, None, refl, sym, ap, subst, and_parts, ltb-false, same_Some, if◌then◌else◌, is_some}
+use proofs.Names.{nat_lt, wrong, wrong', zero_of, Event, changes_phase, Row, Connection, GOOD, ScenarioValue, Policy}
 use proofs.Names.{array_after, reply_in, shows_run, Reply, Array, RowReading, row_reading, row_events_by, process}
 use proofs.Names.{Story, policy_of, run_at, run_in, run_length, runs_in, runs_in_all, is_status_next, Serving}
 use proofs.Names.{after_run, disconnect_messages, disconnection, phase_entry, phase_leaving, phase_of, unless_attention}
@@ -66,7 +66,7 @@ all_given active start requests length_ moved given e f h g = omega (arith, e, f
 -- ---- the row
 
 pub points_at_end : (s : ScenarioValue) (p : List Row) (row : Row) → ReadRow s p row → Whole s p → Whole s (row ∷ p) → RunsLeftOf IsReader s p → PointsAtEnd s (run_state s p) row
-points_at_end s p row w was next left q reply is reading good = by (here_goes s k row answer.link q.id (λ e. (was.facts.items.items.apart e).0) next.rows_are.1 answer.here)
+points_at_end s p row w was next left q reply is reading = by (here_goes s k row answer.link q.id (λ e. (was.facts.items.items.apart e).0) next.rows_are.1 answer.here)
   where
     k : RunState
     k = run_state s p
@@ -103,7 +103,7 @@ points_at_end s p row w was next left q reply is reading good = by (here_goes s 
     t = task_here s k q
 
     moved : t.moved ≡ length reply.bytes
-    moved = (λ i. if (ap (λ (r : Reply). r.status == GOOD) same ∙ good) i then (if reading i then length q.sent else length (reply_now (array_of s k) q).bytes) else 0) ∙ ap (λ (r : Reply). length r.bytes) same
+    moved = (λ i. length (if reading i then (if (reply_now (array_of s k) q).status == GOOD then q.sent else []) else (reply_now (array_of s k) q).bytes)) ∙ ap (λ (r : Reply). length r.bytes) same
 
     by : GoesSo s k row → length reply.bytes ≤ (carried_here k q.id).moved.active
     by v = cases (runs_from (serving_of s k n.target) (bus_of k).atn (phase_of (bus_of k)) r.id r.turn)

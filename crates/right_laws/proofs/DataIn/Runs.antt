@@ -1,41 +1,14 @@
 -- The data runs of a process that does not write: a read of blocks that ends GOOD gives all their bytes (6.6.6, 7.5).
 use Rattle.right_laws.proofs
-use proofs.Names.{ℕ, ◌≡◌, ◌*◌, Bool, true, false, not, ◌&&◌, ◌==◌, ◌∙◌, List, length, Option, Some, None, Result, Ok}
-use proofs.Names.{Err, refl, sym, ap, subst, arith, eqb-true, same_Some, if◌then◌else◌, wrong, Event, blocks_moved}
-use proofs.Names.{command_of, Sense, CdbFault, Command, GOOD, is_write, ScenarioValue, Obeys, array_after, bytes_at}
-use proofs.Names.{CommandContext, attention_execution, block_out_of_range, cdb_execution, check_condition}
-use proofs.Names.{command_execution, execution, heeds_attention, is_good_range, needs_unit, range_of, reply_execution}
-use proofs.Names.{unit_not_supported, range_in, Process, contents_of, context_at, Array, UnitState, nexus_of}
-use proofs.Names.{unit_state_at, length_bytes, RunState, array_of, or_start, blocks_in, is_writing, moved_count}
-use proofs.Names.{reply_now, size_of, policy_for, by_bool, step_in, task_here, policies_most, FitsRuns, lines_now}
+use proofs.Names.{ℕ, ◌≡◌, ◌*◌, Bool, true, false, ◌&&◌, ◌==◌, ◌∙◌, List, length, Option, Some, None, Result, Ok, Err}
+use proofs.Names.{refl, sym, ap, subst, [], eqb-true, same_Some, if◌then◌else◌, wrong, Event, blocks_moved, command_of}
+use proofs.Names.{CdbFault, Command, GOOD, is_write, ScenarioValue, Obeys, read_gives, undone, array_after, bytes_at}
+use proofs.Names.{CommandContext, command_execution, execution, range_in, Process, contents_of, context_at, Array}
+use proofs.Names.{UnitState, nexus_of, unit_state_at, length_bytes, RunState, array_of, or_start, blocks_in, is_writing}
+use proofs.Names.{moved_count, reply_now, size_of, policy_for, step_in, task_here, policies_most, FitsRuns, lines_now}
 use proofs.{Names.{size_is}, Replies.Blocks.{HasWhole, whole_always, whole_start}}
 
 -- ---- the bytes of a read
-
-read_gives : (m : CommandContext) (cdb sent : List ℕ) (c : Command) (lba n : ℕ) → command_of cdb ≡ Ok c → (command_execution m c sent).reply.bytes ≡ bytes_at m.contents lba n → (execution m cdb sent).reply.status ≡ GOOD → (execution m cdb sent).reply.bytes ≡ bytes_at m.contents lba n
-read_gives m cdb sent c lba n is gives good = all (not m.present && needs_unit cdb) good
-  where
-    Is : Rattle.bus_due.specs.disk_array.specs.Execution.Execution → Type 0
-    Is x = x.reply.status ≡ GOOD → x.reply.bytes ≡ bytes_at m.contents lba n
-
-    in_range : (y : Bool) → Is (if y then command_execution m c sent else reply_execution m (check_condition block_out_of_range))
-    in_range true e = gives
-    in_range false e = absurd (omega (arith, e))
-
-    plain : Is (cdb_execution m (command_of cdb) sent)
-    plain = subst Is (ap (λ (r : Result Command CdbFault). cdb_execution m r sent) (sym is)) (in_range (is_good_range m.contents.count (range_of c)))
-
-    attended : (o : Option Sense) → Is (attention_execution m o cdb sent)
-    attended None = plain
-    attended (Some sense) = go (heeds_attention cdb)
-      where
-        go : (y : Bool) → Is (if y then record { contents = m.contents; reported = true; reply = check_condition sense } else cdb_execution m (command_of cdb) sent)
-        go true e = absurd (omega (arith, e))
-        go false e = plain e
-
-    all : (y : Bool) → Is (if y then reply_execution m (check_condition unit_not_supported) else attention_execution m m.attention cdb sent)
-    all true e = absurd (omega (arith, e))
-    all false e = attended m.attention e
 
 -- Of so many blocks.
 record IsRead (r : Result Command CdbFault) (blocks : ℕ) : Type 0 where
@@ -70,14 +43,28 @@ is_read (Ok (Command.Write10 lba count)) blocks w e = wrong w
 
 -- ---- what it moves
 
-moved_reads : (a : Array) (q : Process) (blocks : ℕ) → HasWhole a → is_writing q ≡ false → blocks_in (range_in (command_of q.cdb)) ≡ Some blocks → (moved_count q (reply_now a q) == 0) ≡ false → moved_count q (reply_now a q) ≡ blocks * size_of (unit_state_at a.units q.target q.unit)
-moved_reads a q blocks whole reads is some =
-    by_bool ((reply_now a q).status == GOOD)
-    (λ e. moved true e ∙ at (unit_state_at a.units q.target q.unit) refl (eqb-true (reply_now a q).status GOOD e))
-    (λ e. wrong (sym (ap (λ (x : ℕ). x == 0) (moved false e)) ∙ some))
+-- What moves some bytes ends GOOD, at a disk.
+pub moved_good : (a : Array) (q : Process) → (moved_count q (reply_now a q) == 0) ≡ false → (reply_now a q).status ≡ GOOD
+moved_good a q some = go ((reply_now a q).status == GOOD) refl
   where
-    moved : (g : Bool) → ((reply_now a q).status == GOOD) ≡ g → moved_count q (reply_now a q) ≡ (if g then length (reply_now a q).bytes else 0)
-    moved g e = λ i. if e i then (if reads i then length q.sent else length (reply_now a q).bytes) else 0
+    either : (b : Bool) → (let bytes : List ℕ = if b then [] else [] in length bytes) ≡ 0
+    either true = refl
+    either false = refl
+
+    none : ((reply_now a q).status == GOOD) ≡ false → moved_count q (reply_now a q) ≡ 0
+    none e =
+        let m : CommandContext = context_at a (nexus_of q) (unit_state_at a.units q.target q.unit) in
+        (λ i. length (if is_writing q then (if e i then q.sent else []) else (undone m q.cdb q.sent e).bytes i)) ∙ either (is_writing q)
+
+    go : (g : Bool) → ((reply_now a q).status == GOOD) ≡ g → (reply_now a q).status ≡ GOOD
+    go true e = eqb-true (reply_now a q).status GOOD e
+    go false e = wrong (sym (ap (λ (x : ℕ). x == 0) (none e)) ∙ some)
+
+moved_reads : (a : Array) (q : Process) (blocks : ℕ) → HasWhole a → is_writing q ≡ false → blocks_in (range_in (command_of q.cdb)) ≡ Some blocks → (moved_count q (reply_now a q) == 0) ≡ false → moved_count q (reply_now a q) ≡ blocks * size_of (unit_state_at a.units q.target q.unit)
+moved_reads a q blocks whole reads is some = moved ∙ at (unit_state_at a.units q.target q.unit) refl (moved_good a q some)
+  where
+    moved : moved_count q (reply_now a q) ≡ length (reply_now a q).bytes
+    moved = λ i. length (if reads i then (if (reply_now a q).status == GOOD then q.sent else []) else (reply_now a q).bytes)
 
     r : IsRead (command_of q.cdb) blocks
     r = is_read (command_of q.cdb) blocks reads is

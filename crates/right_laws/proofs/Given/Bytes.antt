@@ -6,15 +6,14 @@ use proofs.Names.{length, Option, Some, None, refl, sym, ap, subst, same_Some, i
 use proofs.Names.{wrong, wrong', Event, ProcId, LineSet, is_command, is_data, receiver_of, receiver_in, Row, Change}
 use proofs.Names.{GOOD, ScenarioValue, step_sound, array_step, reply_in, Reply, Process, same_id, HasSeats, Array}
 use proofs.Names.{RowReading, row_reading, Area, CarriedBytes, area_with, carried_after_byte, is_status_phase}
-use proofs.Names.{row_events_by, Item, process, abort, Link, RunState, array_of, carried_here, run_state}
+use proofs.Names.{row_events_by, Item, process, abort, Link, moved_bytes, RunState, array_of, carried_here, run_state}
 use proofs.Names.{run_state_after, array_after_events, is_writing, reply_now, run_replies, puts, id_is, self_id}
 use proofs.Names.{IsFilled, none_some, by_bool, by_option, running_id, GivesAtRun, IsFront, GivenIn, HasGiven}
 use proofs.Names.{GivenFacts, GivesNext, HasReplyStill, GivesAsked, Load, load, OnEvents, IfOpen, OnOpen}
-use proofs.{Given.{Areas.{moved_crosses}, Replies.{bad_empty}}, Ran.Blocks.{lasting_by, front_all}}
-use proofs.Ran.{Crossings.{GoesSo, crossing_goes}, Facts.{Known, here_is, run_found, steps_of, then_is, undoes_of}}
-use proofs.Ran.{Lasting.{row_lasts}, Open.{IfAccepts, each_both, each_map, open_events, open_start, running_has}}
-use proofs.Ran.{Open.{none_is}, Shown.{IsArrival, IsAnswer, ShownAs, row_shown, RunsAs, runs_alone, runs_arrived}}
-use proofs.Ran.Shown.{row_runs}
+use proofs.{Given.Areas.{moved_crosses}, Ran.{Blocks.{lasting_by, front_all}, Crossings.{GoesSo, crossing_goes}}}
+use proofs.Ran.{Facts.{Known, here_is, run_found, steps_of, then_is, undoes_of}, Lasting.{row_lasts}, Open.{IfAccepts}}
+use proofs.Ran.{Open.{each_both, each_map, open_events, open_start, running_has, none_is}, Shown.{IsArrival, IsAnswer}}
+use proofs.Ran.Shown.{ShownAs, row_shown, RunsAs, runs_alone, runs_arrived, row_runs}
 use Rattle.bus_due.specs.disk_array.specs.Steps
 
 -- ---- a byte comes to a front
@@ -136,7 +135,7 @@ given_still s k j id same was q own = go (carried_here j id).moved.bytes refl (w
     go (x ∷ xs) e (inl z) = inl z
     go (x ∷ xs) e (inr g) =
         let is : reply_now (array_of s j) q ≡ reply_now (array_of s k) q = same q own (λ z. some x xs (sym e ∙ z)) in
-        inr (record { good = ap (λ (r : Reply). r.status) is ∙ g.good; front = λ reads. subst (λ (r : Reply). IsFront (carried_here j id).moved.bytes r.bytes) (sym is) (g.front reads) })
+        inr (record { good = λ writes. ap (λ (r : Reply). r.status) is ∙ g.good writes; front = λ reads. subst (λ (r : Reply). IsFront (carried_here j id).moved.bytes r.bytes) (sym is) (g.front reads) })
 
 pub no_data_in_command : (b : LineSet) → is_command b ≡ true → is_data b ≡ false
 no_data_in_command b e = go b.msg b.cd b.io e
@@ -201,23 +200,24 @@ given_next s p row h asked before = each_both (IfOpen Mid b) (IfOpen (HasReplySt
 -- ---- as it runs
 
 -- By the array in which it runs.
-all_given : (a : Array) (p : Process) (reply : Reply) (bytes : List ℕ) → reply ≡ reply_now a p → GivenIn a p bytes → (is_writing p && reply.status == GOOD) ≡ false → (is_writing p ≡ false → (reply.status == GOOD) ≡ true → length reply.bytes ≤ length bytes) → bytes ≡ reply.bytes
+all_given : (a : Array) (p : Process) (reply : Reply) (bytes : List ℕ) → reply ≡ reply_now a p → GivenIn a p bytes → (is_writing p && reply.status == GOOD) ≡ false → (is_writing p ≡ false → length reply.bytes ≤ length bytes) → bytes ≡ moved_bytes p reply
 all_given a p reply bytes same w not_both whole = go (reply.status == GOOD) refl (is_writing p) refl
   where
-    none : (reply.status == GOOD) ≡ false → GivenIn a p bytes → bytes ≡ []
-    none bad (inl e) = e
-    none bad (inr g) = wrong (sym (ap (λ (x : ℕ). x == GOOD) (ap (λ (r : Reply). r.status) same ∙ g.good)) ∙ bad)
+    none : is_writing p ≡ true → (reply.status == GOOD) ≡ false → GivenIn a p bytes → bytes ≡ []
+    none writes bad (inl e) = e
+    none writes bad (inr g) = wrong (sym (ap (λ (x : ℕ). x == GOOD) (ap (λ (r : Reply). r.status) same ∙ g.good writes)) ∙ bad)
 
     front : is_writing p ≡ false → GivenIn a p bytes → IsFront bytes (reply_now a p).bytes
     front reads (inl e) = front_of bytes (reply_now a p).bytes e
     front reads (inr g) = g.front reads
 
-    go : (x : Bool) → (reply.status == GOOD) ≡ x → (y : Bool) → is_writing p ≡ y → bytes ≡ reply.bytes
-    go false ex y ey = none ex w ∙ sym (ap (λ (r : Reply). r.bytes) same ∙ bad_empty a p (ap (λ (r : Reply). r.status == GOOD) (sym same) ∙ ex))
+    go : (x : Bool) → (reply.status == GOOD) ≡ x → (y : Bool) → is_writing p ≡ y → bytes ≡ moved_bytes p reply
+    go false ex true ey = none ey ex w ∙ sym (λ i. if ey i then (if ex i then p.sent else []) else reply.bytes)
     go true ex true ey = wrong (sym (λ i. ey i && ex i) ∙ not_both)
-    go true ex false ey =
+    go x ex false ey =
         let f = front ey w in
-        front_all bytes f.rest reply.bytes (f.all_is ∙ ap (λ (r : Reply). r.bytes) (sym same)) (whole ey ex)
+        front_all bytes f.rest reply.bytes (f.all_is ∙ ap (λ (r : Reply). r.bytes) (sym same)) (whole ey)
+        ∙ sym (λ i. if ey i then (if reply.status == GOOD then p.sent else []) else reply.bytes)
 
 reply_is : (a : Array) (p : Process) (reply : Reply) (o : Option Reply) → o ≡ Some reply → o ≡ Some (reply_now a p) → reply ≡ reply_now a p
 reply_is a p reply o e f = same_Some reply (reply_now a p) (sym e ∙ f)
@@ -256,8 +256,8 @@ gives_at_run s p row seats h asked facts q reply is not_both = by shape
     given : reply_in b.replies q.id ≡ Some reply
     given = ap (λ (x : Array). reply_in x.replies q.id) (sym (then_is s p row h)) ∙ is.reply_is
 
-    whole : is_writing q ≡ false → (reply.status == GOOD) ≡ true → length reply.bytes ≤ length bytes
-    whole reads good = asked.whole q reply is reads good
+    whole : is_writing q ≡ false → length reply.bytes ≤ length bytes
+    whole reads = asked.whole q reply is reads
 
     standing : Steps.step s (Event.Run q.id) a ≡ Some b → GivenIn a q bytes
     standing st =
@@ -267,7 +267,7 @@ gives_at_run s p row seats h asked facts q reply is not_both = by shape
         let has : HasGiven s a k q.id = subst (HasGiven s a k) own (running_has (IfOpen (HasGiven s a k) a) a q.id f.running all f.running_is (ap (λ (x : ProcId). reply_in a.replies x) own ∙ none)) in
         has q is.process_is
 
-    by : RunsAs q.id shown → bytes ≡ reply.bytes
+    by : RunsAs q.id shown → bytes ≡ moved_bytes q reply
     by (runs_alone e) =
         let st : Steps.step s (Event.Run q.id) a ≡ Some b = sym (ap (array_after_events s (Some a)) e) ∙ steps_of s p row h in
         all_given a q reply bytes (reply_is a q reply (reply_in b.replies q.id) given (run_replies s a b q h.places.sound is.process_is st)) (standing st) not_both whole
@@ -276,7 +276,7 @@ gives_at_run s p row seats h asked facts q reply is not_both = by shape
         arrival : IsArrival k d q.id
         arrival = (subst (OnEvents (ShownAs s k d row)) e (row_shown s k row)).1.0
 
-        go : (o : Option Array) → array_step s (Event.Accept q.id) (Some a) ≡ o → array_step s (Event.Run q.id) o ≡ Some b → bytes ≡ reply.bytes
+        go : (o : Option Array) → array_step s (Event.Accept q.id) (Some a) ≡ o → array_step s (Event.Run q.id) o ≡ Some b → bytes ≡ moved_bytes q reply
         go None z w = none_some b w
         go (Some c) z w =
             all_given c q reply bytes (reply_is c q reply (reply_in b.replies q.id) given (run_replies s c b q (step_sound s a c (Event.Accept q.id) seats h.places.sound z) is.process_is w)) (inl (arrives_with s p row h asked q.id arrival)) not_both whole

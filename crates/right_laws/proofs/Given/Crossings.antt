@@ -1,40 +1,37 @@
 -- As a byte of data crosses, the process that is served would end GOOD; and in DATA IN the byte is that at its data pointer, where this stands
 -- as far in the run as bytes were asked for (6.1.5.1, 6.6.20).
 use Rattle.right_laws.proofs
-use proofs.Names.{ℕ, ◌+◌, ◌≡◌, ◌≤◌, ◌<◌, arith, Bool, true, false, not, ◌&&◌, ◌==◌, ◌%◌, ◌∙◌, List, ◌∷◌, length, Option}
-use proofs.Names.{Some, None, refl, sym, ap, subst, nat_tests, if◌then◌else◌, is_some, slice_index_or, wrong, wrong'}
-use proofs.Names.{plus_none, ProcId, byte_back, change_of, rises, LineSet, is_data, call, connection, connection_after}
-use proofs.Names.{receiver_in, receiver_of, bus, Row, Change, Connection, handshakes, GOOD, ScenarioValue, Obeys}
-use proofs.Names.{Policy, reply_in, Reply, Process, row_reading, policy_of, run_at, run_length, begun, phase_of}
-use proofs.Names.{data_byte, phase_byte, run_length_if, Phase, Task, target_def_of, progress_in, IsPrompt, RunState}
-use proofs.Names.{array_of, bus_of, carried_here, process_item, process_served, run_state, serving_of, is_writing}
-use proofs.Names.{given_if, moved_count, reply_now, task_if, task_with, obeys_fits, seats_are, process_id, GoesOn}
-use proofs.Names.{change_plain, least_is, run_count, byte_values, risen, by_bool, is_directed, writes_of, writes_out}
-use proofs.Names.{AreCounted, CountFacts, pulses_here, out_step, rise_of, byte_within, GivesNext, GivesAtCrossing}
-use proofs.{Names.{PointsAtRun, PointsAtCrossing, AllStandIn}, Offers.Facts.{DataOfferFacts, data_in_carries}}
-use proofs.{Offers.Steps.{is_data_in, data_at}, Ran.{Crossings.{GoesSo, crossing_goes, known_served}, Facts.{Known}}}
+use proofs.Names.{ℕ, ◌+◌, ◌≡◌, ◌≤◌, ◌<◌, arith, Bool, true, false, not, ◌&&◌, ◌==◌, ◌%◌, ◌∙◌, List, [], ◌∷◌, length}
+use proofs.Names.{Option, Some, None, refl, sym, ap, subst, nat_tests, if◌then◌else◌, is_some, slice_index_or, wrong}
+use proofs.Names.{wrong', plus_none, ProcId, byte_back, change_of, rises, LineSet, is_data, call, connection}
+use proofs.Names.{connection_after, receiver_in, receiver_of, bus, Row, Change, Connection, handshakes, GOOD}
+use proofs.Names.{ScenarioValue, Obeys, Policy, reply_in, Reply, Process, row_reading, policy_of, run_at, run_length}
+use proofs.Names.{begun, phase_of, data_byte, phase_byte, run_length_if, Phase, Task, target_def_of, progress_in}
+use proofs.Names.{IsPrompt, RunState, array_of, bus_of, carried_here, process_item, process_served, run_state}
+use proofs.Names.{serving_of, is_writing, given_if, moved_count, reply_now, task_if, task_with, obeys_fits, seats_are}
+use proofs.Names.{process_id, GoesOn, change_plain, least_is, run_count, byte_values, risen, by_bool, is_directed}
+use proofs.Names.{writes_of, writes_out, AreCounted, CountFacts, pulses_here, out_step, rise_of, byte_within, GivesNext}
+use proofs.{Names.{GivesAtCrossing, PointsAtRun, PointsAtCrossing, AllStandIn}, Offers.Facts.{DataOfferFacts}}
+use proofs.{Offers.{Facts.{data_in_carries}, Steps.{is_data_in, data_at}}, Ran.Crossings.{GoesSo, crossing_goes}}
+use proofs.Ran.{Crossings.{known_served}, Facts.{Known}}
 
 -- ---- what moves
 
-good_of : (p : Process) (r : Reply) (x : ℕ) → x < moved_count p r → r.status ≡ GOOD
-good_of p r x h =
+good_of : (p : Process) (r : Reply) (x : ℕ) → is_writing p ≡ true → x < moved_count p r → r.status ≡ GOOD
+good_of p r x w h =
     by_bool (r.status == GOOD)
     (λ e. grind (arith, nat_tests))
-    (λ e. none (moved_count p r) (ap (λ (q : Bool). if q then some else 0) e) h)
+    (λ e. none (moved_count p r) (λ i. length (if w i then (if e i then p.sent else []) else r.bytes)) h)
   where
-    some : ℕ
-    some = if is_writing p then length p.sent else length r.bytes
-
     none : (n : ℕ) → n ≡ 0 → x < n → r.status ≡ GOOD
     none n e f = absurd omega (arith, e, f)
 
 few_of : (p : Process) (r : Reply) → is_writing p ≡ false → moved_count p r ≤ length r.bytes
 few_of p r w = go (r.status == GOOD) (is_writing p) w
   where
-    go : (g b : Bool) → b ≡ false → (if g then (if b then length p.sent else length r.bytes) else 0) ≤ length r.bytes
-    go true true e = wrong e
-    go true false e = omega arith
-    go false b e = omega arith
+    go : (g b : Bool) → b ≡ false → length (if b then (if g then p.sent else []) else r.bytes) ≤ length r.bytes
+    go g true e = wrong e
+    go g false e = omega arith
 
 less : (a b c d : ℕ) → a ≡ b → b < c → c ≤ d → a < d
 less a b c d e f g = omega (arith, e, f, g)
@@ -132,7 +129,7 @@ gives_crossing s p row o prompt h offers counted stands points l id q link item 
 
         reading : is_writing q ≡ false → GivesNext s k q id ((row_reading k.story.bus_state row).change.after.data_bits % 256)
         reading reads = record {
-          good = good_of q now ((run_at policy t t.runs).start + k.handshakes.requests) inside;
+          good = λ z. wrong' (sym reads ∙ z);
           byte_is = λ r. byte;
           active_in = λ r. (stands.each id).active_in;
           within = λ r. less (carried_here k id).moved.active ((run_at policy t t.runs).start + k.handshakes.requests) t.moved (length now.bytes) active inside (few_of q now reads);
@@ -174,7 +171,7 @@ gives_crossing s p row o prompt h offers counted stands points l id q link item 
 
         writing : is_writing q ≡ true → GivesNext s k q id ((row_reading k.story.bus_state row).change.after.data_bits % 256)
         writing writes = record {
-          good = good_of q now ((run_at policy t t.runs).start + (handshakes p).answers) (byte_within policy t (handshakes p).answers (subst (λ (x : ℕ). (handshakes p).answers < x) run (answered (pulses_here p) refl)));
+          good = λ z. good_of q now ((run_at policy t t.runs).start + (handshakes p).answers) writes (byte_within policy t (handshakes p).answers (subst (λ (x : ℕ). (handshakes p).answers < x) run (answered (pulses_here p) refl)));
           byte_is = λ r. wrong (sym writes ∙ r);
           active_in = λ r. wrong (sym writes ∙ r);
           within = λ r. wrong (sym writes ∙ r);

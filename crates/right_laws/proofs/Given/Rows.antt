@@ -23,7 +23,7 @@ asked_of : (s : ScenarioValue) (p : List Row) (row : Row) → Obeys s → IsProm
 asked_of s p row o prompt now next then books by = record {
   crosses = gives_crossing s p row o prompt (known_of s p row now next then books) books.offers now.pointers.counts (all_stand s p) by.points;
   arrives = by.arrives;
-  whole = λ q reply is reads good. reaches (length reply.bytes) (carried_here (run_state s p) q.id).moved.active (length (carried_here (run_state s p) q.id).moved.bytes) (by.whole q reply is reads good) ((all_stand s p).each q.id).active_in;
+  whole = λ q reply is reads. reaches (length reply.bytes) (carried_here (run_state s p) q.id).moved.active (length (carried_here (run_state s p) q.id).moved.bytes) (by.whole q reply is reads) ((all_stand s p).each q.id).active_in;
   stays = reply_stays_by s p row (seats_are s (obeys_fits s o)) (known_of s p row now next then books) by.stays;
 }
 

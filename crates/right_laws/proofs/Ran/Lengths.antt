@@ -1,15 +1,14 @@
 -- A command gives no more bytes than it moves at the line of its unit, and a write gives none (7.3, 8.2, 9.2).
 use Rattle.right_laws.proofs
-use proofs.Names.{ℕ, ◌≡◌, ◌≤◌, ◌+◌, ◌*◌, ◌-◌, Bool, true, false, not, ◌&&◌, ◌∙◌, List, length, take, Option, Some, None}
-use proofs.Names.{Result, Ok, Err, refl, sym, ap, subst, arith, and_parts, length-take, if◌then◌else◌, min, nat_le}
-use proofs.Names.{nat_lt, blocks_moved, command_of, inquiry_data, sense_data, Sense, CdbFault, Command, INQUIRY}
-use proofs.Names.{INQUIRY_LEN, SENSE_LEN, has_target, unit_of, is_write, moved_by, need_of, ScenarioValue, CmdDef}
-use proofs.Names.{UnitDef, Contents, bytes_at, no_contents, CommandContext, Reply, attention_execution}
-use proofs.Names.{block_out_of_range, cdb_execution, check_condition, command_execution, execution, heeds_attention}
-use proofs.Names.{invalid_field, is_good_range, is_opcode, needs_unit, range_execution, range_of, reply_execution}
-use proofs.Names.{returned_sense, unit_not_supported, Process, contents_of, context_at, Array, UnitState, nexus_of}
-use proofs.Names.{sense_of_nexus, unit_state_at, length_bytes, replies, absent_reply_by, data_or_refusal, inquiry_room}
-use proofs.{Names.{sense_room, AreOfLines, IsOfLine}, Replies.Blocks.{AreWhole, HasWhole}}
+use proofs.Names.{ℕ, ◌≡◌, ◌≤◌, ◌+◌, ◌*◌, ◌-◌, Bool, true, false, ◌&&◌, ◌∙◌, List, length, take, Option, Some, None}
+use proofs.Names.{Result, Ok, Err, sym, ap, subst, arith, and_parts, length-take, if◌then◌else◌, min, nat_le, nat_lt}
+use proofs.Names.{blocks_moved, command_of, inquiry_data, sense_data, Sense, CdbFault, Command, INQUIRY, INQUIRY_LEN}
+use proofs.Names.{SENSE_LEN, has_target, unit_of, is_write, moved_by, need_of, ScenarioValue, CmdDef, UnitDef, of_all}
+use proofs.Names.{AreWhole, Contents, bytes_at, no_contents, CommandContext, Reply, command_execution, execution}
+use proofs.Names.{invalid_field, is_good_range, is_opcode, range_of, returned_sense, unit_not_supported, Process}
+use proofs.Names.{contents_of, context_at, Array, UnitState, nexus_of, sense_of_nexus, unit_state_at, length_bytes}
+use proofs.Names.{replies, absent_reply_by, data_or_refusal, inquiry_room, sense_room, AreOfLines, IsOfLine}
+use proofs.Replies.Blocks.{HasWhole}
 
 -- What a command may give at the line of its unit.
 abbrev pub most_given : Result Command CdbFault → Option UnitDef → ℕ
@@ -78,34 +77,12 @@ command_few m u Command.ReadCapacity sent h e = omega arith
 command_few m u (Command.Read10 lba count) sent h e = read_few m.contents u lba count h.count h.size h.whole e
 command_few m u _ sent h e = none_few 0
 
-range_few : (m : CommandContext) (u : UnitDef) (c : Command) (sent : List ℕ) → MeetsLine m u → length (range_execution m c sent).reply.bytes ≤ most_given (Ok c) (Some u)
-range_few m u c sent h = go (is_good_range m.contents.count (range_of c)) refl
-  where
-    go : (q : Bool) → is_good_range m.contents.count (range_of c) ≡ q
-        → length (if q then command_execution m c sent else reply_execution m (check_condition block_out_of_range)).reply.bytes ≤ most_given (Ok c) (Some u)
-    go true e = command_few m u c sent h e
-    go false e = none_few (most_given (Ok c) (Some u))
-
-cdb_few : (m : CommandContext) (u : UnitDef) (r : Result Command CdbFault) (sent : List ℕ) → MeetsLine m u → length (cdb_execution m r sent).reply.bytes ≤ most_given r (Some u)
-cdb_few m u (Ok c) sent h = range_few m u c sent h
-cdb_few m u (Err CdbFault.Opcode) sent h = none_few 0
-cdb_few m u (Err CdbFault.Length) sent h = none_few 0
-cdb_few m u (Err CdbFault.Field) sent h = none_few 0
-
-attention_few : (m : CommandContext) (u : UnitDef) (o : Option Sense) (cdb sent : List ℕ) → MeetsLine m u → length (attention_execution m o cdb sent).reply.bytes ≤ most_given (command_of cdb) (Some u)
-attention_few m u None cdb sent h = cdb_few m u (command_of cdb) sent h
-attention_few m u (Some x) cdb sent h = go (heeds_attention cdb)
-  where
-    go : (q : Bool) → length (if q then record { contents = m.contents; reported = true; reply = check_condition x } else cdb_execution m (command_of cdb) sent).reply.bytes ≤ most_given (command_of cdb) (Some u)
-    go true = none_few (most_given (command_of cdb) (Some u))
-    go false = cdb_few m u (command_of cdb) sent h
-
 execution_few : (m : CommandContext) (u : UnitDef) (cdb sent : List ℕ) → MeetsLine m u → length (execution m cdb sent).reply.bytes ≤ most_given (command_of cdb) (Some u)
-execution_few m u cdb sent h = go (not m.present && needs_unit cdb)
-  where
-    go : (q : Bool) → length (if q then reply_execution m (check_condition unit_not_supported) else attention_execution m m.attention cdb sent).reply.bytes ≤ most_given (command_of cdb) (Some u)
-    go true = none_few (most_given (command_of cdb) (Some u))
-    go false = attention_few m u m.attention cdb sent h
+execution_few m u cdb sent h = of_all m cdb sent (λ x. length x.reply.bytes ≤ most_given (command_of cdb) (Some u)) (record {
+  refused_is = λ sense k. none_few (most_given (command_of cdb) (Some u));
+  reported_is = λ sense a. none_few (most_given (command_of cdb) (Some u));
+  disk_is = λ c is g. subst (λ (r : Result Command CdbFault). length (command_execution m c sent).reply.bytes ≤ most_given r (Some u)) (sym is) (command_few m u c sent h g);
+})
 
 -- ---- at its unit of the array
 

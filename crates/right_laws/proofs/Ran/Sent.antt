@@ -1,7 +1,7 @@
 -- A process that writes, and of which all that it sends has come as it runs, has carried it all (6.1.5.1, 6.6.20).
 use Rattle.right_laws.proofs
-use proofs.Names.{ℕ, ◌+◌, ◌*◌, ◌≡◌, ◌≤◌, arith, Bool, true, false, ◌&&◌, ◌==◌, ◌∙◌, List, length, Some, refl, sym, ap}
-use proofs.Names.{subst, true≢false, eqb-true, same_Some, if◌then◌else◌, wrong, ProcId, Row, Change, Connection}
+use proofs.Names.{ℕ, ◌+◌, ◌*◌, ◌≡◌, ◌≤◌, arith, Bool, true, false, ◌&&◌, ◌==◌, ◌∙◌, List, [], length, Some, refl, sym}
+use proofs.Names.{ap, subst, true≢false, eqb-true, same_Some, if◌then◌else◌, wrong, ProcId, Row, Change, Connection}
 use proofs.Names.{Handshakes, command_of, GOOD, unit_of, ScenarioValue, Obeys, Policy, array_after, reply_in, Reply}
 use proofs.Names.{range_in, Process, process_of, unit_state_at, row_reading, CarriedBytes, row_events_by, process, Link}
 use proofs.Names.{has_run, moved_bytes, phase_of, Cause, Phase, Plan, progress_in, RunState, array_of, bus_of}
@@ -155,9 +155,9 @@ moves_at_run s p row o h facts sends gives id q reply has own given = by (is_wri
     moved bytes e = ap (λ (x : ProcId). (carried_here k x).moved.bytes) (sym same) ∙ e
 
     other : (is_writing q && reply.status == GOOD) ≡ false → (carried_here k id).moved.bytes ≡ moved_bytes q reply
-    other e = moved reply.bytes (gives q reply is e) ∙ sym (ap (λ (b : Bool). if b then q.sent else reply.bytes) e)
+    other e = moved (moved_bytes q reply) (gives q reply is e)
 
     by : (a : Bool) → is_writing q ≡ a → (b : Bool) → (reply.status == GOOD) ≡ b → (carried_here k id).moved.bytes ≡ moved_bytes q reply
-    by true e true f = moved q.sent (sent_bytes s p row q reply o h facts is e (sends q reply is e f)) ∙ sym (λ i. if e i && f i then q.sent else reply.bytes)
+    by true e true f = moved q.sent (sent_bytes s p row q reply o h facts is e (sends q reply is e f)) ∙ sym (λ i. if e i then (if f i then q.sent else []) else reply.bytes)
     by true e false f = other (λ i. e i && f i)
     by false e b f = other (λ i. e i && reply.status == GOOD)

@@ -1,55 +1,25 @@
 -- Each block of each unit of the plain disk array has as many bytes as the unit's blocks have, after any history (7.3, 7.5).
 use Rattle.right_laws.proofs
-use proofs.Names.{ℕ, zero, suc, ◌≡◌, ◌⊎◌, inl, inr, cond, ◌+◌, ◌-◌, ◌*◌, Bool, true, false, not, ◌&&◌, ◌||◌, ◌==◌, ◌∙◌}
-use proofs.Names.{List, [], ◌∷◌, length, take, drop, Option, Some, None, Result, Ok, Err, refl, sym, ap, subst, arith}
-use proofs.Names.{eqb-true, and_parts, length-take, length-drop, length-replicate, same_Some, find, if◌then◌else◌}
-use proofs.Names.{is_none, is_some, wrong, wrong', AbortKind, Event, ProcId, blocks_moved, command_of, Sense, CdbFault}
-use proofs.Names.{Command, GOOD, CHECK_CONDITION, has_target, unit_of, is_write, ScenarioValue, Obeys, FillDef, HostDef}
-use proofs.Names.{UnitDef, choice_keeps, abort_law, device_law, end_law, other_law, reset_law, run_law, history_sound}
-use proofs.Names.{is_own, block_same, array_after, array_step, Contents, block_at, filled_contents, no_contents}
-use proofs.Names.{with_block, with_bytes, blank_contents, CommandContext, Execution, Reply, attention_execution}
-use proofs.Names.{block_out_of_range, cdb_execution, check_condition, command_execution, execution, heeds_attention}
-use proofs.Names.{is_good_range, is_request_sense, needs_unit, range_of, reply_execution, unit_not_supported, choice}
-use proofs.Names.{Process, process_of, same_id, Seat, contents_of, context_of, seat_of, settled_seat, settled_seat_if}
-use proofs.Names.{AllOwnUnits, HasSeats, IsOwnRunning, IsSound, is_of_unit, running_if, step, Array, Nexus}
-use proofs.Names.{RunningProcess, UnitState, guest_at, has_no_current, is_held, settled_array, starting_array}
-use proofs.Names.{starting_unit, starting_units, unit_state_at, units_after_choice, with_current, blocks_written}
-use proofs.Names.{blocks_written_by, written_of, obeys_fits, seats_are, FitsBus, lines_always, sends, line_filled}
-use proofs.Names.{start_settled, AreFilled, AreOfLines, IsOfLine, process_id, id_is, IsOf, none_some, zero_times}
-use proofs.{Names.{by_bool, by_option, running_id, writer_plain, none_sent}, Given.Replies.{own_guests, own_units}}
-use proofs.{Ran.Open.{running_has}, Replies.{Facts.{guest_there}, Same.{SameContext, accept_at, fail_at, place_of}}}
-use proofs.Replies.{Same.{refuse_at}, Targeted.{unit_targeted}}
+use proofs.Names.{ℕ, ◌≡◌, ◌⊎◌, inl, inr, cond, ◌+◌, ◌-◌, ◌*◌, Bool, true, false, not, ◌&&◌, ◌||◌, ◌==◌, ◌∙◌, List, []}
+use proofs.Names.{◌∷◌, length, Option, Some, None, refl, sym, ap, subst, eqb-true, and_parts, same_Some, find}
+use proofs.Names.{if◌then◌else◌, is_none, is_some, wrong, wrong', AbortKind, Event, ProcId, command_of, GOOD}
+use proofs.Names.{CHECK_CONDITION, has_target, unit_of, is_write, ScenarioValue, Obeys, FillDef, HostDef, UnitDef}
+use proofs.Names.{whole_kept, choice_keeps, abort_law, device_law, end_law, other_law, reset_law, run_law}
+use proofs.Names.{history_sound, is_own, AreWhole, blank_whole, block_whole, array_after, array_step, Contents}
+use proofs.Names.{filled_contents, no_contents, with_block, blank_contents, CommandContext, Execution, Reply}
+use proofs.Names.{check_condition, execution, is_request_sense, choice, Process, process_of, same_id, Seat, contents_of}
+use proofs.Names.{context_of, seat_of, settled_seat, settled_seat_if, AllOwnUnits, HasSeats, IsOwnRunning, IsSound}
+use proofs.Names.{is_of_unit, running_if, step, Array, Nexus, RunningProcess, UnitState, guest_at, has_no_current}
+use proofs.Names.{is_held, settled_array, starting_array, starting_unit, starting_units, unit_state_at}
+use proofs.Names.{units_after_choice, with_current, blocks_written, blocks_written_by, obeys_fits, seats_are, FitsBus}
+use proofs.Names.{lines_always, sends, line_filled, start_settled, AreFilled, AreOfLines, IsOfLine, process_id, id_is}
+use proofs.Names.{IsOf, none_some, zero_times, by_bool, by_option, running_id, writer_plain, none_sent}
+use proofs.{Given.Replies.{own_guests, own_units}, Ran.Open.{running_has}, Replies.Facts.{guest_there}}
+use proofs.Replies.{Same.{SameContext, accept_at, fail_at, place_of, refuse_at}, Targeted.{unit_targeted}}
 use Rattle.bus_due.specs.disk_array.specs.Seats
 use Rattle.bus_due.specs.disk_array.specs.Steps
 
-abbrev pub AreWhole : Contents → Type 0
-AreWhole c = (lba : ℕ) → length (block_at c lba) ≡ c.size
-
 -- ---- contents
-
-pub blank_whole : (count size : ℕ) → AreWhole (blank_contents count size)
-blank_whole count size lba = length-replicate size 0
-
-block_whole : (c : Contents) (lba : ℕ) (block : List ℕ) → length block ≡ c.size → AreWhole c → AreWhole (with_block c lba block)
-block_whole c lba block e h k = ap (λ (b : List ℕ). length b) (block_same c lba block k) ∙ go (lba == k)
-  where
-    go : (q : Bool) → length (if q then block else block_at c k) ≡ c.size
-    go true = e
-    go false = h k
-
-bytes_whole : (n : ℕ) (c : Contents) (lba : ℕ) (bytes : List ℕ) → length bytes ≡ n * c.size → AreWhole c → AreWhole (with_bytes c lba n bytes)
-bytes_whole zero c lba bytes e h = h
-bytes_whole (suc n) c lba bytes e h =
-    let first = length-take c.size bytes in
-    let rest = length-drop c.size bytes in
-    bytes_whole n (with_block c lba (take c.size bytes)) (lba + 1) (drop c.size bytes) (left (length bytes) (length (drop c.size bytes)) n c.size rest e)
-    (block_whole c lba (take c.size bytes) (first ∙ least c.size (length bytes) n e) h)
-  where
-    left : (all rest n size : ℕ) → rest ≡ all - size → all ≡ suc n * size → rest ≡ n * size
-    left all rest n size f g = omega (arith, f, g)
-
-    least : (size all n : ℕ) → all ≡ suc n * size → Rattle.std.specs.Prelude.min size all ≡ size
-    least size all n f = grind (arith, f)
 
 filled_whole : (u : UnitDef) (fills : List FillDef) (c : Contents) → AreFilled u fills → c.size ≡ u.size → AreWhole c → AreWhole (filled_contents u fills c)
 filled_whole u [] c a e h = h
@@ -63,42 +33,9 @@ filled_whole u (f ∷ fills) c a e h = go (f.target == u.target && f.unit == u.u
 
 -- What it writes are whole blocks, where it is carried out.
 execution_whole : (m : CommandContext) (cdb sent : List ℕ) → AreWhole m.contents → (((execution m cdb sent).reply.status ≡ GOOD) → is_write (command_of cdb) ≡ true → length sent ≡ blocks_written m.contents cdb * m.contents.size) → AreWhole (execution m cdb sent).contents
-execution_whole m cdb sent h f = all (not m.present && needs_unit cdb) f
-  where
-    Is : Execution → Type 0
-    Is x = (x.reply.status ≡ GOOD → is_write (command_of cdb) ≡ true → length sent ≡ blocks_written m.contents cdb * m.contents.size) → AreWhole x.contents
-
-    written : (lba n : ℕ) (c : Command) → command_of cdb ≡ Ok c → is_good_range m.contents.count (range_of c) ≡ true → written_of c ≡ n → is_write (Ok c) ≡ true → (GOOD ≡ GOOD → is_write (command_of cdb) ≡ true → length sent ≡ blocks_written m.contents cdb * m.contents.size) → AreWhole (with_bytes m.contents lba n sent)
-    written lba n c e good is w g =
-        bytes_whole n m.contents lba sent
-        (g refl (ap is_write e ∙ w) ∙ ap (λ (x : ℕ). x * m.contents.size) (ap (blocks_written_by m.contents) e ∙ (λ i. if good i then written_of c else 0) ∙ is)) h
-
-    command : (c : Command) → command_of cdb ≡ Ok c → is_good_range m.contents.count (range_of c) ≡ true → Is (command_execution m c sent)
-    command (Command.Write6 lba count) e good g = written lba (blocks_moved (Command.Write6 lba count)) (Command.Write6 lba count) e good refl refl g
-    command (Command.Write10 lba count) e good g = written lba count (Command.Write10 lba count) e good refl refl g
-    command _ e good g = h
-
-    in_range : (c : Command) → command_of cdb ≡ Ok c → (y : Bool) → is_good_range m.contents.count (range_of c) ≡ y → Is (if y then command_execution m c sent else reply_execution m (check_condition block_out_of_range))
-    in_range c e true good = command c e good
-    in_range c e false good = λ g. h
-
-    by : (r : Result Command CdbFault) → command_of cdb ≡ r → Is (cdb_execution m r sent)
-    by (Ok c) e = in_range c e (is_good_range m.contents.count (range_of c)) refl
-    by (Err CdbFault.Opcode) e = λ g. h
-    by (Err CdbFault.Length) e = λ g. h
-    by (Err CdbFault.Field) e = λ g. h
-
-    attended : (o : Option Sense) → Is (attention_execution m o cdb sent)
-    attended None = by (command_of cdb) refl
-    attended (Some sense) = go (heeds_attention cdb)
-      where
-        go : (y : Bool) → Is (if y then record { contents = m.contents; reported = true; reply = check_condition sense } else cdb_execution m (command_of cdb) sent)
-        go true = λ g. h
-        go false = by (command_of cdb) refl
-
-    all : (y : Bool) → Is (if y then reply_execution m (check_condition unit_not_supported) else attention_execution m m.attention cdb sent)
-    all true = λ g. h
-    all false = attended m.attention
+execution_whole m cdb sent h f =
+    whole_kept m cdb sent h
+    (λ c n is w r g good. f good (ap is_write is ∙ w) ∙ ap (λ (x : ℕ). x * m.contents.size) (ap (blocks_written_by m.contents) is ∙ (λ i. if g i then (if w i then r i else 0) else 0)))
 
 -- ---- the seats
 

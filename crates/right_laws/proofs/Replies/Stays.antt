@@ -1,71 +1,36 @@
 -- What a process that has carried data would answer stays as another of its unit ends, and with aborts and RST (7.3, 7.5, 7.8).
 use Rattle.right_laws.proofs
-use proofs.Names.{ℕ, ◌≡◌, Bool, true, false, not, ◌&&◌, ◌==◌, ◌∙◌, List, Option, Some, None, refl, sym, ap, subst}
-use proofs.Names.{Result, Ok, Err, same_Some, if◌then◌else◌, wrong, Event, ProcId, command_of, Sense, CdbFault, Command}
-use proofs.Names.{GOOD, CHECK_CONDITION, ScenarioValue, settled_context, end_law, CommandContext, Reply}
-use proofs.Names.{attention_execution, block_out_of_range, cdb_execution, check_condition, command_execution, execution}
-use proofs.Names.{heeds_attention, is_good_range, is_request_sense, needs_unit, range_of, reply_execution, Process}
-use proofs.Names.{process_of, Seat, context_of, seat_if, seat_of, settled_seat, settled_seat_if, HasSeats, IsSound}
-use proofs.Names.{is_of_unit, step, Array, RunningProcess, UnitState, reply_now, context_same, none_some}
-use proofs.Replies.Same.{place_of}
+use proofs.Names.{ℕ, ◌≡◌, Bool, true, false, ◌&&◌, ◌==◌, ◌∙◌, Option, Some, None, refl, sym, ap, subst, same_Some}
+use proofs.Names.{if◌then◌else◌, Event, ProcId, command_of, Sense, GOOD, CHECK_CONDITION, ScenarioValue, storing}
+use proofs.Names.{stored_apart, settled_context, end_law, Reply, execution, is_request_sense, Process, process_of, Seat}
+use proofs.Names.{context_of, seat_if, seat_of, settled_seat, settled_seat_if, HasSeats, IsSound, is_of_unit, step}
+use proofs.{Names.{Array, RunningProcess, UnitState, reply_now, context_same, none_some}, Replies.Same.{place_of}}
 use Rattle.bus_due.specs.disk_array.specs.Seats
 
 -- ---- only REQUEST SENSE answers by the stored sense
 
-abbrev pub sensing : CommandContext → Option Sense → CommandContext
-sensing m x = record m { stored = x }
-
-stored_command : (m : CommandContext) (x : Option Sense) (c : Command) (sent : List ℕ) → is_request_sense (Ok c) ≡ false → (command_execution (sensing m x) c sent).reply ≡ (command_execution m c sent).reply
-stored_command m x (Command.RequestSense room) sent e = wrong e
-stored_command m x _ sent e = refl
-
-stored_cdb : (m : CommandContext) (x : Option Sense) (c : Result Command CdbFault) (sent : List ℕ) → is_request_sense c ≡ false → (cdb_execution (sensing m x) c sent).reply ≡ (cdb_execution m c sent).reply
-stored_cdb m x (Ok c) sent e = go (is_good_range m.contents.count (range_of c))
-  where
-    go : (q : Bool) → (if q then command_execution (sensing m x) c sent else reply_execution (sensing m x) (check_condition block_out_of_range)).reply ≡ (if q then command_execution m c sent else reply_execution m (check_condition block_out_of_range)).reply
-    go true = stored_command m x c sent e
-    go false = refl
-stored_cdb m x (Err CdbFault.Opcode) sent e = refl
-stored_cdb m x (Err CdbFault.Length) sent e = refl
-stored_cdb m x (Err CdbFault.Field) sent e = refl
-
-stored_attention : (m : CommandContext) (x o : Option Sense) (cdb sent : List ℕ) → is_request_sense (command_of cdb) ≡ false → (attention_execution (sensing m x) o cdb sent).reply ≡ (attention_execution m o cdb sent).reply
-stored_attention m x None cdb sent e = stored_cdb m x (command_of cdb) sent e
-stored_attention m x (Some a) cdb sent e = go (heeds_attention cdb)
-  where
-    go : (q : Bool) → (if q then record { contents = m.contents; reported = true; reply = check_condition a } else cdb_execution (sensing m x) (command_of cdb) sent).reply ≡ (if q then record { contents = m.contents; reported = true; reply = check_condition a } else cdb_execution m (command_of cdb) sent).reply
-    go true = refl
-    go false = stored_cdb m x (command_of cdb) sent e
-
-stored_apart : (m : CommandContext) (x : Option Sense) (cdb sent : List ℕ) → is_request_sense (command_of cdb) ≡ false → (execution (sensing m x) cdb sent).reply ≡ (execution m cdb sent).reply
-stored_apart m x cdb sent e = go (not m.present && needs_unit cdb)
-  where
-    go : (q : Bool) → (if q then reply_execution (sensing m x) (check_condition Rattle.bus_due.specs.disk_array.specs.Execution.unit_not_supported) else attention_execution (sensing m x) m.attention cdb sent).reply ≡ (if q then reply_execution m (check_condition Rattle.bus_due.specs.disk_array.specs.Execution.unit_not_supported) else attention_execution m m.attention cdb sent).reply
-    go true = refl
-    go false = stored_attention m x m.attention cdb sent e
-
-by_sensing : (a b : Array) (q : Process) (x : Option Sense) → context_of (seat_of b q.target q.unit) q.initiator ≡ sensing (context_of (seat_of a q.target q.unit) q.initiator) x → is_request_sense (command_of q.cdb) ≡ false → reply_now b q ≡ reply_now a q
+by_sensing : (a b : Array) (q : Process) (x : Option Sense) → context_of (seat_of b q.target q.unit) q.initiator ≡ storing (context_of (seat_of a q.target q.unit) q.initiator) x → is_request_sense (command_of q.cdb) ≡ false → reply_now b q ≡ reply_now a q
 by_sensing a b q x e none =
     (λ i. (execution (context_same b q.target q.unit q.initiator i) q.cdb q.sent).reply)
     ∙ (λ i. (execution (e i) q.cdb q.sent).reply)
-    ∙ stored_apart (context_of (seat_of a q.target q.unit) q.initiator) x q.cdb q.sent none
+    ∙ (λ i. (stored_apart (context_of (seat_of a q.target q.unit) q.initiator) x q.cdb q.sent none i).reply)
     ∙ (λ i. (execution (sym (context_same a q.target q.unit q.initiator) i) q.cdb q.sent).reply)
 
 -- ---- as another of its unit ends
 
 abbrev SensesOnly : Seat → ℕ → Option Seat → Type 0
-SensesOnly seat from o = (after : Seat) → settled_seat_if o ≡ Some after → context_of after from ≡ sensing (context_of seat from) (after.senses from)
+SensesOnly seat from o = (after : Seat) → settled_seat_if o ≡ Some after → context_of after from ≡ storing (context_of seat from) (after.senses from)
 
 senses_none : (seat : Seat) (from : ℕ) → SensesOnly seat from None
 senses_none seat from after e = none_some after e
 
-senses_some : (seat x : Seat) (from : ℕ) → context_of x from ≡ sensing (context_of seat from) (x.senses from) → SensesOnly seat from (Some x)
-senses_some seat x from same after e = subst (λ (z : Seat). context_of z from ≡ sensing (context_of seat from) (z.senses from)) (same_Some (settled_seat x) after e) (settled_context x from ∙ same)
+senses_some : (seat x : Seat) (from : ℕ) → context_of x from ≡ storing (context_of seat from) (x.senses from) → SensesOnly seat from (Some x)
+senses_some seat x from same after e = subst (λ (z : Seat). context_of z from ≡ storing (context_of seat from) (z.senses from)) (same_Some (settled_seat x) after e) (settled_context x from ∙ same)
 
 end_context : (seat : Seat) (id : ProcId) (status from : ℕ) → SensesOnly seat from (Seats.seat_after_end id status seat)
 end_context seat id status from = go (Seats.running_at seat id)
   where
-    without : (x : Option UnitState) (senses : ℕ → Option Sense) (hold : ℕ → Bool) (i : ProcId) → context_of (Seats.seat_without (record seat { unit = x; senses = senses; hold = hold }) i) from ≡ sensing (context_of (record seat { unit = x }) from) (senses from)
+    without : (x : Option UnitState) (senses : ℕ → Option Sense) (hold : ℕ → Bool) (i : ProcId) → context_of (Seats.seat_without (record seat { unit = x; senses = senses; hold = hold }) i) from ≡ storing (context_of (record seat { unit = x }) from) (senses from)
     without None senses hold i = refl
     without (Some u) senses hold i = refl
 
@@ -92,8 +57,8 @@ end_same s a b x q status seats sound own place none st =
     let at = place_of x q.target q.unit place in
     let law : settled_seat_if (Seats.seat_after_end x.id status (seat_of a x.target x.unit)) ≡ Some (seat_of b x.target x.unit) =
     sym (end_law s a x status seats sound own) ∙ ap (λ (o : Option Array). seat_if o x.target x.unit) st in
-    let same : context_of (seat_of b x.target x.unit) q.initiator ≡ sensing (context_of (seat_of a x.target x.unit) q.initiator) ((seat_of b x.target x.unit).senses q.initiator) =
+    let same : context_of (seat_of b x.target x.unit) q.initiator ≡ storing (context_of (seat_of a x.target x.unit) q.initiator) ((seat_of b x.target x.unit).senses q.initiator) =
     end_context (seat_of a x.target x.unit) x.id status q.initiator (seat_of b x.target x.unit) law in
     by_sensing a b q ((seat_of b q.target q.unit).senses q.initiator)
-    (subst (λ (t : ℕ). context_of (seat_of b t q.unit) q.initiator ≡ sensing (context_of (seat_of a t q.unit) q.initiator) ((seat_of b t q.unit).senses q.initiator)) at.0
-    (subst (λ (n : ℕ). context_of (seat_of b x.target n) q.initiator ≡ sensing (context_of (seat_of a x.target n) q.initiator) ((seat_of b x.target n).senses q.initiator)) at.1 same)) none
+    (subst (λ (t : ℕ). context_of (seat_of b t q.unit) q.initiator ≡ storing (context_of (seat_of a t q.unit) q.initiator) ((seat_of b t q.unit).senses q.initiator)) at.0
+    (subst (λ (n : ℕ). context_of (seat_of b x.target n) q.initiator ≡ storing (context_of (seat_of a x.target n) q.initiator) ((seat_of b x.target n).senses q.initiator)) at.1 same)) none

@@ -1,14 +1,12 @@
 -- What a command gives are bytes, where the blocks of its unit and what it sends are bytes.
 use Rattle.row_laws.proofs
-use proofs.Names.{ℕ, zero, suc, ◌≡◌, ◌<◌, ◌+◌, Bool, true, false, not, ◌&&◌, List, [], ◌∷◌, take, replicate, Option}
-use proofs.Names.{Some, None, Ok, Err, refl, arith, Result, ◌==◌, nat_tests, AllByRecursion, list_all, ◌-◌, drop}
-use proofs.Names.{if◌then◌else◌, min, nat_lt, AreBytes, blocks_moved, command_of, sense_data, inquiry_data}
-use proofs.Names.{capacity_data, CdbFault, Command, Sense, SENSE_LEN, INQUIRY_LEN, Contents, zero_block, touched_block}
-use proofs.Names.{block_at, touched_with, with_block, bytes_at, with_bytes, Reply, CommandContext, Execution, good}
-use proofs.Names.{check_condition, needs_unit, heeds_attention, range_of, is_good_range, returned_sense}
-use proofs.Names.{reply_execution, write_execution, command_execution, range_execution, cdb_execution}
-use proofs.Names.{attention_execution, execution, invalid_opcode, block_out_of_range, invalid_field, unit_not_supported}
-use proofs.Bytes.Spoken.{small_append, small_take}
+use proofs.Names.{ℕ, zero, suc, ◌≡◌, ◌<◌, ◌+◌, Bool, true, false, ◌&&◌, List, [], ◌∷◌, take, replicate, Option, Some}
+use proofs.Names.{None, refl, arith, ◌==◌, nat_tests, AllByRecursion, list_all, ◌-◌, drop, if◌then◌else◌, min, nat_lt}
+use proofs.Names.{AreBytes, blocks_moved, sense_data, inquiry_data, capacity_data, CdbFault, Command, Sense, SENSE_LEN}
+use proofs.Names.{INQUIRY_LEN, of_all, sense_of_fault, IsRefused, absent, faulty, outside, Contents, zero_block}
+use proofs.Names.{touched_block, block_at, touched_with, with_block, bytes_at, with_bytes, Reply, CommandContext}
+use proofs.Names.{Execution, good, check_condition, returned_sense, reply_execution, write_execution, command_execution}
+use proofs.{Names.{execution}, Bytes.Spoken.{small_append, small_take}}
 
 -- ---- blocks
 
@@ -138,30 +136,19 @@ gives m (Command.Write10 lba count) sent h a = writes m lba count sent h a
 checks : (m : CommandContext) (x : Sense) → HasByteContext m → IsByteSense x → GivesBytes (reply_execution m (check_condition x))
 checks m x h a = replies m (check_condition x) h (check_small x a)
 
-in_range : (m : CommandContext) (c : Command) (sent : List ℕ) → HasByteContext m → AreBytes sent → GivesBytes (range_execution m c sent)
-in_range m c sent h a = go (is_good_range m.contents.count (range_of c))
-  where
-    go : (q : Bool) → GivesBytes (if q then command_execution m c sent else reply_execution m (check_condition block_out_of_range))
-    go true = gives m c sent h a
-    go false = checks m block_out_of_range h (omega arith, omega arith, omega arith)
-
-of_block : (m : CommandContext) (r : Result Command CdbFault) (sent : List ℕ) → HasByteContext m → AreBytes sent → GivesBytes (cdb_execution m r sent)
-of_block m (Ok c) sent h a = in_range m c sent h a
-of_block m (Err CdbFault.Opcode) sent h a = checks m invalid_opcode h (omega arith, omega arith, omega arith)
-of_block m (Err CdbFault.Length) sent h a = checks m invalid_field h (omega arith, omega arith, omega arith)
-of_block m (Err CdbFault.Field) sent h a = checks m invalid_field h (omega arith, omega arith, omega arith)
-
-heeds : (m : CommandContext) (o : Option Sense) (cdb sent : List ℕ) → HasByteContext m → ((x : Sense) → o ≡ Some x → IsByteSense x) → AreBytes sent → GivesBytes (attention_execution m o cdb sent)
-heeds m None cdb sent h f a = of_block m (command_of cdb) sent h a
-heeds m (Some x) cdb sent h f a = go (heeds_attention cdb)
-  where
-    go : (q : Bool) → GivesBytes (if q then record { contents = m.contents; reported = true; reply = check_condition x } else cdb_execution m (command_of cdb) sent)
-    go true = record { contents = h.contents; reply = check_small x (f x refl) }
-    go false = of_block m (command_of cdb) sent h a
-
 pub gives_bytes : (m : CommandContext) (cdb sent : List ℕ) → HasByteContext m → AreBytes sent → GivesBytes (execution m cdb sent)
-gives_bytes m cdb sent h a = go (not m.present && needs_unit cdb)
+gives_bytes m cdb sent h a = of_all m cdb sent GivesBytes (record {
+  refused_is = λ sense k. checks m sense h (refused_small sense k);
+  reported_is = λ sense e. record { contents = h.contents; reply = check_small sense (h.attention sense e) };
+  disk_is = λ c is g. gives m c sent h a;
+})
   where
-    go : (q : Bool) → GivesBytes (if q then reply_execution m (check_condition unit_not_supported) else attention_execution m m.attention cdb sent)
-    go true = checks m unit_not_supported h (omega arith, omega arith, omega arith)
-    go false = heeds m m.attention cdb sent h h.attention a
+    of_fault : (fault : CdbFault) → IsByteSense (sense_of_fault fault)
+    of_fault CdbFault.Opcode = (omega arith, omega arith, omega arith)
+    of_fault CdbFault.Length = (omega arith, omega arith, omega arith)
+    of_fault CdbFault.Field = (omega arith, omega arith, omega arith)
+
+    refused_small : (sense : Sense) → IsRefused m cdb sense → IsByteSense sense
+    refused_small _ (absent e) = (omega arith, omega arith, omega arith)
+    refused_small _ (faulty fault p e) = of_fault fault
+    refused_small _ (outside c p e g) = (omega arith, omega arith, omega arith)

@@ -3,10 +3,9 @@ use Rattle.row_laws.proofs
 use proofs.Names.{◌≡◌, Bool, true, false, List, [], ◌∷◌, ◌∙◌, refl, sym, ap, subst, Option, Some, None, not, ◌&&◌, ◌||◌}
 use proofs.Names.{if◌then◌else◌, is_some, is_none, Event, ProcId, ABORTED_COMMAND, ScenarioValue, fail_lists}
 use proofs.Names.{executed_lists, refuse_lists, loss_lists, abort_lists, took, reset_lists, end_lists, accept_lists}
-use proofs.Names.{reply_in, Reply, Execution, execution, queue_full, check_condition, sense_of, Process, process_of}
-use proofs.Names.{same_id, step, settled_array_if, running_if, running_process, RunningProcess, UnitState, Array}
-use proofs.Names.{unit_state_at, guest_at, is_held, nexus_of, settled_array, process_id, id_is}
-use proofs.Common.SameProcess.{guest_id}
+use proofs.Names.{guest_id, reply_in, Reply, Execution, execution, queue_full, check_condition, sense_of, Process}
+use proofs.Names.{process_of, same_id, step, settled_array_if, running_if, running_process, RunningProcess, UnitState}
+use proofs.Names.{Array, unit_state_at, guest_at, is_held, nexus_of, settled_array, process_id, id_is}
 use Rattle.bus_due.specs.disk_array.specs.Steps
 
 -- ---- what it lists after an event

@@ -3,11 +3,11 @@ use Rattle.story_laws.proofs
 use proofs.Names.{inl, inr, ℕ, zero, suc, ◌≡◌, ◌⊎◌, ◌+◌, Bool, true, false, not, ◌&&◌, ◌||◌, ◌==◌, ◌∙◌, List, [], ◌∷◌}
 use proofs.Names.{◌++◌, Some, refl, sym, ap, arith, or_from, not-true, eqb-true, same_Some, list_any, if◌then◌else◌}
 use proofs.Names.{wrong, and_first, and_second, and_true, AbortKind, Event, ProcId, CHECK_CONDITION, ScenarioValue}
-use proofs.Names.{CmdDef, none_at, Process, process_of, process_if, process_by, command_at, same_id, same_bool}
-use proofs.Names.{event_sent, ends_checks, Item, process, same_item, has_item, command_item, sense_item, Sent, is_open}
-use proofs.Names.{is_open_sense, Story, Ending, by_status, by_abort, by_reset, is_aborted, is_sense_stopped}
-use proofs.Names.{story_with_over, story_with_end, with_check, story_with_ends, story_after_event, story_after_events}
-use proofs.Names.{none_some, id_turned, is_dropped, stays_queued, NoClash, AreChecked, IsQueued}
+use proofs.Names.{CmdDef, none_at, id_turned, Process, process_of, process_if, process_by, command_at, same_id}
+use proofs.Names.{same_bool, event_sent, ends_checks, Item, process, same_item, has_item, command_item, sense_item}
+use proofs.Names.{Sent, is_open, is_open_sense, Story, Ending, by_status, by_abort, by_reset, is_aborted}
+use proofs.Names.{is_sense_stopped, story_with_over, story_with_end, with_check, story_with_ends, story_after_event}
+use proofs.Names.{story_after_events, none_some, is_dropped, stays_queued, NoClash, AreChecked, IsQueued}
 use proofs.Items.{Open.{fewer_clash}, Sent.{more_has, own_has}}
 
 -- ---- what is over stays over

@@ -1,7 +1,7 @@
 -- A process that runs with a row of a prompt trace, and would end GOOD, has sent all that it sends.
 use Rattle.trace_laws.proofs
-use proofs.Names.{ℕ, ◌≡◌, ◌⊎◌, inl, inr, ◌<◌, ◌≤◌, ◌+◌, ◌*◌, ◌/◌, Bool, true, false, not, ◌==◌, ◌∙◌, List, ◌∷◌, length}
-use proofs.Names.{Option, Some, None, refl, sym, ap, subst, arith, lt-div-mul-add, ltb-false, same_Some, ◌-◌}
+use proofs.Names.{ℕ, ◌≡◌, ◌⊎◌, inl, inr, ◌<◌, ◌≤◌, ◌+◌, ◌*◌, ◌/◌, Bool, true, false, not, ◌==◌, ◌∙◌, List, [], ◌∷◌}
+use proofs.Names.{length, Option, Some, None, refl, sym, ap, subst, arith, lt-div-mul-add, ltb-false, same_Some, ◌-◌}
 use proofs.Names.{if◌then◌else◌, is_some, nat_le, nat_lt, wrong, wrong', zero_of, change_of, LineSet, changes_phase}
 use proofs.Names.{is_data, call, connection, connection_after, bus, Row, Change, Connection, command_of, GOOD}
 use proofs.Names.{ScenarioValue, Obeys, Policy, array_after, reply_in, shows_run, Reply, count_in, range_in, Process}
@@ -128,7 +128,7 @@ sent_all s p row n q h = by (runs_from (serving_of s k n.target) (bus_of k).atn 
     fits = fits_runs s k q h.obeys (h.was.plain.array ∙ ap (λ (x : Story). array_after s x.history) (sym h.was.plain.story)) own h.writes
 
     moved : t.moved ≡ length q.sent
-    moved = (λ i. if h.good i then (if h.writes i then length q.sent else length (reply_now (array_of s k) q).bytes) else 0)
+    moved = (λ i. length (if h.writes i then (if h.good i then q.sent else []) else (reply_now (array_of s k) q).bytes))
 
     moves : (t.moved == 0) ≡ false
     moves = ap (λ (x : ℕ). x == 0) moved ∙ h.some

@@ -1,7 +1,7 @@
 -- DATA OUT by pulses: REQ rises while a byte of the run follows, ACK while a request waits; and the phase is left as none does.
 use Rattle.trace_laws.proofs
-use proofs.Names.{ℕ, ◌≡◌, inl, inr, ◌+◌, ◌≤◌, ◌<◌, Bool, true, false, not, ◌&&◌, ◌||◌, ◌∙◌, List, ◌∷◌, length, Option}
-use proofs.Names.{Some, None, refl, sym, ap, subst, arith, true≢false, ◌==◌, le_antisymm, ltb-true, ltb-false}
+use proofs.Names.{ℕ, ◌≡◌, inl, inr, ◌+◌, ◌≤◌, ◌<◌, Bool, true, false, not, ◌&&◌, ◌||◌, ◌∙◌, List, [], ◌∷◌, length}
+use proofs.Names.{Option, Some, None, refl, sym, ap, subst, arith, true≢false, ◌==◌, le_antisymm, ltb-true, ltb-false}
 use proofs.Names.{nat_tests, none-some, max, if◌then◌else◌, nat_lt, is_some, wrong', implication_parts, wrong, bus_on}
 use proofs.Names.{same_self, change_of, rises, LineSet, changes_phase, is_data, connection, receiver, receiver_in}
 use proofs.Names.{receiver_of, drives, last_time, line_times, phase_time, bus, Row, Change, Connection, Handshakes}
@@ -241,10 +241,10 @@ out_phase b e f = go b.msg b.cd b.io e f
 moved_few : (q : Process) (r : Reply) → is_writing q ≡ true → moved_count q r ≤ length q.sent
 moved_few q r w = go (r.status == GOOD) (is_writing q) w
   where
-    go : (g b : Bool) → b ≡ true → (if g then (if b then length q.sent else length r.bytes) else 0) ≤ length q.sent
+    go : (g b : Bool) → b ≡ true → length (if b then (if g then q.sent else []) else r.bytes) ≤ length q.sent
     go true true e = omega arith
-    go true false e = absurd (true≢false (sym e))
-    go false b e = omega arith
+    go false true e = omega arith
+    go g false e = absurd (true≢false (sym e))
 
 pub rise_of : (n : Connection) (c : Change) → c.before.io ≡ false → is_some (receiver_in n c) ≡ true → rises c.before.ack c.after.ack ≡ true
 rise_of n c io e = go (rises c.before.ack c.after.ack) (sym (ap (λ (q : Bool). is_some (if q then (if rises c.before.req c.after.req then Some n.initiator else None) else (if rises c.before.ack c.after.ack then Some n.target else None))) io) ∙ e)

@@ -5,12 +5,12 @@ use proofs.Names.{None, Result, Err, refl, true≢false, ◌==◌, not, eqb-true
 use proofs.Names.{if◌then◌else◌, Event, command_of, CdbFault, Command, GOOD, bind_ok, ok_is, within_ok, read_policy}
 use proofs.Names.{target_line, Said, has_device, has_target, unit_of, is_write, moved_by, need_of, sent_of, guard}
 use proofs.Names.{within, in_8, period_in, policy_in, target_def, ScenarioValue, said_policy, Obeys, LATENCY_LIMIT}
-use proofs.Names.{RETRY_LIMIT, TARGET_OFFSET_LIMIT, SEEK_LIMIT, BURST_LIMIT, Policy, TargetDef, UnitDef, array_after}
-use proofs.Names.{reply_in, execution, range_in, count_in, Process, process_of, contents_of, context_of, seat_of}
-use proofs.Names.{context_at, Array, UnitState, nexus_of, unit_state_at, starting_array, blocks_written, policy_of}
-use proofs.Names.{Task, target_def_of, progress_in, RunState, or_start, array_of, carried_here, is_writing, size_of}
-use proofs.Names.{blocks_in, reply_now, moved_count, task_with, obeys_fits, command_fits, target_by, IsCommandLine}
-use proofs.Names.{by_line, good_range, lines_always, lines_start, sends, written_named, start_settled, IsOfLine}
+use proofs.Names.{RETRY_LIMIT, TARGET_OFFSET_LIMIT, SEEK_LIMIT, BURST_LIMIT, Policy, TargetDef, UnitDef, good_range}
+use proofs.Names.{array_after, reply_in, execution, range_in, count_in, Process, process_of, contents_of, context_of}
+use proofs.Names.{seat_of, context_at, Array, UnitState, nexus_of, unit_state_at, starting_array, blocks_written}
+use proofs.Names.{policy_of, Task, target_def_of, progress_in, RunState, or_start, array_of, carried_here, is_writing}
+use proofs.Names.{size_of, blocks_in, reply_now, moved_count, task_with, obeys_fits, command_fits, target_by}
+use proofs.Names.{IsCommandLine, by_line, lines_always, lines_start, sends, written_named, start_settled, IsOfLine}
 use proofs.Names.{AreOfLines, policy_for, Any, each_line, zero_times, by_bool, by_option, context_same, step_in}
 use proofs.{Names.{run_step, writer_plain}, Runs.Parts.{HasMost, RunsFit}}
 
@@ -111,8 +111,8 @@ moved_all s a q o lines own w some =
     (λ there. zero_moved (moved true e ∙ none_sent s q o own w there)))
     (λ e. zero_moved (moved false e))
   where
-    moved : (g : Bool) → ((reply_now a q).status == GOOD) ≡ g → moved_count q (reply_now a q) ≡ (if g then length q.sent else 0)
-    moved g e = (λ i. if e i then (if w i then length q.sent else length (reply_now a q).bytes) else 0)
+    moved : (g : Bool) → ((reply_now a q).status == GOOD) ≡ g → moved_count q (reply_now a q) ≡ length (if g then q.sent else [])
+    moved g e = (λ i. length (if w i then (if e i then q.sent else []) else (reply_now a q).bytes))
 
     zero_moved : {A : Type 0} → moved_count q (reply_now a q) ≡ 0 → A
     zero_moved e = absurd (true≢false (sym (ap (λ (x : ℕ). x == 0) e) ∙ some))
@@ -125,7 +125,7 @@ moved_all s a q o lines own w some =
         none ∙ sym (zero_times (count_in (range_in (command_of q.cdb)))) ∙ ap (λ (y : Option UnitState). count_in (range_in (command_of q.cdb)) * size_of y) (sym e))
         (λ u e.
         let written : blocks_written u.contents q.cdb ≡ count_in (range_in (command_of q.cdb)) =
-        written_named u.contents (command_of q.cdb) w (λ x f. good_range (context_at a (nexus_of q) (Some u)) q.cdb q.sent x refl f ((λ i. (execution (context_at a (nexus_of q) (sym e i)) q.cdb q.sent).reply.status) ∙ good)) in
+        written_named u.contents (command_of q.cdb) w (λ x f. good_range (context_at a (nexus_of q) (Some u)) q.cdb q.sent x f ((λ i. (execution (context_at a (nexus_of q) (sym e i)) q.cdb q.sent).reply.status) ∙ good)) in
         all ∙ ap (λ (y : Option UnitState). blocks_written (contents_of y) q.cdb * (contents_of y).size) e
         ∙ ap (λ (y : ℕ). y * u.contents.size) written
         ∙ ap (λ (y : Option UnitState). count_in (range_in (command_of q.cdb)) * size_of y) (sym e))

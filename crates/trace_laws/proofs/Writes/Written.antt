@@ -1,8 +1,8 @@
 -- The data of writes come whole to each unit, with each row of a prompt trace.
 use Rattle.trace_laws.proofs
-use proofs.Names.{ℕ, ◌≡◌, ◌⊎◌, inl, inr, Bool, true, false, not, ◌&&◌, ◌||◌, ◌==◌, ◌∙◌, List, ◌∷◌, length, Option, Some}
-use proofs.Names.{None, refl, sym, ap, or_right, or_left, and_from, eq-eqb, same_Some, if◌then◌else◌, is_some, wrong}
-use proofs.Names.{wrong', implication, ProcId, change_of, falls, rises, same_phase, LineSet, same, changes_phase}
+use proofs.Names.{ℕ, ◌≡◌, ◌⊎◌, inl, inr, Bool, true, false, not, ◌&&◌, ◌||◌, ◌==◌, ◌∙◌, List, [], ◌∷◌, length, Option}
+use proofs.Names.{Some, None, refl, sym, ap, or_right, or_left, and_from, eq-eqb, same_Some, if◌then◌else◌, is_some}
+use proofs.Names.{wrong, wrong', implication, ProcId, change_of, falls, rises, same_phase, LineSet, same, changes_phase}
 use proofs.Names.{is_data, is_message_in, connection, connection_after, connection_of, is_fault, receiver_in, bus, Row}
 use proofs.Names.{Change, Connection, GOOD, ScenarioValue, Obeys, Reply, Process, process_of, same_id, RowReading}
 use proofs.Names.{row_reading, Serving, phase_of, phase_leaving, phase_entry, Leaving, Phase, Task, run_state_plain}
@@ -67,12 +67,12 @@ written_byte s p row n c w g b phase (Some q) e =
 pub moved_all : (q : Process) (r : Reply) → is_writing q ≡ true → (moved_count q r == 0) ≡ false → moved_count q r ≡ length q.sent
 moved_all q r w some = go (r.status == GOOD) refl
   where
-    by : (x : Bool) → moved_count q r ≡ (if x then length q.sent else 0) → moved_count q r ≡ length q.sent
+    by : (x : Bool) → moved_count q r ≡ length (if x then q.sent else []) → moved_count q r ≡ length q.sent
     by true e = e
     by false e = wrong (sym (ap (λ (n : ℕ). n == 0) e) ∙ some)
 
     go : (x : Bool) → (r.status == GOOD) ≡ x → moved_count q r ≡ length q.sent
-    go x e = by x (λ i. if e i then (if w i then length q.sent else length r.bytes) else 0)
+    go x e = by x (λ i. length (if w i then (if e i then q.sent else []) else r.bytes))
 
 task_moves : (s : ScenarioValue) (k : RunState) (q : Process) (t : Task) → process_served s k ≡ Some q → task_of s k ≡ Some t → t.moved ≡ moved_count q (reply_now (array_of s k) q)
 task_moves s k q t e f = ap (λ (o : Option Task). moved_or t o) (sym f ∙ ap (task_if s k) e)

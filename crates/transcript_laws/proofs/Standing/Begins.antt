@@ -2,15 +2,15 @@
 use Rattle.transcript_laws.proofs
 use proofs.Names.{ℕ, ◌≡◌, ◌∙◌, Bool, true, false, not, ◌&&◌, ◌||◌, List, [], ◌∷◌, Option, Some, None, refl, sym, ap}
 use proofs.Names.{subst, reverse-append, if◌then◌else◌, ProcId, is_command, Change, Connection, Row, ScenarioValue}
-use proofs.Names.{same_id, carried_id, carried_with, RowReading, row_reading, bus_state_after, CarriedBytes}
+use proofs.Names.{id_turned, same_id, carried_id, carried_with, RowReading, row_reading, bus_state_after, CarriedBytes}
 use proofs.Names.{nothing_carried, carried_at, carried_or_nothing, carried_of, with_carried, with_restored_pointers}
-use proofs.Names.{is_status_phase, process, abort, has_item, link_of, Story, aim_of, story_with_history, story}
-use proofs.Names.{id_turned, put_own, none_some, names_begun, opened_connection, same_nexus, TranscriberValue, with_bus}
-use proofs.Names.{by_change, transcribed, Process, IsKept, AreNumbered, are_talk, base_parts, nexus_of, is_known}
-use proofs.Names.{IsServing, sent_order, StandsApart, again, first, of_abort, of_none, of_process, anew, IsAlone}
-use proofs.{Names.{StandsBy, linked, Standing, IsKeptOf, IsMarked}, Processes.Sent.{has_reverse}}
-use proofs.{Serving.Talks.{talk_serves}, Standing.{Buses.{reading_same, buses_alike}, First.{first_story, again_story}}}
-use proofs.Standing.First.{sent_story, first_crosses, first_change}
+use proofs.Names.{is_status_phase, process, abort, has_item, link_of, Story, aim_of, story_with_history, story, put_own}
+use proofs.Names.{none_some, names_begun, opened_connection, same_nexus, TranscriberValue, with_bus, by_change}
+use proofs.Names.{transcribed, Process, IsKept, AreNumbered, are_talk, base_parts, nexus_of, is_known, IsServing}
+use proofs.Names.{sent_order, StandsApart, again, first, of_abort, of_none, of_process, anew, IsAlone, StandsBy, linked}
+use proofs.{Names.{Standing, IsKeptOf, IsMarked}, Processes.Sent.{has_reverse}, Serving.Talks.{talk_serves}}
+use proofs.Standing.{Buses.{reading_same, buses_alike}, First.{first_story, again_story, sent_story, first_crosses}}
+use proofs.Standing.First.{first_change}
 use Rattle.bus_due.specs.disk_array.specs.Processes as array_of
 
 -- What is asked of the row.

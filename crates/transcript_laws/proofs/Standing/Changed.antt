@@ -2,11 +2,11 @@
 use Rattle.transcript_laws.proofs
 use proofs.Names.{ℕ, ◌≡◌, ◌∙◌, Bool, true, false, List, [], ◌∷◌, ◌++◌, Option, Some, None, refl, sym, ap, subst, ◌%◌}
 use proofs.Names.{if◌then◌else◌, wrong', Event, ProcId, LineSet, is_command, is_data, Change, PARITY_ERROR}
-use proofs.Names.{INITIATOR_DETECTED_ERROR, MsgIn, same_id, carried_id, RowReading, CarriedBytes, area_with, carried_of}
-use proofs.Names.{with_carried, with_restored_pointers, carried_after_message, carried_after_byte, carried_after_fault}
-use proofs.Names.{is_status_phase, carried_if, Item, process, abort, Story, story_with_carried, story_with_restored}
-use proofs.Names.{carried_after_message_if, carried_after_byte_if, carried_after_fault_if, id_turned, with_command_byte}
-use proofs.Names.{put_own, put_other, IsBlank, AreAlike, has_refusal, has_answer, IsMarked}
+use proofs.Names.{INITIATOR_DETECTED_ERROR, MsgIn, id_turned, same_id, carried_id, RowReading, CarriedBytes, area_with}
+use proofs.Names.{carried_of, with_carried, with_restored_pointers, carried_after_message, carried_after_byte}
+use proofs.Names.{carried_after_fault, is_status_phase, carried_if, Item, process, abort, Story, story_with_carried}
+use proofs.Names.{story_with_restored, carried_after_message_if, carried_after_byte_if, carried_after_fault_if}
+use proofs.Names.{with_command_byte, put_own, put_other, IsBlank, AreAlike, has_refusal, has_answer, IsMarked}
 use proofs.Standing.Open.{alike_self, alike_put, put_each}
 
 -- ---- one process

@@ -2,9 +2,9 @@
 use Rattle.transcript_laws.proofs
 use proofs.Names.{ℕ, ◌≡◌, ◌∙◌, Bool, true, false, not, ◌&&◌, ◌||◌, List, [], ◌∷◌, ◌++◌, Option, Some, None, refl, sym}
 use proofs.Names.{ap, subst, ◌%◌, not-true, same_Some, is_some, if◌then◌else◌, wrong, wrong', ProcId, LineSet}
-use proofs.Names.{is_command, is_data, is_message_in, is_message_out, Change, Row, MsgOut, ScenarioValue, same_id}
-use proofs.Names.{RowReading, row_reading, CarriedBytes, carried_of, with_carried, is_status_phase, process, Sent, Link}
-use proofs.Names.{last_out, Story, story_with_carried, story_after_crossing, is_parity_error, story, id_turned}
+use proofs.Names.{is_command, is_data, is_message_in, is_message_out, Change, Row, MsgOut, ScenarioValue, id_turned}
+use proofs.Names.{same_id, RowReading, row_reading, CarriedBytes, carried_of, with_carried, is_status_phase, process}
+use proofs.Names.{Sent, Link, last_out, Story, story_with_carried, story_after_crossing, is_parity_error, story}
 use proofs.Names.{same_phase_is, put_own, put_other, none_some, by_option, grows_same, names_begun, OpenedValue}
 use proofs.Names.{held_part, messages_of, with_said, with_in_if, with_part, with_crossing, TranscriberValue}
 use proofs.Names.{transcribed, Incoming, Broken, Part, AreNumbered, are_talk, held_parts, base_parts, is_void, is_known}

@@ -1,9 +1,9 @@
 -- What the events of a connection make of what its process has carried, and of its marks.
 use Rattle.transcript_laws.proofs
 use proofs.Names.{ℕ, ◌≡◌, ◌∙◌, Bool, true, false, ◌&&◌, ◌||◌, not, List, [], ◌∷◌, ◌++◌, Option, Some, None, refl, sym}
-use proofs.Names.{ap, subst, list_any, if◌then◌else◌, wrong, Event, ProcId, ScenarioValue, same_id, carried_id}
-use proofs.Names.{check_keeps, CarriedBytes, carried_of, with_carried, is_refuse, status_event, Story, by_status}
-use proofs.Names.{marked_refused, marked_shown, story_with_end, story_after_event, story_after_events, id_turned}
+use proofs.Names.{ap, subst, list_any, if◌then◌else◌, wrong, Event, ProcId, ScenarioValue, id_turned, same_id}
+use proofs.Names.{carried_id, check_keeps, CarriedBytes, carried_of, with_carried, is_refuse, status_event, Story}
+use proofs.Names.{by_status, marked_refused, marked_shown, story_with_end, story_after_event, story_after_events}
 use proofs.Names.{self_id, put_own, put_other, IsOwnEvent, AreOwnEvents, marked_by, marked_with, has_refusal}
 use proofs.{Names.{has_answer, IsMarked}, Serving.Events.{arrivals, turn_events, Turn, quiet, shows, turn}}
 use proofs.Serving.Events.{refused_turn, event_mark}

@@ -3,7 +3,6 @@ use Rattle.disk_array.specs.Seats.{contents_of}
 use Rattle.disk_unit.specs.Disk.{blocks_written}
 use Rattle.target_units.specs.Seated.{settled}
 use Rattle.target_units.proofs.SeatSteps.{by_state, runs, guest_runs}
-use Rattle.target_units.proofs.SenseBlocks.{heeds_none}
 use Rattle.target_units.proofs.seated.SeatedUnit.run.Goals as goal
 
 pub returns-clause-seat : goal.returns-clause-seat
@@ -17,7 +16,7 @@ returns-clause-seat c = λ hosts seat after time p h same none running sending r
 
 pub returns-clause-guest : goal.returns-clause-guest
 returns-clause-guest c = λ hosts seat after time r h g sense e.
-    let x = guest_runs hosts seat after time c.args.now c.args.self.now c.run_live-reply.new.self c.args.id r c.args.sent.now c.run_live-reply.result c.run_live-reply.ensures h g sense (heeds_none r.process.cdb sense) e in (
+    let x = guest_runs hosts seat after time c.args.now c.args.self.now c.run_live-reply.new.self c.args.id r c.args.sent.now c.run_live-reply.result c.run_live-reply.ensures h g sense e in (
       by_state hosts seat after time c.args.now _ _
           (c.settle.ensures ∙ (λ i. settled (c.current_process-before.ensures i) c.args.now c.run_live-reply.new.self)) x.0,
       (λ i. (c.settle.ensures i).spare) ∙ x.1,
