@@ -1,1 +1,1 @@
-mod Driven
+mod Words

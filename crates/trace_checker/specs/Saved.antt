@@ -1,5 +1,5 @@
 -- A judge as plain words, and the judge that such words say. Any words say some judge.
-use Rattle.std.specs.Prelude.{ℕ, ◌%◌, ◌==◌, if◌then◌else◌}
+use Rattle.std.specs.Prelude.{◌%◌, ◌==◌, if◌then◌else◌}
 use Rattle.bus_rules.specs.declared.verdict.Verdict.{Verdict}
 use Rattle.bus_rules.specs.declared.verdict.Verdict.TheVariants.{Lawful, Broken}
 use Rattle.bus_rules.specs.Saved.{terms_in}

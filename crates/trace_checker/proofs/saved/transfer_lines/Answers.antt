@@ -1,12 +1,7 @@
-use Rattle.std.proofs.Common.{◌∙◌, ap, sym, subst}
-use Rattle.bus_trace.specs.LineSet.{LineSet}
-use Rattle.bus_trace.specs.View.{View}
-use Rattle.bus_trace.specs.Changes.{same_stage}
-use Rattle.bus_trace.specs.Saved.{view_in}
-use Rattle.bus_trace.specs.Trace.{IsViewOf, driven_after}
-use Rattle.bus_trace.proofs.Views.{IsViewOf-step, times_kept}
-use Rattle.trace_checker.proofs.Driven.{driven_set}
+use Rattle.std.proofs.Common.{arith}
+use Rattle.trace_checker.proofs.Words.{view_after}
 use Rattle.trace_checker.proofs.saved.transfer_lines.Goals as goal
 
 pub returns : goal.returns
-returns c = λ rows v stage next now. ?
+returns c = λ rows v stage next now.
+    view_after c.args.row.now rows c.args.view.now (omega arith) v c.requires _ _ _ _ _ c.lines_in-before.ensures c.lines_word.ensures c.lines_word-view.ensures stage next now _ c.renew.ensures.lines _ c.renew.ensures.changed _ c.transfer.ensures.exact
