@@ -163,7 +163,8 @@ fn duty_after(duty: u64, change: &Change, held: bool) -> u64
     }
 }
 
-// One row more that passes the short test, on the words of what stands on the bus. `held` says whether ATN is held over it.
+// One row more that passes the short test, on the words of what stands on the bus. `held` says whether ATN is held
+// over it.
 #[inline(always)]
 fn transfer_course(course: &mut SavedCourse, held: bool, change: &Change, time: Ns)
     ensures { course_in course.new ≡ course_after_transfer (course_in course.old) held change.now time }
