@@ -323,11 +323,11 @@ class Module:
         """The items of the file, each with where it begins: a line that begins at the margin, and those that follow it."""
         at, now, begun, margin = 0, [], 0, 0
         for line in self.text.splitlines(keepends=True):
-            if line.strip() and line[0] not in " }":
+            if line.strip() and line[0] not in " })]":
                 margin = 0
             if line.strip() in ("mutual", "abbrev mutual"):
                 margin = 2
-            elif line.strip() and line[margin] not in " }":
+            elif line.strip() and line[margin] not in " })]":
                 if now:
                     yield begun, "".join(now)
                 now, begun = [] if line.startswith("--", margin) else [line[margin:]], at + margin
@@ -345,7 +345,8 @@ class Module:
             elif words[0] in ("mod", "unfolding", "ruleset") or words[:2] == ["pub", "mod"]:
                 pass
             elif words[0] == "data" or words[:2] == ["pub", "data"]:
-                for line in item.splitlines()[1:]:
+                # (a variant with its further lines)
+                for line in re.sub(r"\n {3,}", " ", item).splitlines()[1:]:
                     match = re.match(r"  ([^\W\d][\w'\-]*) : (.*)", line)
                     if match:
                         depth, arrows = 0, 0

@@ -41,7 +41,8 @@ def contracts(text):
 def definitions(text):
     """The paragraphs of a file of definitions."""
     for part in re.split(r"\n\s*\n", "\n".join(bare(text, "--"))):
-        words = " ".join(part.split())
+        # (without the marks and blanks by which a record, a pair or an `elim` is laid out part by part)
+        words = re.sub(r"(?<=[({[]) (?:\| )?|[;,]?(?= [)}\]])| (?=[)}\]])", "", " ".join(part.split()))
         if words and not all(re.match(r"\s*(?:pub )?mod \w+\s*$", line) for line in part.split("\n") if line.strip()):
             yield words
 
