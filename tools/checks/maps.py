@@ -50,8 +50,10 @@ def says(text):
 
 def block(text, name):
     """A definition's clauses."""
-    found = re.search(rf"(?ms)^{name} .*? = *$.*?(?=^\S)|^{name} .*?(?=^(?!{name} )\S)", text + "\nx")
-    return found[0] if found else ""
+    found = re.search(rf"(?ms)^{name} .*?(?=^(?!{name} )\S)", text + "\nx")
+    # (each `let` and each field of a record on one line)
+    lets = re.sub(r"(?ms)^    let .*? in$", lambda let: "    " + " ".join(let[0].split()), found[0] if found else "")
+    return re.sub(r"\n(?: {7,}| {6}(?=[)}\]]))", " ", lets)
 
 
 def kept_fields(file, record, makers, crates, text, names_of_hub):
