@@ -33,7 +33,8 @@ def files():
         for part in ("src", "specs", "proofs"):
             yield from sorted((folder / part).rglob("*.antt"))
             yield from sorted((folder / part).rglob("*.rt"))
-    yield from sorted(path for path in (ROOT / "docs").glob("*.md") if path.name != "standard.md")
+    # (docs/speed.md has measurements, and cites no clause)
+    yield from sorted(path for path in (ROOT / "docs").glob("*.md") if path.name not in ("standard.md", "speed.md"))
 
 
 def main():
