@@ -35,7 +35,7 @@ same_Ok c d e = ap or_c e
 not_good : {A : Type 0} → CHECK_CONDITION ≡ GOOD → A
 not_good e = absurd (omega (arith, e))
 
--- ---- E1: it ends GOOD or CHECK CONDITION
+-- ---- it ends GOOD or CHECK CONDITION
 
 -- What a command that is carried out ends with.
 record IsDone (x : Execution) : Type 0 where
@@ -58,7 +58,7 @@ status_known m cdb sent = of_all m cdb sent (λ x. (x.reply.status ≡ GOOD) ⊎
   disk_is = λ c is g. inl (command_good m c sent);
 })
 
--- ---- E2: REQUEST SENSE without fault changes and reports nothing, ends GOOD, and gives the first bytes of the stored sense
+-- ---- REQUEST SENSE without fault changes and reports nothing, ends GOOD, and gives the first bytes of the stored sense
 
 pub record IsSenseBlock (cdb : List ℕ) : Type 0 where
   pub room : ℕ
@@ -92,7 +92,7 @@ pub sense_fetched : (m : CommandContext) (sent : List ℕ)
 sense_fetched m sent =
     carried_executed m sense_block sent (commands.RequestSense SENSE_LEN) (record { there = none_needed (not m.present) true; calm = λ sense a. refl }) refl refl
 
--- ---- E3: only REQUEST SENSE looks at the stored sense
+-- ---- only REQUEST SENSE looks at the stored sense
 
 command_apart : (m : CommandContext) (x a : Option Sense) (c : Command) (sent : List ℕ) → is_request_sense (Ok c) ≡ false
     → command_execution (record m { stored = x; attention = a }) c sent ≡ command_execution m c sent
@@ -108,7 +108,7 @@ stored_apart m x cdb sent h = by (λ y given. execution (storing m y) cdb given)
     by f (reported sense a k e) = e x sent ∙ sym (e m.stored sent)
     by f (at_disk c p is g e) = e x sent ∙ command_apart m x m.attention c sent ((λ i. is_request_sense (sym is i)) ∙ h) ∙ sym (e m.stored sent)
 
--- ---- E4: the reply does not depend on what was sent
+-- ---- the reply does not depend on what was sent
 
 pub sent_apart : (m : CommandContext) (cdb a b : List ℕ) → (execution m cdb a).reply ≡ (execution m cdb b).reply
 sent_apart m cdb a b = by (λ y given. execution (storing m y) cdb given) (executed m cdb)
@@ -149,7 +149,7 @@ unreported m cdb sent n = of_all m cdb sent (λ x. x.reported ≡ false) (record
   disk_is = λ c is g. (done m c sent).reported;
 })
 
--- ---- E5: no sense is ABORTED COMMAND, unless that of the attention is
+-- ---- no sense is ABORTED COMMAND, unless that of the attention is
 
 pub not_aborted : (m : CommandContext) (cdb sent : List ℕ)
     → ((sense : Sense) → m.attention ≡ Some sense → (sense.key == ABORTED_COMMAND) ≡ false)
@@ -169,7 +169,7 @@ not_aborted m cdb sent h = of_all m cdb sent (λ x. (x.reply.sense.key == ABORTE
     plain _ (faulty fault p k) = by_fault fault
     plain _ (outside c p k g) = refl
 
--- ---- E12: one that ends GOOD was carried out, and the blocks that it names are the unit's
+-- ---- one that ends GOOD was carried out, and the blocks that it names are the unit's
 
 pub record IsCarried (m : CommandContext) (cdb sent : List ℕ) (x : Execution) : Type 0 where
   pub command : Command
@@ -199,7 +199,7 @@ read_gives m cdb sent c lba n is gives e =
     let h = carried_out m cdb sent e in
     (λ i. (h.is i).reply.bytes) ∙ (λ i. (command_execution m (same_Ok h.command c (sym h.command_is ∙ is) i) sent).reply.bytes) ∙ gives
 
--- ---- E13: the contents stay, but for the blocks of a write that ends GOOD; one that does not end GOOD gives no bytes
+-- ---- the contents stay, but for the blocks of a write that ends GOOD; one that does not end GOOD gives no bytes
 
 pub data Changes (m : CommandContext) (cdb sent : List ℕ) (x : Execution) : Type 0 where
   nothing : x.contents ≡ m.contents → Changes m cdb sent x
@@ -234,7 +234,7 @@ undone m cdb sent = of_all m cdb sent (λ x. (x.reply.status == GOOD) ≡ false 
   disk_is = λ c is g e. wrong (sym e ∙ (λ i. command_good m c sent i == GOOD));
 })
 
--- ---- E7: the number of blocks and their size stay
+-- ---- the number of blocks and their size stay
 
 pub extent_kept : (m : CommandContext) (cdb sent : List ℕ) → HasSameExtent m.contents (execution m cdb sent).contents
 extent_kept m cdb sent = by (changes m cdb sent)
@@ -243,7 +243,7 @@ extent_kept m cdb sent = by (changes m cdb sent)
     by (nothing e) = subst (HasSameExtent m.contents) (sym e) (extent_self m.contents)
     by (blocks c lba n is w r g good e) = subst (HasSameExtent m.contents) (sym e) (bytes_extent n m.contents lba sent)
 
--- ---- E8: blocks stay whole, where a write that ends GOOD was sent as many bytes as its blocks have
+-- ---- blocks stay whole, where a write that ends GOOD was sent as many bytes as its blocks have
 
 pub whole_kept : (m : CommandContext) (cdb sent : List ℕ) → AreWhole m.contents
     → ((c : Command) (n : ℕ) → command_of cdb ≡ Ok c → is_write (Ok c) ≡ true → count_in (range_of c) ≡ n → is_good_range m.contents.count (range_of c) ≡ true → (execution m cdb sent).reply.status ≡ GOOD → length sent ≡ n * m.contents.size)
